@@ -1,0 +1,5 @@
+pub mod Places
+pub mod source
+pub mod target
+pub mod Lowering
+pub mod Agreement

@@ -1,0 +1,6 @@
+pub mod Literals
+pub mod Names
+pub mod Rules
+pub mod Elaboration
+pub mod Value
+pub mod Machine

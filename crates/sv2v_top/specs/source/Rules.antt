@@ -1,0 +1,81 @@
+-- What isn't built yet, among texts that read and whose names are declared: one condition for each rule that they may break
+-- and each form that isn't translated. Such a set is refused with E999.
+use Rattle.std.specs.Prelude.{ℕ, zero, suc, ◌+◌, ◌^◌, ◌==◌, nat_lt, nat_le, Bool, true, false, not, ◌&&◌, ◌||◌, List, [], ◌∷◌, ◌++◌, map, sum, take, Option, Some, None, if◌then◌else◌}
+use Rattle.std.specs.List.{list_all}
+use Rattle.std.specs.Str.{bytes_eq}
+use Rattle.sv_source.specs.declared.token.Spot.{Spot}
+use Rattle.sv2v_top.specs.declared.sv_tree.Direction.{Direction}
+use Rattle.sv2v_top.specs.declared.sv_tree.Direction.TheVariants.{Input, Output}
+use Rattle.sv2v_top.specs.declared.sv_tree.Range.{Range}
+use Rattle.sv2v_top.specs.declared.sv_tree.Port.{Port}
+use Rattle.sv2v_top.specs.declared.sv_tree.Primary.{Primary}
+use Rattle.sv2v_top.specs.declared.sv_tree.Primary.TheVariants.{Name, Literal}
+use Rattle.sv2v_top.specs.declared.sv_tree.Expr.{Expr}
+use Rattle.sv2v_top.specs.declared.sv_tree.Expr.TheVariants.{Single, Binary}
+use Rattle.sv2v_top.specs.declared.sv_tree.Assign.{Assign}
+use Rattle.sv2v_top.specs.declared.sv_tree.Module.{Module}
+use Rattle.sv2v_top.specs.source.Literals.{decimal, is_plain_literal}
+use Rattle.sv2v_top.specs.source.Names.{Declared, declared, port_names, among, expr_names}
+
+-- the first port has a direction
+abbrev pub first_is_directed : List Port → Bool
+first_is_directed [] = true
+first_is_directed (p ∷ ports) = elim p.head [ None ↦ false | Some h ↦ true ]
+
+-- no name stands twice
+abbrev pub distinct : List (List ℕ) → Bool
+distinct [] = true
+distinct (n ∷ names) = not (among names n) && distinct names
+
+-- the name begins with `sv2v_`
+abbrev pub is_helper_name : List ℕ → Bool
+is_helper_name name = bytes_eq (take 5 name) (115 ∷ 118 ∷ 50 ∷ 118 ∷ 95 ∷ [])
+
+-- the bounds of a range are a decimal from 0 to 65,535 and `0`
+abbrev pub is_plain_range : Option Range → Bool
+is_plain_range None = true
+is_plain_range (Some r) = nat_le (decimal r.left.word) 65535 && bytes_eq r.right.word (48 ∷ [])
+
+-- the number of bits of a range
+abbrev pub range_width : Option Range → ℕ
+range_width None = 1
+range_width (Some r) = decimal r.left.word + 1
+
+-- every literal has the plain form
+abbrev pub primary_is_plain : Primary → Bool
+primary_is_plain (Name name) = true
+primary_is_plain (Literal size digits) = is_plain_literal size.word digits.word
+
+abbrev pub expr_is_plain : Expr → Bool
+expr_is_plain (Single a) = primary_is_plain a.primary
+expr_is_plain (Binary op a b) = primary_is_plain a.primary && primary_is_plain b.primary
+
+-- the names of the targets, of the outputs, and of what an assignment reads
+abbrev pub targets : List Assign → List (List ℕ)
+targets assigns = map (λ (a : Assign). a.target.word) assigns
+
+abbrev pub outputs : List Declared → List (List ℕ)
+outputs [] = []
+outputs (p ∷ ports) = elim p.direction [ Input ↦ outputs ports | Output ↦ p.name.word ∷ outputs ports ]
+
+abbrev pub reads : Assign → List (List ℕ)
+reads a = map (λ (s : Spot). s.word) (expr_names a.value)
+
+-- Each line is a rule or a form that isn't built: ports without a direction of their own at the head of the list, another
+-- top, a name that is declared twice, a name of a helper, other ranges, too many bits, other literals, a target that is
+-- no output, a target of two assignments, an operand that is no port, an operand that an assignment drives, and an
+-- output that nothing drives.
+abbrev pub is_built : Module → List ℕ → Bool
+is_built m top =
+    first_is_directed m.ports
+      && bytes_eq m.name.word top
+      && distinct (port_names m)
+      && (not (is_helper_name m.name.word) && list_all (λ n. not (is_helper_name n)) (port_names m))
+      && list_all (λ (p : Declared). is_plain_range p.range) (declared m)
+      && nat_le (sum (map (λ (p : Declared). range_width p.range) (declared m))) (2 ^ 22)
+      && list_all (λ (a : Assign). expr_is_plain a.value) m.assigns
+      && list_all (λ n. among (outputs (declared m)) n) (targets m.assigns)
+      && distinct (targets m.assigns)
+      && list_all (λ (a : Assign). list_all (λ n. among (port_names m) n) (reads a)) m.assigns
+      && list_all (λ (a : Assign). list_all (λ n. not (among (targets m.assigns) n)) (reads a)) m.assigns
+      && list_all (λ n. among (targets m.assigns) n) (outputs (declared m))

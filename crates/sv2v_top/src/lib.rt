@@ -1,0 +1,6 @@
+//! The top call of sv2v, for single modules of continuous assignments.
+#![tactic(auto)]
+
+mod sv_tree;
+mod sv_types;
+mod v_tree;
