@@ -4,3 +4,4 @@ pub mod Rules
 pub mod Elaboration
 pub mod Value
 pub mod Machine
+pub mod Translatable

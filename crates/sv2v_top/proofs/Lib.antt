@@ -1,0 +1,5 @@
+pub mod Names
+pub mod Places
+pub mod Meanings
+pub mod Machines
+pub mod Sound
