@@ -3,3 +3,4 @@ pub mod Places
 pub mod Meanings
 pub mod Machines
 pub mod Sound
+pub mod Built

@@ -54,9 +54,13 @@ expr_is_plain (Binary op a b) = primary_is_plain a.primary && primary_is_plain b
 abbrev pub targets : List Assign → List (List ℕ)
 targets assigns = map (λ (a : Assign). a.target.word) assigns
 
+abbrev pub if_output : Direction → List ℕ → List (List ℕ) → List (List ℕ)
+if_output Input name names = names
+if_output Output name names = name ∷ names
+
 abbrev pub outputs : List Declared → List (List ℕ)
 outputs [] = []
-outputs (p ∷ ports) = elim p.direction [ Input ↦ outputs ports | Output ↦ p.name.word ∷ outputs ports ]
+outputs (p ∷ ports) = if_output p.direction p.name.word (outputs ports)
 
 abbrev pub reads : Assign → List (List ℕ)
 reads a = map (λ (s : Spot). s.word) (expr_names a.value)
