@@ -22,7 +22,7 @@ use Rattle.sv2v_top.specs.declared.sv_types.SignalKind.TheVariants.{InputNet, Ou
 use Rattle.sv2v_top.specs.declared.sv_types.Signal.{Signal}
 use Rattle.sv2v_top.specs.declared.sv_types.Process.{Process}
 use Rattle.sv2v_top.specs.source.Literals.{decimal}
-use Rattle.sv2v_top.specs.source.Names.{Declared, declared, declared_from, port_names, position, among, primary_names, expr_names}
+use Rattle.sv2v_top.specs.source.Names.{Declared, declared, declared_from, port_word, port_names, position, among, primary_names, expr_names}
 use Rattle.sv2v_top.specs.source.Rules.{first_is_directed, distinct, is_helper_name, is_plain_range, range_width, expr_is_plain, targets, if_output, outputs, reads, is_built}
 use Rattle.sv2v_top.specs.source.Elaboration.{kind_of, signal_of, primary_of, operand_of, expr_of, process_of, design_of}
 use Rattle.sv2v_top.specs.source.Translatable.{Translatable, IsOfKind, primary_signals, expr_signals, distinct_numbers}
@@ -68,9 +68,6 @@ all-member t (y ∷ ys) x e (inr m) = all-member t ys x (and_parts _ _ e).1 m
 
 abbrev pub word : Declared → List ℕ
 word p = p.name.word
-
-abbrev pub port_word : Port → List ℕ
-port_word p = p.name.word
 
 -- the declared ports have the names of the header
 abbrev pub SameWords : List Port → Type 0
@@ -225,9 +222,9 @@ module _ (ports : List Declared) (d : distinct (map word ports) ≡ true) where
 -- the numbers that an expression reads are positions of the names that it uses
 pub operand-named : (names : List (List ℕ)) (p : Primary) (n : ℕ) → Member (primary_signals (primary_of names p)) n
     → (x : Spot) × Member (primary_names p) x × (n ≡ position names x.word)
-operand-named names (S.Name x) n (inl e) = (x, inl refl, e)
-operand-named names (S.Name x) n (inr m) = elim m [ ]
-operand-named names (S.Literal size digits) n m = elim m [ ]
+operand-named ns (S.Name x) n (inl e) = (x, inl refl, e)
+operand-named ns (S.Name x) n (inr m) = elim m [ ]
+operand-named ns (S.Literal size digits) n m = elim m [ ]
 
 pub reads-named : (names : List (List ℕ)) (x : Expr) (n : ℕ) → Member (expr_signals (expr_of names x)) n
     → (y : Spot) × Member (expr_names x) y × (n ≡ position names y.word)
@@ -241,14 +238,14 @@ reads-named names (Binary op a b) n m =
 -- distinct names have distinct positions
 pub distinct-positions : (names : List (List ℕ)) (ws : List (List ℕ)) → ((w : List ℕ) → Member ws w → among names w ≡ true) → distinct ws ≡ true
     → distinct_numbers (map (position names) ws)
-distinct-positions names [] there d = tt
-distinct-positions names (w ∷ ws) there d =
+distinct-positions ns [] there d = tt
+distinct-positions ns (w ∷ ws) there d =
     let parts = and_parts _ _ d in
     ((λ m.
-        let u = member-unmap (position names) ws (position names w) m in
-        let same : w ≡ u.0 = position-one names w u.0 (there w (inl refl)) (there u.0 (inr u.1)) u.2 in
+        let u = member-unmap (position ns) ws (position ns w) m in
+        let same : w ≡ u.0 = position-one ns w u.0 (there w (inl refl)) (there u.0 (inr u.1)) u.2 in
         false≢true (sym (not_true _ parts.0) ∙ among-member ws w (subst (λ x. Member ws x) (sym same) u.1))),
-     distinct-positions names ws (λ x m. there x (inr m)) parts.1)
+     distinct-positions ns ws (λ x m. there x (inr m)) parts.1)
 
 pub map-map : {A B C : Type 0} (f : B → C) (g : A → B) (xs : List A) → map f (map g xs) ≡ map (λ x. f (g x)) xs
 map-map f g [] = refl

@@ -2,5 +2,6 @@ pub mod Names
 pub mod Places
 pub mod Meanings
 pub mod Machines
+pub mod Lookup
 pub mod Sound
 pub mod Built

@@ -1,5 +1,6 @@
 pub mod Literals
 pub mod Names
+pub mod Lookup
 pub mod Rules
 pub mod Elaboration
 pub mod Value

@@ -31,8 +31,11 @@ abbrev pub declared : Module → List Declared
 declared m = declared_from Input None m.ports
 
 -- the names of the ports in order
+abbrev pub port_word : Port → List ℕ
+port_word p = p.name.word
+
 abbrev pub port_names : Module → List (List ℕ)
-port_names m = map (λ (p : Port). p.name.word) m.ports
+port_names m = map port_word m.ports
 
 -- the number of the first of these names that is the given one, and how many there are where none is
 abbrev pub position : List (List ℕ) → List ℕ → ℕ
