@@ -1,4 +1,5 @@
 pub mod Names
+pub mod Decimals
 pub mod Places
 pub mod Meanings
 pub mod Machines

@@ -4,7 +4,10 @@ use Rattle.std.specs.Option.{is_some, option_copied}
 use Rattle.std.specs.Prelude.{slice_index_or}
 use Rattle.std.specs.Str.{bytes_eq}
 use Rattle.std.proofs.lemmas.Bool.{or_cases, or_left, or_right, false≢true}
+use Rattle.std.proofs.lemmas.Bool.Decides.{same_from_decides}
+use Rattle.std.proofs.lemmas.Slice.Eq.{bytes_eq-Decides}
 use Rattle.sv2v_top.specs.source.Names.{among, position}
+use Rattle.sv2v_top.specs.source.Rules.{distinct}
 use Rattle.sv2v_top.specs.source.Lookup.{first_number}
 use Rattle.sv2v_top.proofs.Names.{pick_true, pick_false, true_or_false, bytes_same, same_bytes}
 
@@ -90,6 +93,14 @@ pub is_some-copied : {A : Type 0} (o : Option (Bor A)) → is_some (option_copie
 is_some-copied None = refl
 is_some-copied (Some x) = refl
 
+pub or-false-left : (a b : Bool) → (a || b) ≡ false → a ≡ false
+or-false-left true b e = absurd (false≢true (sym e))
+or-false-left false b e = refl
+
+pub or-false-right : (a b : Bool) → (a || b) ≡ false → b ≡ false
+or-false-right true b e = absurd (false≢true (sym e))
+or-false-right false b e = e
+
 -- one more element of a list
 pub map-take-suc : {A B : Type 0} (f : A → B) (xs : List A) (i : ℕ) (x : A) → i < length xs → x ≡ slice_index_or xs i x → map f (take (suc i) xs) ≡ map f (take i xs) ++ f x ∷ []
 map-take-suc f [] i x h e = absurd (omega arith)
@@ -103,3 +114,33 @@ pub length-taken : {A B : Type 0} (f : A → B) (xs : List A) (i : ℕ) → i �
 length-taken f xs zero h = refl
 length-taken f [] (suc i) h = absurd (omega arith)
 length-taken f (x ∷ xs) (suc i) h = ap suc (length-taken f xs i (omega arith))
+
+pub bytes_eq-swap : (a b : List ℕ) → bytes_eq a b ≡ bytes_eq b a
+bytes_eq-swap a b = same_from_decides _ _ (bytes_eq-Decides a b) ((λ e. sym ((bytes_eq-Decides b a).0 e)), (λ e. (bytes_eq-Decides b a).1 (sym e)))
+
+-- a new name keeps names distinct, one that is there doesn't
+pub distinct-new : (ns : List (List ℕ)) (w : List ℕ) → among ns w ≡ false → distinct (ns ++ w ∷ []) ≡ distinct ns
+distinct-new [] w e = refl
+distinct-new (n ∷ ns) w e =
+    (λ i. not (among-more ns w n i) && distinct-new ns w (or-false-right _ _ e) i)
+      ∙ ap (λ b. not b && distinct ns) (apart (among ns n) (bytes_eq w n) (bytes_eq-swap w n ∙ or-false-left _ _ e))
+  where
+    apart : (a b : Bool) → b ≡ false → (a || b) ≡ a
+    apart true b e = refl
+    apart false b e = e
+
+pub distinct-old : (ns : List (List ℕ)) (w : List ℕ) → among ns w ≡ true → distinct (ns ++ w ∷ []) ≡ false
+distinct-old [] w e = absurd (false≢true e)
+distinct-old (n ∷ ns) w e =
+    elim (or_cases (bytes_eq n w) (among ns w) e) [
+      inl h ↦ ap (λ b. not b && distinct (ns ++ w ∷ [])) (among-more ns w n ∙ or_right (among ns n) _ (bytes_eq-swap w n ∙ h))
+    | inr h ↦ ap (λ b. not (among (ns ++ w ∷ []) n) && b) (distinct-old ns w h) ∙ never (not (among (ns ++ w ∷ []) n))
+    ]
+  where
+    never : (b : Bool) → (b && false) ≡ false
+    never true = refl
+    never false = refl
+
+pub length-more : (ns : List (List ℕ)) (w : List ℕ) → length (ns ++ w ∷ []) ≡ length ns + 1
+length-more [] w = refl
+length-more (n ∷ ns) w = omega (arith, length-more ns w)

@@ -1,6 +1,7 @@
 //! The top call of sv2v, for single modules of continuous assignments.
 #![tactic(auto)]
 
+mod literals;
 mod package_scope;
 mod sv_tree;
 mod sv_types;

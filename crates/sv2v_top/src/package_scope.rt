@@ -1,41 +1,57 @@
-//! The names of a module's ports, and what a name stands for (IEEE 1800-2017 clause 23.9).
+//! Tables of names, and what a name stands for (IEEE 1800-2017 clause 23.9).
 
-ghost use Rattle.std.specs.Prelude.{◌≡◌, ◌^◌, ◌<◌, length, map, option_copied, IfOk};
+ghost use Rattle.std.specs.Prelude.{◌≡◌, ◌^◌, ◌-◌, ◌<◌, ◌++◌, ◌∷◌, [], List, ℕ, OnOk};
 ghost use Rattle.sv2v_top.specs.source.Lookup.{Numbers, number_in};
-ghost use Rattle.sv2v_top.specs.source.Names.{port_word};
 
-use crate::sv_tree::Port;
 use indexmap::IndexMap;
 use std::alloc::{AllocError, Global};
 use sv_source::Text;
 
-/// The ports of a module by name. Of ports with one name the first counts.
+/// A list of names in which each is looked up by its bytes. Of equal names the first counts.
 #[derive(Drop)]
 pub struct Names {
-    numbers: IndexMap<Text, u32>,
+    numbers: IndexMap<Text, usize>,
+    next: usize,
+    distinct: bool,
 }
 
 impl Names {
-    /// The names of these ports, each with its place in the header, from 0.
-    pub fn of_ports(alloc: Global, ports: &[Port]) -> Result<Names, AllocError>
-        requires { length ports.now < 2 ^ 32 }
-        ensures { IfOk result (λ names. Numbers names (map port_word ports.now)) }
+    /// No names.
+    pub fn new(alloc: Global) -> Names
+        ensures { Numbers result [] }
     {
-        let mut numbers = IndexMap::new(alloc);
-        let mut next = 0u32;
-        for port in ports {
-            if numbers.get(&port.name.word).is_none() {
-                numbers.insert(port.name.word.copy(alloc)?, next)?;
-            }
-            next += 1;
+        Names {
+            numbers: IndexMap::new(alloc),
+            next: 0,
+            distinct: true,
         }
-        Ok(Names { numbers })
     }
 
-    /// The number of the port with this name, if there is one.
-    pub fn number(&self, name: &Text) -> Option<u32>
+    /// Adds a name at the end.
+    pub fn add(&mut self, alloc: Global, name: &Text) -> Result<(), AllocError>
+        requires { self.old.next < 2 ^ 64 - 1 }
+        ensures { OnOk result ((names : List (List ℕ)) → Numbers self.old names → Numbers self.new (names ++ name.now ∷ [])) }
+    {
+        if self.numbers.get(name).is_none() {
+            self.numbers.insert(name.copy(alloc)?, self.next)?;
+        } else {
+            self.distinct = false;
+        }
+        self.next += 1;
+        Ok(())
+    }
+
+    /// The number of a name, from 0, if it is there.
+    pub fn number(&self, name: &Text) -> Option<usize>
         ensures { result ≡ number_in self.now name.now }
     {
         self.numbers.get(name).copied()
+    }
+
+    /// Whether no name stands twice.
+    pub fn are_distinct(&self) -> bool
+        ensures { result ≡ self.now.distinct }
+    {
+        self.distinct
     }
 }

@@ -1,9 +1,10 @@
--- The table of a module's ports by name.
-use Rattle.std.specs.Prelude.{◌≡◌, ℕ, List, Option, Some, None, if◌then◌else◌}
+-- Tables of names.
+use Rattle.std.specs.Prelude.{◌≡◌, ℕ, List, Option, Some, None, if◌then◌else◌, length}
 use Rattle.std.specs.Str.{bytes_eq}
 use Rattle.indexmap.specs.IndexMap as table
 use Rattle.sv2v_top.specs.declared.package_scope.Names.{Names}
 use Rattle.sv2v_top.specs.source.Names.{among, position}
+use Rattle.sv2v_top.specs.source.Rules.{distinct}
 
 -- what the table has for a name
 abbrev pub number_in : Names → List ℕ → Option ℕ
@@ -13,6 +14,10 @@ number_in names name = table.get bytes_eq names.numbers name
 abbrev pub first_number : List (List ℕ) → List ℕ → Option ℕ
 first_number names name = if among names name then Some (position names name) else None
 
--- the table has each name's first number, and no other name
-abbrev pub Numbers : Names → List (List ℕ) → Type 0
-Numbers table names = (name : List ℕ) → number_in table name ≡ first_number names name
+-- the table is that of these names
+pub record Numbers (table : Names) (names : List (List ℕ)) : Type 0 where
+  -- it has each name's first number, and no other name
+  pub numbers : (name : List ℕ) → number_in table name ≡ first_number names name
+  -- it knows how many there are, and whether one stands twice
+  pub count : table.next ≡ length names
+  pub distinct_flag : table.distinct ≡ distinct names
