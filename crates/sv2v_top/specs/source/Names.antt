@@ -65,6 +65,10 @@ uses (a ∷ assigns) = a.target ∷ (expr_names a.value ++ uses assigns)
 abbrev pub is_declared : Module → List ℕ → Bool
 is_declared m name = among (port_names m) name || bytes_eq m.name.word name
 
+-- the first of these names that isn't declared
+abbrev pub undeclared : Module → List Spot → Option Spot
+undeclared m names = find (λ (s : Spot). not (is_declared m s.word)) names
+
 -- E401: the first use of a name that isn't declared
 abbrev pub first_undeclared : Module → Option Spot
-first_undeclared m = find (λ (s : Spot). not (is_declared m s.word)) (uses m.assigns)
+first_undeclared m = undeclared m (uses m.assigns)
