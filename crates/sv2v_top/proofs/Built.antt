@@ -22,7 +22,7 @@ use Rattle.sv2v_top.specs.declared.sv_types.SignalKind.TheVariants.{InputNet, Ou
 use Rattle.sv2v_top.specs.declared.sv_types.Signal.{Signal}
 use Rattle.sv2v_top.specs.declared.sv_types.Process.{Process}
 use Rattle.sv2v_top.specs.source.Literals.{decimal}
-use Rattle.sv2v_top.specs.source.Names.{Declared, declared, declared_from, port_word, port_names, position, among, primary_names, expr_names}
+use Rattle.sv2v_top.specs.source.Names.{Declared, declared, declared_from, direction_after, range_after, port_word, port_names, position, among, primary_names, expr_names}
 use Rattle.sv2v_top.specs.source.Rules.{first_is_directed, distinct, is_helper_name, is_plain_range, range_width, expr_is_plain, targets, if_output, outputs, reads, is_built}
 use Rattle.sv2v_top.specs.source.Elaboration.{kind_of, signal_of, primary_of, operand_of, expr_of, process_of, design_of}
 use Rattle.sv2v_top.specs.source.Translatable.{Translatable, IsOfKind, primary_signals, expr_signals, distinct_numbers}
@@ -73,14 +73,9 @@ word p = p.name.word
 abbrev pub SameWords : List Port → Type 0
 SameWords ports = (direction : Direction) (range : Option Range) → map word (declared_from direction range ports) ≡ map port_word ports
 
-pub words-with-head : (name : Spot) (head : Option PortHead) (ports : List Port) → SameWords ports
-    → (let p : Port = record { name = name; head = head } in SameWords (p ∷ ports))
-words-with-head name None ports more direction range = ap (λ ws. name.word ∷ ws) (more direction range)
-words-with-head name (Some h) ports more direction range = ap (λ ws. name.word ∷ ws) (more h.direction h.range)
-
 pub declared-words : (ports : List Port) → SameWords ports
 declared-words [] direction range = refl
-declared-words (p ∷ ports) direction range = words-with-head p.name p.head ports (declared-words ports) direction range
+declared-words (p ∷ ports) direction range = ap (λ ws. p.name.word ∷ ws) (declared-words ports (direction_after direction p.head) (range_after range p.head))
 
 -- the position of a name among distinct ones is its own
 pub position-at : (names : List (List ℕ)) → distinct names ≡ true → (n : ℕ) (w : List ℕ) → slice_get names n ≡ Some w → position names w ≡ n

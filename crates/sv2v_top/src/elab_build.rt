@@ -1,16 +1,20 @@
 //! What a module's names stand for, which forms are built, and the design that the module elaborates to
 //! (IEEE 1800-2017 clauses 3.12 and 23.2).
 
-ghost use Rattle.std.specs.Prelude.{◌≡◌, ◌^◌, ◌<◌, ◌≤◌, ◌||◌, not, length, map, sum, Some, None, IfOk, MatchOption, option_copied};
+ghost use Rattle.std.specs.Prelude.{◌≡◌, ◌^◌, ◌<◌, ◌≤◌, ◌||◌, not, length, map, sum, Some, None, true, false, IfOk, MatchOption, option_copied};
 ghost use Rattle.std.specs.List.{list_all};
-ghost use Rattle.sv2v_top.specs.source.Names.{declared, port_names, port_word, is_declared, undeclared, first_undeclared, primary_names, expr_names, among};
-ghost use Rattle.sv2v_top.specs.source.Rules.{targets};
+ghost use Rattle.sv2v_top.specs.source.Names.{declared, declared_from, port_names, port_word, is_declared, undeclared, first_undeclared, primary_names, expr_names, among};
+ghost use Rattle.sv2v_top.specs.source.Rules.{targets, is_plain_range, range_width, ranges_are_plain};
+ghost use Rattle.sv2v_top.specs.source.Elaboration.{kind_of, signal_of};
+ghost use Rattle.sv2v_top.specs.declared.sv_tree.Direction.TheVariants.{Input};
 ghost use Rattle.sv2v_top.specs.source.Lookup.{Numbers};
 
+use crate::literals::decimal_up_to;
 use crate::package_scope::Names;
-use crate::sv_tree::{Assign, Expr, Module, Operand, Port, Primary};
+use crate::sv_tree::{Assign, Direction, Expr, Module, Operand, Port, Primary, Range};
+use crate::sv_types::{Signal, SignalKind, Signals};
 use std::alloc::{AllocError, Global};
-use sv_source::{Spot, Text};
+use sv_source::{Items, Spot, Text};
 
 /// The names of the ports, in the order of the header.
 fn header_names(alloc: Global, ports: &[Port]) -> Result<Names, AllocError>
@@ -88,4 +92,55 @@ fn undeclared_use<'a>(source: &'a Module, names: &Names) -> Option<&'a Spot>
         }
     }
     None
+}
+
+/// The bits of a packed dimension, 1 where there is none, if its bounds are a decimal up to 65,535 and `0`.
+fn plain_width(range: &Option<Range>) -> Option<u32>
+    ensures { MatchOption result (is_plain_range range.now ≡ false) (λ w. (is_plain_range range.now ≡ true) × (w ≡ range_width range.now)) }
+{
+    match range {
+        None => Some(1),
+        Some(range) => {
+            let left = decimal_up_to(range.left.word.as_bytes(), 65535)?;
+            if range.right.word.is(b"0") {
+                Some(left + 1)
+            } else {
+                None
+            }
+        }
+    }
+}
+
+/// What kind of signal a port declares: an input is a net, an output of a `logic` type a variable.
+fn signal_kind(direction: Direction) -> SignalKind
+    ensures { result ≡ kind_of direction }
+{
+    match direction {
+        Direction::Input => SignalKind::InputNet,
+        Direction::Output => SignalKind::OutputVar,
+    }
+}
+
+/// The signals of the ports, if each range is plain.
+fn port_signals(alloc: Global, ports: &[Port]) -> Result<Option<Signals>, AllocError>
+    ensures { IfOk result (λ r. MatchOption r (ranges_are_plain ports.now ≡ false) (λ signals. (ranges_are_plain ports.now ≡ true) × (signals ≡ map signal_of (declared_from Input None ports.now)))) }
+{
+    let mut signals = Items::new(alloc);
+    let mut direction = Direction::Input;
+    let mut range = &None;
+    for port in ports {
+        if let Some(head) = &port.head {
+            direction = head.direction;
+            range = &head.range;
+        }
+        let Some(width) = plain_width(range) else {
+            return Ok(None);
+        };
+        signals.push(Signal {
+            path: port.name.word.copy(alloc)?,
+            width,
+            kind: signal_kind(direction),
+        })?;
+    }
+    Ok(Some(signals))
 }

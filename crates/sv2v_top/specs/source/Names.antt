@@ -21,11 +21,19 @@ pub record Declared : Type 0 where
   pub range : Option Range
 
 -- a port that is a name alone takes direction and type of the port before it (clause 23.2.2.3)
+abbrev pub direction_after : Direction → Option PortHead → Direction
+direction_after direction None = direction
+direction_after direction (Some h) = h.direction
+
+abbrev pub range_after : Option Range → Option PortHead → Option Range
+range_after range None = range
+range_after range (Some h) = h.range
+
 abbrev pub declared_from : Direction → Option Range → List Port → List Declared
 declared_from direction range [] = []
-declared_from direction range (p ∷ ports) = elim p.head [
-    None ↦ record { name = p.name; direction = direction; range = range } ∷ declared_from direction range ports
-  | Some h ↦ record { name = p.name; direction = h.direction; range = h.range } ∷ declared_from h.direction h.range ports ]
+declared_from direction range (p ∷ ports) =
+    record { name = p.name; direction = direction_after direction p.head; range = range_after range p.head }
+      ∷ declared_from (direction_after direction p.head) (range_after range p.head) ports
 
 abbrev pub declared : Module → List Declared
 declared m = declared_from Input None m.ports

@@ -15,7 +15,7 @@ use Rattle.sv2v_top.specs.declared.sv_tree.Expr.TheVariants.{Single, Binary}
 use Rattle.sv2v_top.specs.declared.sv_tree.Assign.{Assign}
 use Rattle.sv2v_top.specs.declared.sv_tree.Module.{Module}
 use Rattle.sv2v_top.specs.source.Literals.{decimal, is_plain_literal}
-use Rattle.sv2v_top.specs.source.Names.{Declared, declared, port_names, among, expr_names}
+use Rattle.sv2v_top.specs.source.Names.{Declared, declared_from, declared, port_names, among, expr_names}
 
 -- the first port has a direction
 abbrev pub first_is_directed : List Port → Bool
@@ -35,6 +35,10 @@ is_helper_name name = bytes_eq (take 5 name) (115 ∷ 118 ∷ 50 ∷ 118 ∷ 95 
 abbrev pub is_plain_range : Option Range → Bool
 is_plain_range None = true
 is_plain_range (Some r) = nat_le (decimal r.left.word) 65535 && bytes_eq r.right.word (48 ∷ [])
+
+-- the ranges of all ports are
+abbrev pub ranges_are_plain : List Port → Bool
+ranges_are_plain ports = list_all (λ (p : Declared). is_plain_range p.range) (declared_from Input None ports)
 
 -- the number of bits of a range
 abbrev pub range_width : Option Range → ℕ
@@ -75,7 +79,7 @@ is_built m top =
       && bytes_eq m.name.word top
       && distinct (port_names m)
       && (not (is_helper_name m.name.word) && list_all (λ n. not (is_helper_name n)) (port_names m))
-      && list_all (λ (p : Declared). is_plain_range p.range) (declared m)
+      && ranges_are_plain m.ports
       && nat_le (sum (map (λ (p : Declared). range_width p.range) (declared m))) (2 ^ 22)
       && list_all (λ (a : Assign). expr_is_plain a.value) m.assigns
       && list_all (λ n. among (outputs (declared m)) n) (targets m.assigns)
