@@ -23,7 +23,7 @@ use Rattle.sv2v_top.specs.declared.sv_types.Signal.{Signal}
 use Rattle.sv2v_top.specs.declared.sv_types.Process.{Process}
 use Rattle.sv2v_top.specs.source.Literals.{decimal}
 use Rattle.sv2v_top.specs.source.Names.{Declared, declared, declared_from, direction_after, range_after, port_word, port_names, position, among, primary_names, expr_names}
-use Rattle.sv2v_top.specs.source.Rules.{first_is_directed, distinct, is_helper_name, is_plain_range, range_width, expr_is_plain, targets, if_output, outputs, reads, is_built}
+use Rattle.sv2v_top.specs.source.Rules.{first_is_directed, distinct, no_helper_names, ranges_are_plain, range_width, total_bits, expr_is_plain, all_among, read_ports, read_rest, targets, if_output, outputs, reads, is_built}
 use Rattle.sv2v_top.specs.source.Elaboration.{kind_of, signal_of, primary_of, operand_of, expr_of, process_of, design_of}
 use Rattle.sv2v_top.specs.source.Translatable.{Translatable, IsOfKind, primary_signals, expr_signals, distinct_numbers}
 use Rattle.sv2v_top.proofs.Names.{path, same_bytes, bytes_same, true_or_false, not_true, among-member, member-among, member-at, member-map, member-unmap, pick_true, pick_false, first_differs, member-split, member-left, member-right}
@@ -33,15 +33,15 @@ pub record Built (m : Module) (top : List ℕ) : Type 0 where
   pub directed : first_is_directed m.ports ≡ true
   pub is_top : bytes_eq m.name.word top ≡ true
   pub names : distinct (port_names m) ≡ true
-  pub no_helpers : (not (is_helper_name m.name.word) && list_all (λ n. not (is_helper_name n)) (port_names m)) ≡ true
-  pub ranges : list_all (λ (p : Declared). is_plain_range p.range) (declared m) ≡ true
-  pub bits : nat_le (sum (map (λ (p : Declared). range_width p.range) (declared m))) (2 ^ 22) ≡ true
+  pub no_helpers : no_helper_names m ≡ true
+  pub ranges : ranges_are_plain m.ports ≡ true
+  pub bits : nat_le (total_bits (declared m)) (2 ^ 22) ≡ true
   pub literals : list_all (λ (a : Assign). expr_is_plain a.value) m.assigns ≡ true
-  pub targets_are_outputs : list_all (λ n. among (outputs (declared m)) n) (targets m.assigns) ≡ true
+  pub targets_are_outputs : all_among (outputs (declared m)) (targets m.assigns) ≡ true
   pub one_target : distinct (targets m.assigns) ≡ true
-  pub operands_are_ports : list_all (λ (a : Assign). list_all (λ n. among (port_names m) n) (reads a)) m.assigns ≡ true
-  pub operands_at_rest : list_all (λ (a : Assign). list_all (λ n. not (among (targets m.assigns) n)) (reads a)) m.assigns ≡ true
-  pub outputs_are_driven : list_all (λ n. among (targets m.assigns) n) (outputs (declared m)) ≡ true
+  pub operands_are_ports : read_ports (port_names m) m.assigns ≡ true
+  pub operands_at_rest : read_rest (targets m.assigns) m.assigns ≡ true
+  pub outputs_are_driven : all_among (targets m.assigns) (outputs (declared m)) ≡ true
 
 pub built-parts : (m : Module) (top : List ℕ) → is_built m top ≡ true → Built m top
 built-parts m top e =

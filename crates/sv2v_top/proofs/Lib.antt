@@ -4,5 +4,6 @@ pub mod Places
 pub mod Meanings
 pub mod Machines
 pub mod Lookup
+pub mod Outputs
 pub mod Sound
 pub mod Built

@@ -138,7 +138,11 @@ module _ (d : Design) (t : Translatable d) where
 
   pub sound : Sound (Source.machine d)
   sound = record {
-      honest = λ p m. (let x = member-unmap (Source.process_of d.signals) d.processes p m in subst Honest (sym x.2) (process-honest x.0 x.1));
-      one_writer = writers-apart d.processes t.one_driver;
+      well_written = record {
+        honest = λ p m. (let x = member-unmap (Source.process_of d.signals) d.processes p m in subst Honest (sym x.2) (process-honest x.0 x.1));
+        one_writer = writers-apart d.processes t.one_driver;
+        edges_within = λ p m. elim m [ ];
+        edges_one_writer = tt
+      };
       all_free = all-free
     }

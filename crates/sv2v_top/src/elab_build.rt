@@ -1,15 +1,18 @@
 //! What a module's names stand for, which forms are built, and the design that the module elaborates to
 //! (IEEE 1800-2017 clauses 3.12 and 23.2).
 
-ghost use Rattle.std.specs.Prelude.{◌≡◌, ◌^◌, ◌<◌, ◌≤◌, ◌||◌, not, length, map, sum, Some, None, true, false, IfOk, MatchOption, option_copied};
+ghost use Rattle.std.specs.Prelude.{◌≡◌, ◌^◌, ◌<◌, ◌≤◌, ◌||◌, not, length, map, sum, nat_le, Some, None, true, false, IfOk, MatchOption, option_copied};
 ghost use Rattle.std.specs.List.{list_all};
 ghost use Rattle.sv2v_top.specs.source.Names.{declared, declared_from, port_names, port_word, is_declared, undeclared, first_undeclared, primary_names, expr_names, among};
-ghost use Rattle.sv2v_top.specs.source.Rules.{targets, is_plain_range, range_width, ranges_are_plain};
+ghost use Rattle.sv2v_top.specs.source.Rules.{targets, first_is_directed, is_plain_range, range_width, ranges_are_plain, is_helper_name, no_helper_ports, no_helper_names, primary_is_plain, expr_is_plain};
+ghost use Rattle.sv2v_top.specs.source.Elaboration.{output_paths};
+ghost use Rattle.sv2v_top.specs.declared.sv_types.Signal.{Signal as DesignSignal};
+ghost use Rattle.sv2v_top.specs.declared.sv_tree.Assign.{Assign as SourceAssign};
 ghost use Rattle.sv2v_top.specs.source.Elaboration.{kind_of, signal_of};
 ghost use Rattle.sv2v_top.specs.declared.sv_tree.Direction.TheVariants.{Input};
 ghost use Rattle.sv2v_top.specs.source.Lookup.{Numbers};
 
-use crate::literals::decimal_up_to;
+use crate::literals::{decimal_up_to, is_plain};
 use crate::package_scope::Names;
 use crate::sv_tree::{Assign, Direction, Expr, Module, Operand, Port, Primary, Range};
 use crate::sv_types::{Signal, SignalKind, Signals};
@@ -143,4 +146,95 @@ fn port_signals(alloc: Global, ports: &[Port]) -> Result<Option<Signals>, AllocE
         })?;
     }
     Ok(Some(signals))
+}
+
+/// Whether the signals have at most 2^22 bits together.
+fn fits_in_bits(signals: &[Signal]) -> bool
+    ensures { result ≡ nat_le (sum (map (λ (s : DesignSignal). s.width) signals.now)) (2 ^ 22) }
+{
+    let mut total = 0u64;
+    for signal in signals {
+        total += u64::from(signal.width);
+        if total > 1 << 22 {
+            return false;
+        }
+    }
+    true
+}
+
+/// The names of the outputs, in order.
+fn output_names(alloc: Global, signals: &[Signal]) -> Result<Names, AllocError>
+    ensures { IfOk result (λ names. Numbers names (output_paths signals.now)) }
+{
+    let mut names = Names::new(alloc);
+    for signal in signals {
+        match signal.kind {
+            SignalKind::InputNet => {}
+            SignalKind::OutputVar => names.add(alloc, &signal.path)?,
+        }
+    }
+    Ok(names)
+}
+
+/// Whether a name begins as those of helpers do.
+fn is_helper(name: &Text) -> bool
+    ensures { result ≡ is_helper_name name.now }
+{
+    let name = name.as_bytes();
+    name.len() >= 5 && &name[..5] == b"sv2v_".as_slice()
+}
+
+/// Whether no port has a helper's name.
+fn ports_have_no_helpers(ports: &[Port]) -> bool
+    ensures { result ≡ no_helper_ports ports.now }
+{
+    ports.iter().all(|port| !is_helper(&port.name.word))
+}
+
+/// Whether no name of the module is a helper's.
+fn has_no_helpers(source: &Module) -> bool
+    ensures { result ≡ no_helper_names source.now }
+{
+    let ports = ports_have_no_helpers(source.ports.as_slice());
+    !is_helper(&source.name.word) && ports
+}
+
+/// Whether a literal has the plain form; a name is no literal.
+fn operand_is_plain(operand: &Operand) -> bool
+    ensures { result ≡ primary_is_plain operand.now.primary }
+{
+    match &operand.primary {
+        Primary::Name(_) => true,
+        Primary::Literal { size, digits } => is_plain(size.word.as_bytes(), digits.word.as_bytes()),
+    }
+}
+
+/// Whether the literals of an expression have the plain form.
+fn value_is_plain(value: &Expr) -> bool
+    ensures { result ≡ expr_is_plain value.now }
+{
+    match value {
+        Expr::Single(operand) => operand_is_plain(operand),
+        Expr::Binary { left, right, .. } => {
+            let plain = operand_is_plain(right);
+            operand_is_plain(left) && plain
+        }
+    }
+}
+
+/// Whether all literals have the plain form.
+fn literals_are_plain(assigns: &[Assign]) -> bool
+    ensures { result ≡ list_all (λ (a : SourceAssign). expr_is_plain a.value) assigns.now }
+{
+    assigns.iter().all(|assign| value_is_plain(&assign.value))
+}
+
+/// Whether the first port has a direction.
+fn first_has_direction(ports: &[Port]) -> bool
+    ensures { result ≡ first_is_directed ports.now }
+{
+    match ports {
+        [] => true,
+        [first, ..] => first.head.is_some(),
+    }
 }

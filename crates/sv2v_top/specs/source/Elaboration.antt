@@ -31,6 +31,15 @@ kind_of Output = OutputVar
 abbrev pub signal_of : Declared → Signal
 signal_of p = record { path = p.name.word; width = range_width p.range; kind = kind_of p.direction }
 
+-- the names of the outputs among signals
+abbrev pub if_output_path : SignalKind → List ℕ → List (List ℕ) → List (List ℕ)
+if_output_path InputNet path paths = paths
+if_output_path OutputVar path paths = path ∷ paths
+
+abbrev pub output_paths : List Signal → List (List ℕ)
+output_paths [] = []
+output_paths (s ∷ signals) = if_output_path s.kind s.path (output_paths signals)
+
 -- a name stands for the port of that name, by its number in the header
 abbrev pub primary_of : List (List ℕ) → Source.Primary → Primary
 primary_of names (Name name) = P.Signal (position names name.word)

@@ -69,6 +69,28 @@ outputs (p ∷ ports) = if_output p.direction p.name.word (outputs ports)
 abbrev pub reads : Assign → List (List ℕ)
 reads a = map (λ (s : Spot). s.word) (expr_names a.value)
 
+-- the names that assignments read are ports, and no assignment drives them
+abbrev pub read_ports : List (List ℕ) → List Assign → Bool
+read_ports ports assigns = list_all (λ (a : Assign). list_all (λ n. among ports n) (reads a)) assigns
+
+abbrev pub read_rest : List (List ℕ) → List Assign → Bool
+read_rest driven assigns = list_all (λ (a : Assign). list_all (λ n. not (among driven n)) (reads a)) assigns
+
+-- each of the names is one of the others
+abbrev pub all_among : List (List ℕ) → List (List ℕ) → Bool
+all_among names some = list_all (λ n. among names n) some
+
+-- no name of the module is a helper's
+abbrev pub no_helper_ports : List Port → Bool
+no_helper_ports ports = list_all (λ (p : Port). not (is_helper_name p.name.word)) ports
+
+abbrev pub no_helper_names : Module → Bool
+no_helper_names m = not (is_helper_name m.name.word) && no_helper_ports m.ports
+
+-- the bits of all signals together
+abbrev pub total_bits : List Declared → ℕ
+total_bits ports = sum (map (λ (p : Declared). range_width p.range) ports)
+
 -- Each line is a rule or a form that isn't built: ports without a direction of their own at the head of the list, another
 -- top, a name that is declared twice, a name of a helper, other ranges, too many bits, other literals, a target that is
 -- no output, a target of two assignments, an operand that is no port, an operand that an assignment drives, and an
@@ -78,12 +100,12 @@ is_built m top =
     first_is_directed m.ports
       && bytes_eq m.name.word top
       && distinct (port_names m)
-      && (not (is_helper_name m.name.word) && list_all (λ n. not (is_helper_name n)) (port_names m))
+      && no_helper_names m
       && ranges_are_plain m.ports
-      && nat_le (sum (map (λ (p : Declared). range_width p.range) (declared m))) (2 ^ 22)
+      && nat_le (total_bits (declared m)) (2 ^ 22)
       && list_all (λ (a : Assign). expr_is_plain a.value) m.assigns
-      && list_all (λ n. among (outputs (declared m)) n) (targets m.assigns)
+      && all_among (outputs (declared m)) (targets m.assigns)
       && distinct (targets m.assigns)
-      && list_all (λ (a : Assign). list_all (λ n. among (port_names m) n) (reads a)) m.assigns
-      && list_all (λ (a : Assign). list_all (λ n. not (among (targets m.assigns) n)) (reads a)) m.assigns
-      && list_all (λ n. among (targets m.assigns) n) (outputs (declared m))
+      && read_ports (port_names m) m.assigns
+      && read_rest (targets m.assigns) m.assigns
+      && all_among (targets m.assigns) (outputs (declared m))
