@@ -10,7 +10,8 @@ ghost use Rattle.sv2v_top.specs.declared.sv_types.Signal.{Signal as DesignSignal
 ghost use Rattle.sv2v_top.specs.declared.sv_tree.Assign.{Assign as SourceAssign};
 ghost use Rattle.sv2v_top.specs.source.Elaboration.{kind_of, signal_of};
 ghost use Rattle.sv2v_top.specs.declared.sv_tree.Direction.TheVariants.{Input};
-ghost use Rattle.sv2v_top.specs.source.Lookup.{Numbers};
+ghost use Rattle.sv2v_top.specs.source.Lookup.{Numbers, holds};
+ghost use Rattle.sv_source.specs.declared.token.Spot.{Spot as SourceSpot};
 
 use crate::literals::{decimal_up_to, is_plain};
 use crate::package_scope::Names;
@@ -237,4 +238,89 @@ fn first_has_direction(ports: &[Port]) -> bool
         [] => true,
         [first, ..] => first.head.is_some(),
     }
+}
+
+/// Whether an operand that is a name is in the table.
+fn operand_is_in(names: &Names, operand: &Operand) -> bool
+    ensures { result ≡ list_all (λ (s : SourceSpot). holds names.now s.word) (primary_names operand.now.primary) }
+{
+    match &operand.primary {
+        Primary::Name(name) => names.number(&name.word).is_some(),
+        Primary::Literal { .. } => true,
+    }
+}
+
+/// Whether each name that an expression reads is in the table.
+fn reads_are_in(names: &Names, value: &Expr) -> bool
+    ensures { result ≡ list_all (λ (s : SourceSpot). holds names.now s.word) (expr_names value.now) }
+{
+    match value {
+        Expr::Single(operand) => operand_is_in(names, operand),
+        Expr::Binary { left, right, .. } => {
+            let second = operand_is_in(names, right);
+            operand_is_in(names, left) && second
+        }
+    }
+}
+
+/// Whether an operand is no name of the table.
+fn operand_is_outside(names: &Names, operand: &Operand) -> bool
+    ensures { result ≡ list_all (λ (s : SourceSpot). not (holds names.now s.word)) (primary_names operand.now.primary) }
+{
+    match &operand.primary {
+        Primary::Name(name) => names.number(&name.word).is_none(),
+        Primary::Literal { .. } => true,
+    }
+}
+
+/// Whether no name that an expression reads is in the table.
+fn reads_are_outside(names: &Names, value: &Expr) -> bool
+    ensures { result ≡ list_all (λ (s : SourceSpot). not (holds names.now s.word)) (expr_names value.now) }
+{
+    match value {
+        Expr::Single(operand) => operand_is_outside(names, operand),
+        Expr::Binary { left, right, .. } => {
+            let second = operand_is_outside(names, right);
+            operand_is_outside(names, left) && second
+        }
+    }
+}
+
+/// Whether all assignments read ports.
+fn all_read_ports(ports: &Names, assigns: &[Assign]) -> bool
+    ensures { result ≡ list_all (λ (a : SourceAssign). list_all (λ (s : SourceSpot). holds ports.now s.word) (expr_names a.value)) assigns.now }
+{
+    assigns.iter().all(|assign| reads_are_in(ports, &assign.value))
+}
+
+/// Whether no assignment reads a signal that one drives.
+fn none_reads_driven(driven: &Names, assigns: &[Assign]) -> bool
+    ensures { result ≡ list_all (λ (a : SourceAssign). list_all (λ (s : SourceSpot). not (holds driven.now s.word)) (expr_names a.value)) assigns.now }
+{
+    assigns.iter().all(|assign| reads_are_outside(driven, &assign.value))
+}
+
+/// Whether all assignments drive outputs.
+fn all_drive_outputs(outputs: &Names, assigns: &[Assign]) -> bool
+    ensures { result ≡ list_all (λ (a : SourceAssign). holds outputs.now a.target.word) assigns.now }
+{
+    assigns.iter().all(|assign| outputs.number(&assign.target.word).is_some())
+}
+
+/// Whether each output is driven.
+fn each_output_is_driven(driven: &Names, signals: &[Signal]) -> bool
+    ensures { result ≡ list_all (λ path. holds driven.now path) (output_paths signals.now) }
+{
+    for signal in signals {
+        let held = driven.number(&signal.path).is_some();
+        match signal.kind {
+            SignalKind::InputNet => {}
+            SignalKind::OutputVar => {
+                if !held {
+                    return false;
+                }
+            }
+        }
+    }
+    true
 }

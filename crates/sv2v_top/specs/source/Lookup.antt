@@ -1,5 +1,6 @@
 -- Tables of names.
-use Rattle.std.specs.Prelude.{◌≡◌, ℕ, List, Option, Some, None, if◌then◌else◌, length}
+use Rattle.std.specs.Prelude.{◌≡◌, ℕ, Bool, List, Option, Some, None, if◌then◌else◌, length}
+use Rattle.std.specs.Option.{is_some}
 use Rattle.std.specs.Str.{bytes_eq}
 use Rattle.indexmap.specs.IndexMap as table
 use Rattle.sv2v_top.specs.declared.package_scope.Names.{Names}
@@ -9,6 +10,10 @@ use Rattle.sv2v_top.specs.source.Rules.{distinct}
 -- what the table has for a name
 abbrev pub number_in : Names → List ℕ → Option ℕ
 number_in names name = table.get bytes_eq names.numbers name
+
+-- whether the table has a name
+abbrev pub holds : Names → List ℕ → Bool
+holds names name = is_some (number_in names name)
 
 -- the number of the first of these names that is the given one, if one is
 abbrev pub first_number : List (List ℕ) → List ℕ → Option ℕ
