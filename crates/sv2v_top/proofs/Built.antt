@@ -45,20 +45,20 @@ pub record Built (m : Module) (top : List ℕ) : Type 0 where
 
 pub built-parts : (m : Module) (top : List ℕ) → is_built m top ≡ true → Built m top
 built-parts m top e =
-    let c11 = and_parts _ _ e in
-    let c10 = and_parts _ _ c11.0 in
-    let c9 = and_parts _ _ c10.0 in
-    let c8 = and_parts _ _ c9.0 in
-    let c7 = and_parts _ _ c8.0 in
-    let c6 = and_parts _ _ c7.0 in
-    let c5 = and_parts _ _ c6.0 in
-    let c4 = and_parts _ _ c5.0 in
-    let c3 = and_parts _ _ c4.0 in
-    let c2 = and_parts _ _ c3.0 in
-    let c1 = and_parts _ _ c2.0 in
+    let groups = and_parts _ _ e in
+    let front = and_parts _ _ groups.0 in
+    let h3 = and_parts _ _ front.0 in
+    let h2 = and_parts _ _ h3.0 in
+    let h1 = and_parts _ _ h2.0 in
+    let t2 = and_parts _ _ front.1 in
+    let t1 = and_parts _ _ t2.0 in
+    let a4 = and_parts _ _ groups.1 in
+    let a3 = and_parts _ _ a4.0 in
+    let a2 = and_parts _ _ a3.0 in
+    let a1 = and_parts _ _ a2.0 in
     record {
-      directed = c1.0; is_top = c1.1; names = c2.1; no_helpers = c3.1; ranges = c4.1; bits = c5.1; literals = c6.1;
-      targets_are_outputs = c7.1; one_target = c8.1; operands_are_ports = c9.1; operands_at_rest = c10.1; outputs_are_driven = c11.1
+      directed = h1.0; is_top = h1.1; names = h2.1; no_helpers = h3.1; ranges = t1.0; bits = t1.1; literals = t2.1;
+      targets_are_outputs = a1.0; one_target = a1.1; operands_are_ports = a2.1; operands_at_rest = a3.1; outputs_are_driven = a4.1
     }
 
 pub all-member : {A : Type 0} (t : A → Bool) (xs : List A) (x : A) → list_all t xs ≡ true → Member xs x → t x ≡ true

@@ -5,5 +5,6 @@ pub mod Meanings
 pub mod Machines
 pub mod Lookup
 pub mod Outputs
+pub mod Checks
 pub mod Sound
 pub mod Built

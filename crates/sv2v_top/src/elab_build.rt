@@ -4,7 +4,7 @@
 ghost use Rattle.std.specs.Prelude.{◌≡◌, ◌^◌, ◌<◌, ◌≤◌, ◌||◌, not, length, map, sum, nat_le, Some, None, true, false, IfOk, MatchOption, option_copied};
 ghost use Rattle.std.specs.List.{list_all};
 ghost use Rattle.sv2v_top.specs.source.Names.{declared, declared_from, port_names, port_word, is_declared, undeclared, first_undeclared, primary_names, expr_names, among};
-ghost use Rattle.sv2v_top.specs.source.Rules.{targets, first_is_directed, is_plain_range, range_width, ranges_are_plain, is_helper_name, no_helper_ports, no_helper_names, primary_is_plain, expr_is_plain};
+ghost use Rattle.sv2v_top.specs.source.Rules.{targets, first_is_directed, is_plain_range, range_width, ranges_are_plain, is_helper_name, no_helper_ports, no_helper_names, primary_is_plain, expr_is_plain, header_is_built, types_are_built, assigns_are_built, is_built};
 ghost use Rattle.sv2v_top.specs.source.Elaboration.{output_paths};
 ghost use Rattle.sv2v_top.specs.declared.sv_types.Signal.{Signal as DesignSignal};
 ghost use Rattle.sv2v_top.specs.declared.sv_tree.Assign.{Assign as SourceAssign};
@@ -323,4 +323,55 @@ fn each_output_is_driven(driven: &Names, signals: &[Signal]) -> bool
         }
     }
     true
+}
+
+/// Whether the header has built forms only.
+fn header_fits(source: &Module, names: &Names, top: &[u8]) -> bool
+    requires { Numbers names.now (port_names source.now) }
+    ensures { result ≡ header_is_built source.now top.now }
+{
+    let directed = first_has_direction(source.ports.as_slice());
+    let is_top = source.name.word.is(top);
+    let distinct = names.are_distinct();
+    let free = has_no_helpers(source);
+    directed & is_top & distinct & free
+}
+
+/// Whether the types and literals have built forms only, where the ranges have.
+fn types_fit(source: &Module, signals: &[Signal]) -> bool
+    requires plain { ranges_are_plain source.now.ports ≡ true }
+    requires signals { signals.now ≡ map signal_of (declared source.now) }
+    ensures { result ≡ types_are_built source.now }
+{
+    let fits = fits_in_bits(signals);
+    let literals = literals_are_plain(source.assigns.as_slice());
+    fits & literals
+}
+
+/// Whether the assignments have built forms only, by the tables of the ports, the outputs and the driven signals.
+fn drivers_fit(source: &Module, ports: &Names, outputs: &Names, driven: &Names, signals: &[Signal]) -> bool
+    requires ports { Numbers ports.now (port_names source.now) }
+    requires outputs { Numbers outputs.now (output_paths signals.now) }
+    requires driven { Numbers driven.now (targets source.now.assigns) }
+    requires signals { signals.now ≡ map signal_of (declared source.now) }
+    ensures { result ≡ assigns_are_built source.now }
+{
+    let assigns = source.assigns.as_slice();
+    let to_outputs = all_drive_outputs(outputs, assigns);
+    let once = driven.are_distinct();
+    let from_ports = all_read_ports(ports, assigns);
+    let from_rest = none_reads_driven(driven, assigns);
+    let all_driven = each_output_is_driven(driven, signals);
+    to_outputs & once & from_ports & from_rest & all_driven
+}
+
+/// Whether the assignments have built forms only.
+fn assigns_fit(alloc: Global, source: &Module, ports: &Names, signals: &[Signal]) -> Result<bool, AllocError>
+    requires ports { Numbers ports.now (port_names source.now) }
+    requires signals { signals.now ≡ map signal_of (declared source.now) }
+    ensures { IfOk result (λ b. b ≡ assigns_are_built source.now) }
+{
+    let driven = target_names(alloc, source.assigns.as_slice())?;
+    let outputs = output_names(alloc, signals)?;
+    Ok(drivers_fit(source, ports, &outputs, &driven, signals))
 }

@@ -91,21 +91,24 @@ no_helper_names m = not (is_helper_name m.name.word) && no_helper_ports m.ports
 abbrev pub total_bits : List Declared → ℕ
 total_bits ports = sum (map (λ (p : Declared). range_width p.range) ports)
 
--- Each line is a rule or a form that isn't built: ports without a direction of their own at the head of the list, another
--- top, a name that is declared twice, a name of a helper, other ranges, too many bits, other literals, a target that is
--- no output, a target of two assignments, an operand that is no port, an operand that an assignment drives, and an
--- output that nothing drives.
-abbrev pub is_built : Module → List ℕ → Bool
-is_built m top =
-    first_is_directed m.ports
-      && bytes_eq m.name.word top
-      && distinct (port_names m)
-      && no_helper_names m
-      && ranges_are_plain m.ports
-      && nat_le (total_bits (declared m)) (2 ^ 22)
-      && list_all (λ (a : Assign). expr_is_plain a.value) m.assigns
-      && all_among (outputs (declared m)) (targets m.assigns)
+-- Each line is a rule or a form that isn't built. In the header: a first port without a direction, another top, a name
+-- that is declared twice, a name of a helper.
+abbrev pub header_is_built : Module → List ℕ → Bool
+header_is_built m top = first_is_directed m.ports && bytes_eq m.name.word top && distinct (port_names m) && no_helper_names m
+
+-- In types and literals: other ranges, too many bits, other literals.
+abbrev pub types_are_built : Module → Bool
+types_are_built m = ranges_are_plain m.ports && nat_le (total_bits (declared m)) (2 ^ 22) && list_all (λ (a : Assign). expr_is_plain a.value) m.assigns
+
+-- In assignments: a target that is no output, a target of two assignments, an operand that is no port, an operand that
+-- an assignment drives, an output that nothing drives.
+abbrev pub assigns_are_built : Module → Bool
+assigns_are_built m =
+    all_among (outputs (declared m)) (targets m.assigns)
       && distinct (targets m.assigns)
       && read_ports (port_names m) m.assigns
       && read_rest (targets m.assigns) m.assigns
       && all_among (targets m.assigns) (outputs (declared m))
+
+abbrev pub is_built : Module → List ℕ → Bool
+is_built m top = header_is_built m top && types_are_built m && assigns_are_built m
