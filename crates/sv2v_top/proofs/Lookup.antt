@@ -1,6 +1,6 @@
 -- A table of names that grows by one name.
 use Rattle.std.proofs.Common.{◌≡◌, ℕ, zero, suc, ◌+◌, ◌<◌, ◌≤◌, ◌⊎◌, Bool, true, false, not, cond, ◌&&◌, ◌||◌, if◌then◌else◌, List, [], ◌∷◌, ◌++◌, map, take, length, add-one, Some, None, Option, Bor, refl, sym, ap, subst, ◌∙◌, inl, inr, arith}
-use Rattle.std.specs.Option.{is_some, option_copied}
+use Rattle.std.specs.Option.{is_some, option_copied, unwrap_or}
 use Rattle.std.specs.Prelude.{slice_index_or}
 use Rattle.std.specs.Str.{bytes_eq}
 use Rattle.std.proofs.lemmas.Bool.{or_cases, or_left, or_right, false≢true}
@@ -144,3 +144,23 @@ distinct-old (n ∷ ns) w e =
 pub length-more : (ns : List (List ℕ)) (w : List ℕ) → length (ns ++ w ∷ []) ≡ length ns + 1
 length-more [] w = refl
 length-more (n ∷ ns) w = omega (arith, length-more ns w)
+
+-- a number or, where there is none, how many names there are
+pub position-or : (ns : List (List ℕ)) (w : List ℕ) → unwrap_or (first_number ns w) (length ns) ≡ position ns w
+position-or ns w =
+    elim (true_or_false (among ns w)) [
+      inl h ↦ ap (λ o. unwrap_or o (length ns)) (pick_true (among ns w) _ _ h)
+    | inr h ↦ ap (λ o. unwrap_or o (length ns)) (pick_false (among ns w) _ _ h) ∙ sym (position-absent ns w h)
+    ]
+  where
+    position-absent : (ns : List (List ℕ)) (w : List ℕ) → among ns w ≡ false → position ns w ≡ length ns
+    position-absent [] w e = refl
+    position-absent (n ∷ ns) w e = pick_false (bytes_eq n w) _ _ (or-false-left _ _ e) ∙ ap suc (position-absent ns w (or-false-right (bytes_eq n w) _ e))
+
+pub position-within : (ns : List (List ℕ)) (w : List ℕ) → position ns w ≤ length ns
+position-within [] w = omega arith
+position-within (n ∷ ns) w =
+    elim (true_or_false (bytes_eq n w)) [
+      inl h ↦ (let e = pick_true (bytes_eq n w) 0 (suc (position ns w)) h in omega arith)
+    | inr h ↦ (let e = pick_false (bytes_eq n w) 0 (suc (position ns w)) h in let more = position-within ns w in omega arith)
+    ]

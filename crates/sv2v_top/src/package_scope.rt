@@ -2,6 +2,7 @@
 
 ghost use Rattle.std.specs.Prelude.{◌≡◌, ◌^◌, ◌-◌, ◌<◌, ◌++◌, ◌∷◌, [], List, ℕ, OnOk};
 ghost use Rattle.sv2v_top.specs.source.Lookup.{Numbers, number_in};
+ghost use Rattle.sv2v_top.specs.source.Names.{position};
 
 use indexmap::IndexMap;
 use std::alloc::{AllocError, Global};
@@ -53,5 +54,14 @@ impl Names {
         ensures { result ≡ self.now.distinct }
     {
         self.distinct
+    }
+
+    /// The number of a name, and how many names there are where it isn't one.
+    pub fn position(&self, name: &Text) -> u32
+        requires { self.now.next < 2 ^ 32 }
+        ensures { (names : List (List ℕ)) → Numbers self.now names → result ≡ position names name.now }
+    {
+        let number = self.number(name).unwrap_or(self.next);
+        number.min(self.next) as u32
     }
 }
