@@ -1,6 +1,7 @@
 //! The top call of sv2v, for single modules of continuous assignments.
 #![tactic(auto)]
 
+mod design;
 mod elab_build;
 mod literals;
 mod package_scope;
