@@ -1,5 +1,5 @@
 -- The checks by tables are those of the rules.
-use Rattle.std.proofs.Common.{◌≡◌, ℕ, zero, suc, ◌+◌, Bool, true, false, not, ◌&&◌, List, [], ◌∷◌, ◌++◌, map, sum, refl, sym, ap, ◌∙◌, arith}
+use Rattle.std.proofs.Common.{◌≡◌, ◌≤◌, ◌^◌, ℕ, zero, suc, ◌+◌, Option, Some, None, length, Bool, true, false, not, ◌&&◌, List, [], ◌∷◌, ◌++◌, map, sum, refl, sym, ap, ◌∙◌, arith}
 use Rattle.std.specs.List.{list_all, fold}
 use Rattle.std.specs.Prelude.{IsTrue, ◌↔◌}
 use Rattle.std.specs.Bool.{Decides}
@@ -13,8 +13,13 @@ use Rattle.sv2v_top.specs.declared.sv_tree.Direction.TheVariants.{Input, Output}
 use Rattle.sv2v_top.specs.declared.sv_tree.Assign.{Assign}
 use Rattle.sv2v_top.specs.declared.sv_types.Signal.{Signal}
 use Rattle.sv2v_top.specs.declared.package_scope.Names.{Names}
-use Rattle.sv2v_top.specs.source.Names.{Declared, among, expr_names}
-use Rattle.sv2v_top.specs.source.Rules.{if_output, outputs, reads, targets, range_width, total_bits, all_among, read_ports, read_rest}
+use Rattle.sv2v_top.specs.declared.sv_tree.Range.{Range}
+use Rattle.sv2v_top.specs.declared.sv_tree.Port.{Port}
+use Rattle.sv2v_top.specs.declared.sv_tree.Module.{Module}
+use Rattle.sv2v_top.specs.source.Names.{Declared, declared, declared_from, direction_after, range_after, port_word, among, expr_names}
+use Rattle.sv2v_top.proofs.Built.{built-parts}
+use Rattle.std.proofs.lemmas.Bool.{leb-true}
+use Rattle.sv2v_top.specs.source.Rules.{if_output, outputs, reads, targets, range_width, total_bits, is_built, all_among, read_ports, read_rest}
 use Rattle.sv2v_top.specs.source.Elaboration.{kind_of, signal_of, if_output_path, output_paths}
 use Rattle.sv2v_top.specs.source.Lookup.{Numbers, holds}
 use Rattle.sv2v_top.proofs.Lookup.{some-among}
@@ -69,3 +74,23 @@ module _ (table : Names) (names : List (List ℕ)) (n : Numbers table names) whe
 -- the test of equal bytes
 pub is-bytes : (r : Bool) (a b : List ℕ) → (IsTrue r ↔ (a ≡ b)) → r ≡ bytes_eq a b
 is-bytes r a b e = same_from_decides r (bytes_eq a b) e (bytes_eq-Decides a b)
+
+-- a header has at most as many ports as bits
+pub few-ports : (direction : Direction) (range : Option Range) (ports : List Port) → length (map port_word ports) ≤ total_bits (declared_from direction range ports)
+few-ports direction range [] = omega arith
+few-ports direction range (p ∷ ports) =
+    let rest = declared_from (direction_after direction p.head) (range_after range p.head) ports in
+    let more = few-ports (direction_after direction p.head) (range_after range p.head) ports in
+    let one = wide (range_after range p.head) in
+    let all = sum-cons (range_width (range_after range p.head)) (map (λ (q : Declared). range_width q.range) rest) in
+    omega arith
+  where
+    wide : (range : Option Range) → 1 ≤ range_width range
+    wide None = omega arith
+    wide (Some r) = omega arith
+
+pub built-few : (m : Module) (top : List ℕ) → is_built m top ≡ true → length (map port_word m.ports) ≤ 2 ^ 22
+built-few m top e =
+    let few = few-ports Input None m.ports in
+    let bits = leb-true (total_bits (declared m)) (2 ^ 22) (built-parts m top e).bits in
+    omega arith

@@ -3,6 +3,7 @@ pub mod Names
 pub mod Lookup
 pub mod Rules
 pub mod Elaboration
+pub mod Answers
 pub mod Value
 pub mod Machine
 pub mod Translatable

@@ -11,14 +11,16 @@ ghost use Rattle.sv2v_top.specs.declared.sv_tree.Assign.{Assign as SourceAssign}
 ghost use Rattle.sv2v_top.specs.source.Elaboration.{kind_of, signal_of};
 ghost use Rattle.sv2v_top.specs.declared.sv_tree.Direction.TheVariants.{Input};
 ghost use Rattle.sv2v_top.specs.source.Lookup.{Numbers, holds};
+ghost use Rattle.sv2v_top.specs.source.Answers.{undeclared_refusal, stage_refusal, ElaborationGives};
 ghost use Rattle.sv_source.specs.declared.token.Spot.{Spot as SourceSpot};
 
+use crate::design::processes;
 use crate::literals::{decimal_up_to, is_plain};
 use crate::package_scope::Names;
 use crate::sv_tree::{Assign, Direction, Expr, Module, Operand, Port, Primary, Range};
-use crate::sv_types::{Signal, SignalKind, Signals};
+use crate::sv_types::{Design, Signal, SignalKind, Signals};
 use std::alloc::{AllocError, Global};
-use sv_source::{Items, Spot, Text};
+use sv_source::{Fail, Items, Place, Refusal, Spot, Text};
 
 /// The names of the ports, in the order of the header.
 fn header_names(alloc: Global, ports: &[Port]) -> Result<Names, AllocError>
@@ -374,4 +376,55 @@ fn assigns_fit(alloc: Global, source: &Module, ports: &Names, signals: &[Signal]
     let driven = target_names(alloc, source.assigns.as_slice())?;
     let outputs = output_names(alloc, signals)?;
     Ok(drivers_fit(source, ports, &outputs, &driven, signals))
+}
+
+/// Whether the module has built forms only, where its ranges have.
+fn has_built_forms(alloc: Global, source: &Module, ports: &Names, signals: &[Signal], top: &[u8]) -> Result<bool, AllocError>
+    requires ports { Numbers ports.now (port_names source.now) }
+    requires plain { ranges_are_plain source.now.ports ≡ true }
+    requires signals { signals.now ≡ map signal_of (declared source.now) }
+    ensures { IfOk result (λ b. b ≡ is_built source.now top.now) }
+{
+    let assigns = assigns_fit(alloc, source, ports, signals)?;
+    let header = header_fits(source, ports, top);
+    let types = types_fit(source, signals);
+    Ok(header & types & assigns)
+}
+
+/// The refusal of a name that isn't declared.
+fn undeclared_name(alloc: Global, name: &Spot) -> Result<Refusal, AllocError>
+    ensures { IfOk result (λ r. r ≡ undeclared_refusal name.now) }
+{
+    let word = name.word.copy(alloc)?;
+    let place = name.place;
+    Ok(Refusal { rule: 401, place, word })
+}
+
+/// The refusal of what isn't built yet.
+pub fn not_built(alloc: Global) -> Result<Refusal, AllocError>
+    ensures { IfOk result (λ r. r ≡ stage_refusal) }
+{
+    let word = Text::from_bytes(alloc, b"stage")?;
+    let place = Place { file: 0, line: 1, col: 1 };
+    Ok(Refusal { rule: 999, place, word })
+}
+
+/// The design of a module, by the top's name. A name that isn't declared is refused with E401, and after that a form or a
+/// rule that isn't built with E999.
+pub fn elaborate(alloc: Global, source: &Module, top: &[u8]) -> Result<Design, Fail>
+    ensures { ElaborationGives source.now top.now result }
+{
+    let ports = header_names(alloc, source.ports.as_slice())?;
+    if let Some(name) = undeclared_use(source, &ports) {
+        return Err(Fail::Refused(undeclared_name(alloc, name)?));
+    }
+    let Some(signals) = port_signals(alloc, source.ports.as_slice())? else {
+        return Err(Fail::Refused(not_built(alloc)?));
+    };
+    if !has_built_forms(alloc, source, &ports, signals.as_slice(), top)? {
+        return Err(Fail::Refused(not_built(alloc)?));
+    }
+    let processes = processes(alloc, &ports, source.assigns.as_slice())?;
+    let top = source.name.word.copy(alloc)?;
+    Ok(Design { top, signals, processes })
 }
