@@ -1,3 +1,4 @@
+pub mod Grammar
 pub mod Literals
 pub mod Names
 pub mod Lookup

@@ -5,6 +5,7 @@ mod design;
 mod elab_build;
 mod literals;
 mod package_scope;
+mod sv_build;
 mod sv_tree;
 mod sv_types;
 mod v_tree;
