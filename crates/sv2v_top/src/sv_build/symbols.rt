@@ -1,9 +1,10 @@
 //! The terminal symbols of the grammar: reserved words, marks and the classes of names and numbers.
 
-ghost use Rattle.std.specs.Prelude.{◌≡◌};
+ghost use Rattle.std.specs.Prelude.{◌≡◌, map, IfOk};
 ghost use Rattle.sv2v_top.specs.source.Grammar.{word_symbol, bracket_symbol, operator_symbol, mark_symbol, symbol_of};
 
-use sv_source::{Kind, Token};
+use sv_source::{Kind, Text, Token};
+use std::alloc::{AllocError, Global};
 
 pub const OTHER: u16 = 0;
 pub const NAME: u16 = 1;
@@ -66,4 +67,46 @@ fn mark(text: &[u8]) -> u16
         [c] => operator(*c),
         _ => OTHER,
     }
+}
+
+/// The symbol of a reserved word.
+fn word(text: &Text) -> u16
+    ensures { result ≡ word_symbol text.now }
+{
+    if text.is(b"module") {
+        MODULE
+    } else if text.is(b"endmodule") {
+        ENDMODULE
+    } else if text.is(b"input") {
+        INPUT
+    } else if text.is(b"output") {
+        OUTPUT
+    } else if text.is(b"logic") {
+        LOGIC
+    } else if text.is(b"assign") {
+        ASSIGN
+    } else {
+        OTHER
+    }
+}
+
+/// The symbol of a token.
+fn symbol(token: &Token) -> u16
+    ensures { result ≡ symbol_of token.now }
+{
+    match token.kind {
+        Kind::Name => NAME,
+        Kind::Reserved => word(&token.text),
+        Kind::Decimal => DECIMAL,
+        Kind::Based => BASED,
+        Kind::Mark => mark(token.text.as_bytes()),
+        _ => OTHER,
+    }
+}
+
+/// The symbols of tokens.
+pub fn symbols(alloc: Global, tokens: &[Token]) -> Result<Vec<u16>, AllocError>
+    ensures { IfOk result (λ v. v.items ≡ map symbol_of tokens.now) }
+{
+    tokens.iter().map(symbol).collect(alloc)
 }
