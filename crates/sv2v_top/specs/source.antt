@@ -1,4 +1,5 @@
 pub mod Grammar
+pub mod Building
 pub mod Literals
 pub mod Names
 pub mod Lookup

@@ -93,7 +93,11 @@ port_rows =
     ∷ row PORT (Term NAME ∷ [])
     ∷ row DIRECTION (Term INPUT ∷ [])
     ∷ row DIRECTION (Term OUTPUT ∷ [])
-    ∷ row RANGE []
+    ∷ []
+
+abbrev pub range_rows : List Row
+range_rows =
+    row RANGE []
     ∷ row RANGE (Term LEFT ∷ Term DECIMAL ∷ Term COLON ∷ Term DECIMAL ∷ Term RIGHT ∷ [])
     ∷ []
 
@@ -101,12 +105,20 @@ abbrev pub item_rows : List Row
 item_rows =
     row ITEMS (Many ITEM ∷ [])
     ∷ row ITEM (Term ASSIGN ∷ Term NAME ∷ Term EQUALS ∷ Non EXPR ∷ Term SEMICOLON ∷ [])
-    ∷ row EXPR (Non OPERAND ∷ Non TAIL ∷ [])
+    ∷ []
+
+abbrev pub expr_rows : List Row
+expr_rows =
+    row EXPR (Non OPERAND ∷ Non TAIL ∷ [])
     ∷ row TAIL []
     ∷ row TAIL (Term AND ∷ Non OPERAND ∷ [])
     ∷ row TAIL (Term OR ∷ Non OPERAND ∷ [])
     ∷ row TAIL (Term XOR ∷ Non OPERAND ∷ [])
-    ∷ row OPERAND (Term NOT ∷ Non PRIMARY ∷ [])
+    ∷ []
+
+abbrev pub operand_rows : List Row
+operand_rows =
+    row OPERAND (Term NOT ∷ Non PRIMARY ∷ [])
     ∷ row OPERAND (Non PRIMARY ∷ [])
     ∷ row PRIMARY (Term NAME ∷ [])
     ∷ row PRIMARY (Term DECIMAL ∷ Term BASED ∷ [])
@@ -114,4 +126,4 @@ item_rows =
 
 -- the table of the grammar
 abbrev pub source_rows : List Row
-source_rows = module_rows ++ port_rows ++ item_rows
+source_rows = module_rows ++ port_rows ++ range_rows ++ item_rows ++ expr_rows ++ operand_rows

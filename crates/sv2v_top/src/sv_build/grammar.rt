@@ -1,7 +1,7 @@
 //! The table of the grammar of one module of continuous assignments.
 
 ghost use Rattle.std.specs.Prelude.{◌≡◌, ◌∷◌, ◌++◌, [], OnOk, IfOk};
-ghost use Rattle.sv2v_top.specs.source.Grammar.{row, module_rows, port_rows, item_rows, source_rows};
+ghost use Rattle.sv2v_top.specs.source.Grammar.{row, module_rows, port_rows, range_rows, item_rows, expr_rows, operand_rows, source_rows};
 
 use super::symbols::{
     AND, ASSIGN, BASED, CLOSE, COLON, COMMA, DECIMAL, ENDMODULE, EQUALS, INPUT, LEFT, LOGIC, MODULE, NAME, NOT, OPEN, OR, OUTPUT, RIGHT, SEMICOLON, XOR,
@@ -48,4 +48,70 @@ fn add_module_rows(alloc: Global, rows: &mut Table) -> Result<(), AllocError>
     add(alloc, rows, PORT_LIST, &[Non(PORT), Non(MORE_PORTS)])?;
     add(alloc, rows, MORE_PORTS, &[Many(MORE_PORT)])?;
     add(alloc, rows, MORE_PORT, &[Term(COMMA), Non(PORT)])
+}
+
+/// The rows of a port and its direction.
+fn add_port_rows(alloc: Global, rows: &mut Table) -> Result<(), AllocError>
+    ensures { OnOk result (rows.new ≡ rows.old ++ port_rows) }
+{
+    add(alloc, rows, PORT, &[Non(DIRECTION), Term(LOGIC), Non(RANGE), Term(NAME)])?;
+    add(alloc, rows, PORT, &[Term(NAME)])?;
+    add(alloc, rows, DIRECTION, &[Term(INPUT)])?;
+    add(alloc, rows, DIRECTION, &[Term(OUTPUT)])?;
+    Ok(())
+}
+
+/// The rows of a range.
+fn add_range_rows(alloc: Global, rows: &mut Table) -> Result<(), AllocError>
+    ensures { OnOk result (rows.new ≡ rows.old ++ range_rows) }
+{
+    add(alloc, rows, RANGE, &[])?;
+    add(alloc, rows, RANGE, &[Term(LEFT), Term(DECIMAL), Term(COLON), Term(DECIMAL), Term(RIGHT)])?;
+    Ok(())
+}
+
+/// The rows of assignments.
+fn add_item_rows(alloc: Global, rows: &mut Table) -> Result<(), AllocError>
+    ensures { OnOk result (rows.new ≡ rows.old ++ item_rows) }
+{
+    add(alloc, rows, ITEMS, &[Many(ITEM)])?;
+    add(alloc, rows, ITEM, &[Term(ASSIGN), Term(NAME), Term(EQUALS), Non(EXPR), Term(SEMICOLON)])?;
+    Ok(())
+}
+
+/// The rows of an operator between operands.
+fn add_expr_rows(alloc: Global, rows: &mut Table) -> Result<(), AllocError>
+    ensures { OnOk result (rows.new ≡ rows.old ++ expr_rows) }
+{
+    add(alloc, rows, EXPR, &[Non(OPERAND), Non(TAIL)])?;
+    add(alloc, rows, TAIL, &[])?;
+    add(alloc, rows, TAIL, &[Term(AND), Non(OPERAND)])?;
+    add(alloc, rows, TAIL, &[Term(OR), Non(OPERAND)])?;
+    add(alloc, rows, TAIL, &[Term(XOR), Non(OPERAND)])?;
+    Ok(())
+}
+
+/// The rows of an operand.
+fn add_operand_rows(alloc: Global, rows: &mut Table) -> Result<(), AllocError>
+    ensures { OnOk result (rows.new ≡ rows.old ++ operand_rows) }
+{
+    add(alloc, rows, OPERAND, &[Term(NOT), Non(PRIMARY)])?;
+    add(alloc, rows, OPERAND, &[Non(PRIMARY)])?;
+    add(alloc, rows, PRIMARY, &[Term(NAME)])?;
+    add(alloc, rows, PRIMARY, &[Term(DECIMAL), Term(BASED)])?;
+    Ok(())
+}
+
+/// The table of the grammar.
+pub fn source_table(alloc: Global) -> Result<Table, AllocError>
+    ensures { IfOk result (λ t. t ≡ source_rows) }
+{
+    let mut rows = Table::new(alloc);
+    add_module_rows(alloc, &mut rows)?;
+    add_port_rows(alloc, &mut rows)?;
+    add_range_rows(alloc, &mut rows)?;
+    add_item_rows(alloc, &mut rows)?;
+    add_expr_rows(alloc, &mut rows)?;
+    add_operand_rows(alloc, &mut rows)?;
+    Ok(rows)
 }
