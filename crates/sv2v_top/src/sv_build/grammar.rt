@@ -25,6 +25,14 @@ pub const TAIL: u16 = 11;
 pub const OPERAND: u16 = 12;
 pub const PRIMARY: u16 = 13;
 
+/// The rows of the directions.
+pub const INPUT_ROW: u16 = 9;
+pub const OUTPUT_ROW: u16 = 10;
+/// The rows of the operators between operands.
+pub const AND_ROW: u16 = 17;
+pub const OR_ROW: u16 = 18;
+pub const XOR_ROW: u16 = 19;
+
 /// Adds a row.
 fn add(alloc: Global, rows: &mut Table, head: u16, parts: &[Part]) -> Result<(), AllocError>
     ensures { OnOk result (rows.new ≡ rows.old ++ row head parts.now ∷ []) }
