@@ -85,3 +85,125 @@ fn operand(alloc: Global, tokens: &[Token], tree: &Tree) -> Result<Option<Operan
     };
     Ok(Some(Operand { inverted, primary }))
 }
+
+/// The operator of a row.
+fn operator(row: u16) -> Option<BinOp>
+    ensures { result ≡ means.operator_of row }
+{
+    match row {
+        AND_ROW => Some(BinOp::And),
+        OR_ROW => Some(BinOp::Or),
+        XOR_ROW => Some(BinOp::Xor),
+        _ => None,
+    }
+}
+
+/// An operand with what stands behind it.
+fn with_tail(alloc: Global, tokens: &[Token], left: Operand, tail: &Tree) -> Result<Option<Expr>, AllocError>
+    ensures { IfOk result (λ x. x ≡ means.tail_from tokens.now left (means.row_of tail.now) (means.kids_of tail.now)) }
+{
+    match kids(tail) {
+        [] => Ok(Some(Expr::Single(left))),
+        [_, right] => {
+            let Some(op) = operator(row(tail)) else {
+                return Ok(None);
+            };
+            let Some(right) = operand(alloc, tokens, right)? else {
+                return Ok(None);
+            };
+            Ok(Some(Expr::Binary { op, left, right }))
+        }
+        _ => Ok(None),
+    }
+}
+
+/// An expression.
+fn expr(alloc: Global, tokens: &[Token], tree: &Tree) -> Result<Option<Expr>, AllocError>
+    ensures { IfOk result (λ x. x ≡ means.expr_of tokens.now tree.now) }
+{
+    match kids(tree) {
+        [left, tail] => {
+            let Some(left) = operand(alloc, tokens, left)? else {
+                return Ok(None);
+            };
+            with_tail(alloc, tokens, left, tail)
+        }
+        _ => Ok(None),
+    }
+}
+
+/// A continuous assignment.
+fn assign(alloc: Global, tokens: &[Token], tree: &Tree) -> Result<Option<Assign>, AllocError>
+    ensures { IfOk result (λ a. a ≡ means.assign_of tokens.now tree.now) }
+{
+    match kids(tree) {
+        [_, target, _, value, _] => {
+            let Some(target) = spot(alloc, tokens, target)? else {
+                return Ok(None);
+            };
+            let Some(value) = expr(alloc, tokens, value)? else {
+                return Ok(None);
+            };
+            Ok(Some(Assign { target, value }))
+        }
+        _ => Ok(None),
+    }
+}
+
+/// A range, or none.
+fn range(alloc: Global, tokens: &[Token], tree: &Tree) -> Result<Option<Option<Range>>, AllocError>
+    ensures { IfOk result (λ r. r ≡ means.range_of tokens.now tree.now) }
+{
+    match kids(tree) {
+        [] => Ok(Some(None)),
+        [_, left, _, right, _] => {
+            let Some(left) = spot(alloc, tokens, left)? else {
+                return Ok(None);
+            };
+            let Some(right) = spot(alloc, tokens, right)? else {
+                return Ok(None);
+            };
+            Ok(Some(Some(Range { left, right })))
+        }
+        _ => Ok(None),
+    }
+}
+
+/// The direction of a row.
+fn direction(row: u16) -> Option<Direction>
+    ensures { result ≡ means.direction_of row }
+{
+    match row {
+        INPUT_ROW => Some(Direction::Input),
+        OUTPUT_ROW => Some(Direction::Output),
+        _ => None,
+    }
+}
+
+/// A port.
+fn port(alloc: Global, tokens: &[Token], tree: &Tree) -> Result<Option<Port>, AllocError>
+    ensures { IfOk result (λ p. p ≡ means.port_of tokens.now tree.now) }
+{
+    match kids(tree) {
+        [name] => {
+            let Some(name) = spot(alloc, tokens, name)? else {
+                return Ok(None);
+            };
+            Ok(Some(Port { head: None, name }))
+        }
+        [way, _, bounds, name] => {
+            let Some(direction) = direction(row(way)) else {
+                return Ok(None);
+            };
+            let Some(range) = range(alloc, tokens, bounds)? else {
+                return Ok(None);
+            };
+            let Some(name) = spot(alloc, tokens, name)? else {
+                return Ok(None);
+            };
+            let head = Some(PortHead { direction, range });
+            Ok(Some(Port { head, name }))
+        }
+        _ => Ok(None),
+    }
+}
