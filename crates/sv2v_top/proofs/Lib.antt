@@ -5,6 +5,7 @@ pub mod Meanings
 pub mod Machines
 pub mod Lookup
 pub mod Outputs
+pub mod Building
 pub mod Checks
 pub mod Sound
 pub mod Built

@@ -207,3 +207,90 @@ fn port(alloc: Global, tokens: &[Token], tree: &Tree) -> Result<Option<Port>, Al
         _ => Ok(None),
     }
 }
+
+/// A port behind its comma.
+fn more_port(alloc: Global, tokens: &[Token], tree: &Tree) -> Result<Option<Port>, AllocError>
+    ensures { IfOk result (λ p. p ≡ means.more_of tokens.now tree.now) }
+{
+    match kids(tree) {
+        [_, next] => port(alloc, tokens, next),
+        _ => Ok(None),
+    }
+}
+
+/// The first port and those behind commas.
+fn port_list(alloc: Global, tokens: &[Token], first: Port, more: &[Tree]) -> Result<Option<Ports>, AllocError>
+    ensures { IfOk result (λ ps. ps ≡ means.then_one (means.ports_with first) (means.each (means.more_of tokens.now) more.now)) }
+{
+    let mut ports = Items::new(alloc);
+    ports.push(first)?;
+    for tree in more {
+        let Some(port) = more_port(alloc, tokens, tree)? else {
+            return Ok(None);
+        };
+        ports.push(port)?;
+    }
+    Ok(Some(ports))
+}
+
+/// The assignments.
+fn assigns(alloc: Global, tokens: &[Token], items: &[Tree]) -> Result<Option<Assigns>, AllocError>
+    ensures { IfOk result (λ xs. xs ≡ means.each (means.assign_of tokens.now) items.now) }
+{
+    let mut assigns = Items::new(alloc);
+    for tree in items {
+        let Some(item) = assign(alloc, tokens, tree)? else {
+            return Ok(None);
+        };
+        assigns.push(item)?;
+    }
+    Ok(Some(assigns))
+}
+
+/// The ports in their parentheses.
+fn ports_in(alloc: Global, tokens: &[Token], list: &Tree) -> Result<Option<Ports>, AllocError>
+    ensures { IfOk result (λ ps. ps ≡ means.port_list_from tokens.now (means.kids_of list.now)) }
+{
+    match kids(list) {
+        [] => Ok(Some(Items::new(alloc))),
+        [first, more] => {
+            let Some(first) = port(alloc, tokens, first)? else {
+                return Ok(None);
+            };
+            port_list(alloc, tokens, first, kids(more))
+        }
+        _ => Ok(None),
+    }
+}
+
+/// The ports of a header.
+fn ports(alloc: Global, tokens: &[Token], header: &Tree) -> Result<Option<Ports>, AllocError>
+    ensures { IfOk result (λ ps. ps ≡ means.ports_from tokens.now (means.kids_of header.now)) }
+{
+    match kids(header) {
+        [] => Ok(Some(Items::new(alloc))),
+        [_, list, _] => ports_in(alloc, tokens, list),
+        _ => Ok(None),
+    }
+}
+
+/// The module of a derivation, if the tree is one.
+pub fn module(alloc: Global, tokens: &[Token], tree: &Tree) -> Result<Option<Module>, AllocError>
+    ensures { IfOk result (λ m. m ≡ means.module_of tokens.now tree.now) }
+{
+    match kids(tree) {
+        [_, name, header, _, items, _] => {
+            let Some(ports) = ports(alloc, tokens, header)? else {
+                return Ok(None);
+            };
+            let Some(assigns) = assigns(alloc, tokens, kids(items))? else {
+                return Ok(None);
+            };
+            let Some(name) = spot(alloc, tokens, name)? else {
+                return Ok(None);
+            };
+            Ok(Some(Module { name, ports, assigns }))
+        }
+        _ => Ok(None),
+    }
+}
