@@ -5,6 +5,8 @@ pub mod Meanings
 pub mod Machines
 pub mod Lookup
 pub mod Outputs
+pub mod Spines
+pub mod Readable
 pub mod Building
 pub mod Checks
 pub mod Sound
