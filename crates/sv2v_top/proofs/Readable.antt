@@ -10,12 +10,19 @@ use Rattle.ll_engine.specs.declared.tree.Tree.{Tree, Tree-F, out-Tree, roll-Tree
 use Rattle.ll_engine.specs.declared.tree.Tree.TheVariants.{Leaf, Node, rolls-Leaf, rolls-Node}
 use Rattle.ll_engine.specs.Reading.{Nested, at_nesting}
 use Rattle.row_machine.specs.Valuation.{Member}
+use Rattle.b4_core.specs.declared.operators.BinOp.{BinOp}
+use Rattle.b4_core.specs.declared.operators.BinOp.TheVariants.{And, Or, Xor}
+use Rattle.sv2v_top.specs.declared.sv_tree.Direction.{Direction}
+use Rattle.sv2v_top.specs.declared.sv_tree.Direction.TheVariants.{Input, Output}
+use Rattle.sv2v_top.specs.declared.sv_tree.Operand.{Operand}
+use Rattle.sv2v_top.specs.declared.sv_tree.Expr.TheVariants as E
+use Rattle.sv2v_top.specs.declared.sv_tree.Port.{Port}
 use Rattle.sv2v_top.specs.declared.sv_tree.Primary.{Primary}
 use Rattle.sv2v_top.specs.declared.sv_tree.Primary.TheVariants as P
 use Rattle.sv2v_top.specs.declared.sv_build.grammar.TheConstants.{SOURCE, PORTS, PORT_LIST, MORE_PORTS, MORE_PORT, PORT, DIRECTION, RANGE, ITEMS, ITEM, EXPR, TAIL, OPERAND, PRIMARY}
-use Rattle.sv2v_top.specs.declared.sv_build.symbols.TheConstants.{NAME, DECIMAL, BASED, NOT}
+use Rattle.sv2v_top.specs.declared.sv_build.symbols.TheConstants.{NAME, DECIMAL, BASED, MODULE, ENDMODULE, INPUT, OUTPUT, LOGIC, ASSIGN, OPEN, CLOSE, COMMA, SEMICOLON, LEFT, RIGHT, COLON, EQUALS, AND, OR, XOR, NOT}
 use Rattle.sv2v_top.specs.source.Grammar.{source_rows, row}
-use Rattle.sv2v_top.specs.source.Building.{then_one, then_two, each, kids_in, kids_of, row_in, row_of, spot_at, spot_in, spot_of, primary_from, primary_of, operand_with, operand_from, operand_of}
+use Rattle.sv2v_top.specs.source.Building.{then_one, then_two, each, kids_in, kids_of, row_in, row_of, spot_at, spot_in, spot_of, primary_from, primary_of, operand_with, operand_from, operand_of, operator_of, binary_with, tail_from, expr_with, expr_from, expr_of, assign_with, assign_from, assign_of, range_with, range_from, range_of, direction_of, head_with, port_with, headed_port, port_from, port_of, more_from, more_of, ports_with, port_list_from, ports_from, body_with, module_from, module_of}
 use Rattle.sv2v_top.proofs.Spines.{Row_read, Node_read, Spine, done, leaf, node, Turns, none_more, one_more, spine, turns, node-advance, node-spine, rows_headed, row-among}
 
 -- the option has a value
@@ -77,3 +84,72 @@ module _ (tokens : List Token) (d : ℕ → ℕ) where
       by_row (inl e) = name-spine at to w rest n.kids (node-spine source_rows d n _ _ e refl) fits
       by_row (inr (inl e)) = literal-spine at to w rest n.kids (node-spine source_rows d n _ _ e refl) fits
       by_row (inr (inr m)) = elim m [ ]
+
+  -- from a node's kids to the node
+  pub at-kids : {A : Type 0} (f : List Tree → Option A) (h : ℕ) (x : Tree) (at to : ℕ) (w rest : List Nested) (n : Node_of h x at w to rest)
+      → Meant (f n.kids) → Meant (f (kids_of x))
+  at-kids f h x at to w rest n m = subst (λ kids. Meant (f kids)) (sym (node-kids x n.index n.kids n.is_node)) m
+
+  pub plain-spine : (at to : ℕ) (w rest : List Nested) (kids : List Tree) → Spine source_rows d (Non PRIMARY ∷ []) at w kids to rest → Fits at w → Meant (operand_from tokens kids)
+  plain-spine at to w rest kids (node {x = x} n (done f g)) fits = meant-one (operand_with false) (primary_of tokens x) (primary-meant x at _ w _ n fits)
+
+  pub inverted-spine : (at to : ℕ) (w rest : List Nested) (kids : List Tree) → Spine source_rows d (Term NOT ∷ Non PRIMARY ∷ []) at w kids to rest → Fits at w → Meant (operand_from tokens kids)
+  inverted-spine at to w rest kids (leaf s e (node {x = x} n (done f g))) fits = meant-one (operand_with true) (primary_of tokens x) (primary-meant x (suc at) _ _ _ n (omega arith))
+
+  pub operand-meant : (x : Tree) (at to : ℕ) (w rest : List Nested) → Node_of OPERAND x at w to rest → Fits at w → Meant (operand_of tokens x)
+  operand-meant x at to w rest n fits = at-kids (operand_from tokens) OPERAND x at to w rest n (by_row (row-among OPERAND source_rows n.index n.row n.is_row))
+    where
+      by_row : Member (rows_headed OPERAND 0 source_rows) (n.index, n.row) → Meant (operand_from tokens n.kids)
+      by_row (inl e) = inverted-spine at to w rest n.kids (node-spine source_rows d n _ _ e refl) fits
+      by_row (inr (inl e)) = plain-spine at to w rest n.kids (node-spine source_rows d n _ _ e refl) fits
+      by_row (inr (inr m)) = elim m [ ]
+
+  -- an operator and an operand
+  pub tail-spine : (a i : ℕ) (op : BinOp) (left : Operand) → operator_of i ≡ Some op → (at to : ℕ) (w rest : List Nested) (kids : List Tree)
+      → Spine source_rows d (Term a ∷ Non OPERAND ∷ []) at w kids to rest → Fits at w → Meant (tail_from tokens left i kids)
+  tail-spine a i op left is at to w rest kids (leaf s e (node {x = x} n (done f g))) fits =
+      meant-two (binary_with left) (operator_of i) (operand_of tokens x) (record { value = op; is = is }) (operand-meant x (suc at) _ _ _ n (omega arith))
+
+  pub no-tail : (i : ℕ) (left : Operand) (at to : ℕ) (w rest : List Nested) (kids : List Tree) → Spine source_rows d [] at w kids to rest → Meant (tail_from tokens left i kids)
+  no-tail i left at to w rest kids (done f g) = record { value = E.Single left; is = refl }
+
+  pub tail-meant : (left : Operand) (x : Tree) (at to : ℕ) (w rest : List Nested) → Node_of TAIL x at w to rest → Fits at w → Meant (tail_from tokens left (row_of x) (kids_of x))
+  tail-meant left x at to w rest n fits =
+      at-kids (tail_from tokens left (row_of x)) TAIL x at to w rest n
+        (subst (λ i. Meant (tail_from tokens left i n.kids)) (sym (node-row x n.index n.kids n.is_node)) (by_row (row-among TAIL source_rows n.index n.row n.is_row)))
+    where
+      index-is : (i : ℕ) (r : Row) → ◌≡◌ {A = ℕ × Row} (n.index, n.row) (i, r) → n.index ≡ i
+      index-is i r e = ap (λ (p : ℕ × Row). p.0) e
+      by_row : Member (rows_headed TAIL 0 source_rows) (n.index, n.row) → Meant (tail_from tokens left n.index n.kids)
+      by_row (inl e) = no-tail n.index left at to w rest n.kids (node-spine source_rows d n _ _ e refl)
+      by_row (inr (inl e)) = tail-spine AND n.index And left (ap operator_of (index-is _ _ e)) at to w rest n.kids (node-spine source_rows d n _ _ e refl) fits
+      by_row (inr (inr (inl e))) = tail-spine OR n.index Or left (ap operator_of (index-is _ _ e)) at to w rest n.kids (node-spine source_rows d n _ _ e refl) fits
+      by_row (inr (inr (inr (inl e)))) = tail-spine XOR n.index Xor left (ap operator_of (index-is _ _ e)) at to w rest n.kids (node-spine source_rows d n _ _ e refl) fits
+      by_row (inr (inr (inr (inr m)))) = elim m [ ]
+
+  pub with-left : (o : Option Operand) (tail : Tree) → Meant o → ((left : Operand) → Meant (tail_from tokens left (row_of tail) (kids_of tail))) → Meant (expr_with tokens o tail)
+  with-left o tail m f = subst (λ p. Meant (expr_with tokens p tail)) (sym m.is) (f m.value)
+
+  pub expr-spine : (at to : ℕ) (w rest : List Nested) (kids : List Tree) → Spine source_rows d (Non OPERAND ∷ Non TAIL ∷ []) at w kids to rest → Fits at w → Meant (expr_from tokens kids)
+  expr-spine at to w rest kids (node {mid = mid} {u = u} {x = x} n (node {x = y} m (done f g))) fits =
+      let fits' : Fits mid u = sym (node-advance source_rows d n) ∙ fits in
+      with-left (operand_of tokens x) y (operand-meant x at mid w u n fits) (λ left. tail-meant left y mid _ u _ m fits')
+
+  pub expr-meant : (x : Tree) (at to : ℕ) (w rest : List Nested) → Node_of EXPR x at w to rest → Fits at w → Meant (expr_of tokens x)
+  expr-meant x at to w rest n fits = at-kids (expr_from tokens) EXPR x at to w rest n (by_row (row-among EXPR source_rows n.index n.row n.is_row))
+    where
+      by_row : Member (rows_headed EXPR 0 source_rows) (n.index, n.row) → Meant (expr_from tokens n.kids)
+      by_row (inl e) = expr-spine at to w rest n.kids (node-spine source_rows d n _ _ e refl) fits
+      by_row (inr m) = elim m [ ]
+
+  pub assign-spine : (at to : ℕ) (w rest : List Nested) (kids : List Tree)
+      → Spine source_rows d (Term ASSIGN ∷ Term NAME ∷ Term EQUALS ∷ Non EXPR ∷ Term SEMICOLON ∷ []) at w kids to rest → Fits at w → Meant (assign_from tokens kids)
+  assign-spine at to w rest kids (leaf s e (leaf {x = x} r f (leaf q g (node {mid = mid} {u = u} {x = y} n (leaf p h (done k l)))))) fits =
+      meant-two assign_with (spot_of tokens x) (expr_of tokens y) (leaf-meant x (suc at) f (omega arith)) (expr-meant y (suc (suc (suc at))) mid _ u n (omega arith))
+
+  pub assign-meant : (x : Tree) (at to : ℕ) (w rest : List Nested) → Node_of ITEM x at w to rest → Fits at w → Meant (assign_of tokens x)
+  assign-meant x at to w rest n fits = at-kids (assign_from tokens) ITEM x at to w rest n (by_row (row-among ITEM source_rows n.index n.row n.is_row))
+    where
+      by_row : Member (rows_headed ITEM 0 source_rows) (n.index, n.row) → Meant (assign_from tokens n.kids)
+      by_row (inl e) = assign-spine at to w rest n.kids (node-spine source_rows d n _ _ e refl) fits
+      by_row (inr m) = elim m [ ]
