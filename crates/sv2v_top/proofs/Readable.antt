@@ -23,7 +23,7 @@ use Rattle.sv2v_top.specs.declared.sv_build.grammar.TheConstants.{SOURCE, PORTS,
 use Rattle.sv2v_top.specs.declared.sv_build.symbols.TheConstants.{NAME, DECIMAL, BASED, MODULE, ENDMODULE, INPUT, OUTPUT, LOGIC, ASSIGN, OPEN, CLOSE, COMMA, SEMICOLON, LEFT, RIGHT, COLON, EQUALS, AND, OR, XOR, NOT}
 use Rattle.sv2v_top.specs.source.Grammar.{source_rows, row}
 use Rattle.sv2v_top.specs.source.Building.{then_one, then_two, each, kids_in, kids_of, row_in, row_of, spot_at, spot_in, spot_of, primary_from, primary_of, operand_with, operand_from, operand_of, operator_of, binary_with, tail_from, expr_with, expr_from, expr_of, assign_with, assign_from, assign_of, range_with, range_from, range_of, direction_of, head_with, port_with, headed_port, port_from, port_of, more_from, more_of, ports_with, port_list_from, ports_from, body_with, module_from, module_of}
-use Rattle.sv2v_top.proofs.Spines.{Row_read, Node_read, Spine, done, leaf, node, Turns, none_more, one_more, spine, turns, node-advance, node-spine, rows_headed, row-among}
+use Rattle.sv2v_top.proofs.Spines.{Row_read, Node_read, Spine, done, leaf, node, Turns, none_more, one_more, spine, turns, node-advance, node-spine, node-turns, rows_headed, row-among}
 
 -- the option has a value
 pub record Meant {A : Type 0} (o : Option A) : Type 0 where
@@ -152,4 +152,128 @@ module _ (tokens : List Token) (d : ℕ → ℕ) where
     where
       by_row : Member (rows_headed ITEM 0 source_rows) (n.index, n.row) → Meant (assign_from tokens n.kids)
       by_row (inl e) = assign-spine at to w rest n.kids (node-spine source_rows d n _ _ e refl) fits
+      by_row (inr m) = elim m [ ]
+
+  pub no-range : (at to : ℕ) (w rest : List Nested) (kids : List Tree) → Spine source_rows d [] at w kids to rest → Meant (range_from tokens kids)
+  no-range at to w rest kids (done f g) = record { value = None; is = refl }
+
+  pub range-spine : (at to : ℕ) (w rest : List Nested) (kids : List Tree)
+      → Spine source_rows d (Term LEFT ∷ Term DECIMAL ∷ Term COLON ∷ Term DECIMAL ∷ Term RIGHT ∷ []) at w kids to rest → Fits at w → Meant (range_from tokens kids)
+  range-spine at to w rest kids (leaf s e (leaf {x = x} r f (leaf q g (leaf {x = y} p h (leaf o j (done k l)))))) fits =
+      meant-two range_with (spot_of tokens x) (spot_of tokens y) (leaf-meant x (suc at) f (omega arith)) (leaf-meant y (suc (suc (suc at))) h (omega arith))
+
+  pub range-meant : (x : Tree) (at to : ℕ) (w rest : List Nested) → Node_of RANGE x at w to rest → Fits at w → Meant (range_of tokens x)
+  range-meant x at to w rest n fits = at-kids (range_from tokens) RANGE x at to w rest n (by_row (row-among RANGE source_rows n.index n.row n.is_row))
+    where
+      by_row : Member (rows_headed RANGE 0 source_rows) (n.index, n.row) → Meant (range_from tokens n.kids)
+      by_row (inl e) = no-range at to w rest n.kids (node-spine source_rows d n _ _ e refl)
+      by_row (inr (inl e)) = range-spine at to w rest n.kids (node-spine source_rows d n _ _ e refl) fits
+      by_row (inr (inr m)) = elim m [ ]
+
+  pub direction-meant : (x : Tree) (at to : ℕ) (w rest : List Nested) → Node_of DIRECTION x at w to rest → Meant (direction_of (row_of x))
+  direction-meant x at to w rest n =
+      subst (λ i. Meant (direction_of i)) (sym (node-row x n.index n.kids n.is_node)) (by_row (row-among DIRECTION source_rows n.index n.row n.is_row))
+    where
+      index-is : (i : ℕ) (r : Row) → ◌≡◌ {A = ℕ × Row} (n.index, n.row) (i, r) → n.index ≡ i
+      index-is i r e = ap (λ (p : ℕ × Row). p.0) e
+      by_row : Member (rows_headed DIRECTION 0 source_rows) (n.index, n.row) → Meant (direction_of n.index)
+      by_row (inl e) = record { value = Input; is = ap direction_of (index-is _ _ e) }
+      by_row (inr (inl e)) = record { value = Output; is = ap direction_of (index-is _ _ e) }
+      by_row (inr (inr m)) = elim m [ ]
+
+  pub bare-port : (at to : ℕ) (w rest : List Nested) (kids : List Tree) → Spine source_rows d (Term NAME ∷ []) at w kids to rest → Fits at w → Meant (port_from tokens kids)
+  bare-port at to w rest kids (leaf {x = x} s e (done f g)) fits = meant-one (port_with None) (spot_of tokens x) (leaf-meant x at e (omega arith))
+
+  pub port-spine : (at to : ℕ) (w rest : List Nested) (kids : List Tree)
+      → Spine source_rows d (Non DIRECTION ∷ Term LOGIC ∷ Non RANGE ∷ Term NAME ∷ []) at w kids to rest → Fits at w → Meant (port_from tokens kids)
+  port-spine at to w rest kids (node {mid = mid} {u = u} {x = x} n (leaf s e (node {mid = far} {u = v} {x = y} m (leaf {x = z} r f (done g h))))) fits =
+      let first = node-advance source_rows d n in
+      let second = node-advance source_rows d m in
+      meant-two headed_port (then_two head_with (direction_of (row_of x)) (range_of tokens y)) (spot_of tokens z)
+        (meant-two head_with (direction_of (row_of x)) (range_of tokens y) (direction-meant x at mid w u n) (range-meant y (suc mid) far _ v m (omega arith)))
+        (leaf-meant z far f (omega arith))
+
+  pub port-meant : (x : Tree) (at to : ℕ) (w rest : List Nested) → Node_of PORT x at w to rest → Fits at w → Meant (port_of tokens x)
+  port-meant x at to w rest n fits = at-kids (port_from tokens) PORT x at to w rest n (by_row (row-among PORT source_rows n.index n.row n.is_row))
+    where
+      by_row : Member (rows_headed PORT 0 source_rows) (n.index, n.row) → Meant (port_from tokens n.kids)
+      by_row (inl e) = port-spine at to w rest n.kids (node-spine source_rows d n _ _ e refl) fits
+      by_row (inr (inl e)) = bare-port at to w rest n.kids (node-spine source_rows d n _ _ e refl) fits
+      by_row (inr (inr m)) = elim m [ ]
+
+  pub more-spine : (at to : ℕ) (w rest : List Nested) (kids : List Tree) → Spine source_rows d (Term COMMA ∷ Non PORT ∷ []) at w kids to rest → Fits at w → Meant (more_from tokens kids)
+  more-spine at to w rest kids (leaf s e (node {mid = mid} {u = u} {x = x} n (done f g))) fits = port-meant x (suc at) mid _ u n (omega arith)
+
+  pub more-meant : (x : Tree) (at to : ℕ) (w rest : List Nested) → Node_of MORE_PORT x at w to rest → Fits at w → Meant (more_of tokens x)
+  more-meant x at to w rest n fits = at-kids (more_from tokens) MORE_PORT x at to w rest n (by_row (row-among MORE_PORT source_rows n.index n.row n.is_row))
+    where
+      by_row : Member (rows_headed MORE_PORT 0 source_rows) (n.index, n.row) → Meant (more_from tokens n.kids)
+      by_row (inl e) = more-spine at to w rest n.kids (node-spine source_rows d n _ _ e refl) fits
+      by_row (inr m) = elim m [ ]
+
+  -- each turn of a repeated part
+  pub turns-meant : {A : Type 0} (f : Tree → Option A) (h : ℕ)
+      → ((x : Tree) (at to : ℕ) (w rest : List Nested) → Node_of h x at w to rest → Fits at w → Meant (f x))
+      → {at to : ℕ} {w rest : List Nested} {xs : List Tree} → Turns source_rows d h at w xs to rest → Fits at w → Meant (each f xs)
+  turns-meant f h one (none_more e g) fits = record { value = []; is = refl }
+  turns-meant f h one (one_more {mid = mid} {u = u} {x = x} {xs = xs} n more) fits =
+      meant-two (λ y ys. y ∷ ys) (f x) (each f xs) (one x _ mid _ u n fits) (turns-meant f h one more (sym (node-advance source_rows d n) ∙ fits))
+
+  pub more-ports-meant : (x : Tree) (at to : ℕ) (w rest : List Nested) → Node_of MORE_PORTS x at w to rest → Fits at w → Meant (each (more_of tokens) (kids_of x))
+  more-ports-meant x at to w rest n fits = at-kids (each (more_of tokens)) MORE_PORTS x at to w rest n (by_row (row-among MORE_PORTS source_rows n.index n.row n.is_row))
+    where
+      by_row : Member (rows_headed MORE_PORTS 0 source_rows) (n.index, n.row) → Meant (each (more_of tokens) n.kids)
+      by_row (inl e) = turns-meant (more_of tokens) MORE_PORT more-meant (node-turns source_rows d n _ MORE_PORT _ e refl) fits
+      by_row (inr m) = elim m [ ]
+
+  pub items-meant : (x : Tree) (at to : ℕ) (w rest : List Nested) → Node_of ITEMS x at w to rest → Fits at w → Meant (each (assign_of tokens) (kids_of x))
+  items-meant x at to w rest n fits = at-kids (each (assign_of tokens)) ITEMS x at to w rest n (by_row (row-among ITEMS source_rows n.index n.row n.is_row))
+    where
+      by_row : Member (rows_headed ITEMS 0 source_rows) (n.index, n.row) → Meant (each (assign_of tokens) n.kids)
+      by_row (inl e) = turns-meant (assign_of tokens) ITEM assign-meant (node-turns source_rows d n _ ITEM _ e refl) fits
+      by_row (inr m) = elim m [ ]
+
+  pub no-list : (at to : ℕ) (w rest : List Nested) (kids : List Tree) → Spine source_rows d [] at w kids to rest → Meant (port_list_from tokens kids)
+  no-list at to w rest kids (done f g) = record { value = []; is = refl }
+
+  pub list-spine : (at to : ℕ) (w rest : List Nested) (kids : List Tree) → Spine source_rows d (Non PORT ∷ Non MORE_PORTS ∷ []) at w kids to rest → Fits at w → Meant (port_list_from tokens kids)
+  list-spine at to w rest kids (node {mid = mid} {u = u} {x = x} n (node {mid = far} {u = v} {x = y} m (done f g))) fits =
+      let first = node-advance source_rows d n in
+      meant-two ports_with (port_of tokens x) (each (more_of tokens) (kids_of y)) (port-meant x at mid w u n fits) (more-ports-meant y mid far u v m (omega arith))
+
+  pub list-meant : (x : Tree) (at to : ℕ) (w rest : List Nested) → Node_of PORT_LIST x at w to rest → Fits at w → Meant (port_list_from tokens (kids_of x))
+  list-meant x at to w rest n fits = at-kids (port_list_from tokens) PORT_LIST x at to w rest n (by_row (row-among PORT_LIST source_rows n.index n.row n.is_row))
+    where
+      by_row : Member (rows_headed PORT_LIST 0 source_rows) (n.index, n.row) → Meant (port_list_from tokens n.kids)
+      by_row (inl e) = no-list at to w rest n.kids (node-spine source_rows d n _ _ e refl)
+      by_row (inr (inl e)) = list-spine at to w rest n.kids (node-spine source_rows d n _ _ e refl) fits
+      by_row (inr (inr m)) = elim m [ ]
+
+  pub no-ports : (at to : ℕ) (w rest : List Nested) (kids : List Tree) → Spine source_rows d [] at w kids to rest → Meant (ports_from tokens kids)
+  no-ports at to w rest kids (done f g) = record { value = []; is = refl }
+
+  pub ports-spine : (at to : ℕ) (w rest : List Nested) (kids : List Tree) → Spine source_rows d (Term OPEN ∷ Non PORT_LIST ∷ Term CLOSE ∷ []) at w kids to rest → Fits at w → Meant (ports_from tokens kids)
+  ports-spine at to w rest kids (leaf s e (node {mid = mid} {u = u} {x = x} n (leaf r f (done g h)))) fits = list-meant x (suc at) mid _ u n (omega arith)
+
+  pub ports-meant : (x : Tree) (at to : ℕ) (w rest : List Nested) → Node_of PORTS x at w to rest → Fits at w → Meant (ports_from tokens (kids_of x))
+  ports-meant x at to w rest n fits = at-kids (ports_from tokens) PORTS x at to w rest n (by_row (row-among PORTS source_rows n.index n.row n.is_row))
+    where
+      by_row : Member (rows_headed PORTS 0 source_rows) (n.index, n.row) → Meant (ports_from tokens n.kids)
+      by_row (inl e) = no-ports at to w rest n.kids (node-spine source_rows d n _ _ e refl)
+      by_row (inr (inl e)) = ports-spine at to w rest n.kids (node-spine source_rows d n _ _ e refl) fits
+      by_row (inr (inr m)) = elim m [ ]
+
+  pub module-spine : (at to : ℕ) (w rest : List Nested) (kids : List Tree)
+      → Spine source_rows d (Term MODULE ∷ Term NAME ∷ Non PORTS ∷ Term SEMICOLON ∷ Non ITEMS ∷ Term ENDMODULE ∷ []) at w kids to rest → Fits at w → Meant (module_from tokens kids)
+  module-spine at to w rest kids (leaf s e (leaf {x = x} r f (node {mid = mid} {u = u} {x = y} n (leaf q g (node {mid = far} {u = v} {x = z} m (leaf p h (done k l))))))) fits =
+      let first = node-advance source_rows d n in
+      meant-two (λ make name. make name) (then_two body_with (ports_from tokens (kids_of y)) (each (assign_of tokens) (kids_of z))) (spot_of tokens x)
+        (meant-two body_with (ports_from tokens (kids_of y)) (each (assign_of tokens) (kids_of z)) (ports-meant y (suc (suc at)) mid _ u n (omega arith)) (items-meant z (suc mid) far _ v m (omega arith)))
+        (leaf-meant x (suc at) f (omega arith))
+
+  pub module-meant : (x : Tree) (at to : ℕ) (w rest : List Nested) → Node_of SOURCE x at w to rest → Fits at w → Meant (module_of tokens x)
+  module-meant x at to w rest n fits = at-kids (module_from tokens) SOURCE x at to w rest n (by_row (row-among SOURCE source_rows n.index n.row n.is_row))
+    where
+      by_row : Member (rows_headed SOURCE 0 source_rows) (n.index, n.row) → Meant (module_from tokens n.kids)
+      by_row (inl e) = module-spine at to w rest n.kids (node-spine source_rows d n _ _ e refl) fits
       by_row (inr m) = elim m [ ]

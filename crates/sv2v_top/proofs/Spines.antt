@@ -101,6 +101,13 @@ module _ (t : List Row) (d : ℕ → ℕ) where
       let read = subst (λ (r : Row). Row_read r.parts at w n.kids to rest) (ap (λ (p : ℕ × Row). p.1) e) n.inside in
       spine row.parts o read.reads
 
+  -- the turns of a node whose row is a repeated part alone
+  pub node-turns : {h at to : ℕ} {x : Tree} {w rest : List Nested} (n : Node_read h x at w to rest) (i g : ℕ) (row : Row)
+      → ◌≡◌ {A = ℕ × Row} (n.index, n.row) (i, row) → row.parts ≡ Many g ∷ [] → Turns g at w n.kids to rest
+  node-turns {at = at} {to = to} {w = w} {rest = rest} n i g row e o =
+      let read = subst (λ (ps : List Part). Row_read ps at w n.kids to rest) (ap (λ (p : ℕ × Row). p.1.parts) e ∙ o) n.inside in
+      turns read.reads
+
 -- the rows of a head, with their numbers
 abbrev pub numbered_if : Bool → ℕ → Row → List (ℕ × Row) → List (ℕ × Row)
 numbered_if true i row rest = (i, row) ∷ rest
