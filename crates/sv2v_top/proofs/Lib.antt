@@ -7,6 +7,7 @@ pub mod Lookup
 pub mod Outputs
 pub mod Spines
 pub mod Readable
+pub mod Flat
 pub mod Building
 pub mod Checks
 pub mod Sound

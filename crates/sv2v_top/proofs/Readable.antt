@@ -21,9 +21,19 @@ use Rattle.sv2v_top.specs.declared.sv_tree.Primary.{Primary}
 use Rattle.sv2v_top.specs.declared.sv_tree.Primary.TheVariants as P
 use Rattle.sv2v_top.specs.declared.sv_build.grammar.TheConstants.{SOURCE, PORTS, PORT_LIST, MORE_PORTS, MORE_PORT, PORT, DIRECTION, RANGE, ITEMS, ITEM, EXPR, TAIL, OPERAND, PRIMARY}
 use Rattle.sv2v_top.specs.declared.sv_build.symbols.TheConstants.{NAME, DECIMAL, BASED, MODULE, ENDMODULE, INPUT, OUTPUT, LOGIC, ASSIGN, OPEN, CLOSE, COMMA, SEMICOLON, LEFT, RIGHT, COLON, EQUALS, AND, OR, XOR, NOT}
-use Rattle.sv2v_top.specs.source.Grammar.{source_rows, row}
+use Rattle.ll_engine.specs.Texts.{IsReading}
+use Rattle.ll_engine.specs.Texts.{symbol_of as symbol_of_nested}
+use Rattle.sv2v_top.specs.source.Grammar.{source_rows, row, symbol_of}
 use Rattle.sv2v_top.specs.source.Building.{then_one, then_two, each, kids_in, kids_of, row_in, row_of, spot_at, spot_in, spot_of, primary_from, primary_of, operand_with, operand_from, operand_of, operator_of, binary_with, tail_from, expr_with, expr_from, expr_of, assign_with, assign_from, assign_of, range_with, range_from, range_of, direction_of, head_with, port_with, headed_port, port_from, port_of, more_from, more_of, ports_with, port_list_from, ports_from, body_with, module_from, module_of}
 use Rattle.sv2v_top.proofs.Spines.{Row_read, Node_read, Spine, done, leaf, node, Turns, none_more, one_more, spine, turns, node-advance, node-spine, node-turns, rows_headed, row-among}
+
+-- the first row of the table
+abbrev pub first_row : Row
+first_row = row SOURCE (Term MODULE ∷ Term NAME ∷ Non PORTS ∷ Term SEMICOLON ∷ Non ITEMS ∷ Term ENDMODULE ∷ [])
+
+pub length-map : {A B : Type 0} (f : A → B) (xs : List A) → length (map f xs) ≡ length xs
+length-map f [] = refl
+length-map f (x ∷ xs) = ap suc (length-map f xs)
 
 -- the option has a value
 pub record Meant {A : Type 0} (o : Option A) : Type 0 where
@@ -277,3 +287,16 @@ module _ (tokens : List Token) (d : ℕ → ℕ) where
       by_row : Member (rows_headed SOURCE 0 source_rows) (n.index, n.row) → Meant (module_from tokens n.kids)
       by_row (inl e) = module-spine at to w rest n.kids (node-spine source_rows d n _ _ e refl) fits
       by_row (inr m) = elim m [ ]
+
+-- the tokens of a reading mean a module
+pub readable : (tokens : List Token) (limit : ℕ) (tree : Tree) → IsReading source_rows (map symbol_of tokens) limit tree → Meant (module_of tokens tree)
+readable tokens limit tree r = from_spine (spine source_rows suc (Non r.is_text.head ∷ []) refl r.is_text.reads)
+  where
+    is_source : r.is_text.head ≡ SOURCE
+    is_source = (let same : r.is_text.row ≡ first_row = cc in sym r.is_text.is_first.is_of ∙ ap (λ (x : Row). x.head) same)
+    counted : length r.text ≡ length tokens
+    counted = sym (length-map symbol_of_nested r.text) ∙ ap length r.spells ∙ length-map symbol_of tokens
+    from_spine : Spine source_rows suc (Non r.is_text.head ∷ []) 0 r.text (tree ∷ []) r.is_text.to [] → Meant (module_of tokens tree)
+    from_spine (node {mid = mid} {u = u} n more) =
+        module-meant tokens suc tree 0 mid r.text u
+          (subst (λ h. Node_read source_rows suc h tree 0 r.text mid u) is_source n) (let c = counted in omega arith)

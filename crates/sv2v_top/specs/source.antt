@@ -1,5 +1,6 @@
 pub mod Grammar
 pub mod Building
+pub mod Reading
 pub mod Literals
 pub mod Names
 pub mod Lookup
