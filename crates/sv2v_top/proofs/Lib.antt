@@ -8,6 +8,7 @@ pub mod Outputs
 pub mod Spines
 pub mod Readable
 pub mod Flat
+pub mod Fit
 pub mod Building
 pub mod Checks
 pub mod Sound
