@@ -1,0 +1,10 @@
+pub mod Basics
+pub mod Writes
+pub mod Told
+pub mod Settled
+pub mod Open
+pub mod Rounds
+pub mod Settling
+pub mod Traces
+pub mod Orders
+pub mod Laws

@@ -1,0 +1,54 @@
+-- Settling from a started set ends, in one way.
+use Rattle.std.proofs.Common.{◌≡◌, ℕ, zero, suc, ◌+◌, ◌<◌, ◌≤◌, ◌⊎◌, Bool, true, false, not, ◌&&◌, ◌||◌, List, refl, sym, ap, ◌∙◌, subst, inl, inr, arith}
+use Rattle.std.proofs.lemmas.Bool.{and_parts, not-true, or_left, or_right}
+use Rattle.row_machine.specs.Valuation.{Valuation, Member}
+use Rattle.row_machine.specs.Machine.{Process, Machine, Started}
+use Rattle.row_machine.specs.Settle.{Settled, Settles, ends, goes_on, differs, woken, adds}
+use Rattle.row_machine.specs.Order.{Sound}
+use Rattle.row_machine.specs.Rounds.{after_rounds}
+use Rattle.row_machine.proofs.Basics.{true_or_false, clash, any-member}
+use Rattle.row_machine.proofs.Settled.{settled_once}
+use Rattle.row_machine.proofs.Open.{open_weight, open_weight-falls}
+use Rattle.row_machine.proofs.Rounds.{rounds_end}
+
+module _ (d : Machine) (sound : Sound d) (base : Valuation) where
+  -- how many processes aren't started
+  abbrev unstarted : Started → ℕ
+  unstarted s = open_weight (λ p. 1) s d.combs
+
+  fewer_unstarted : (v : Valuation) (s : Started) → adds d v s ≡ true → unstarted (woken d v s) < unstarted s
+  fewer_unstarted v s e =
+      let r = any-member (λ p. not (s p) && differs p.waits_for v d.initial) d.combs e in
+      let both = and_parts (not (s r.0)) (differs r.0.waits_for v d.initial) r.2 in
+      open_weight-falls (λ p. 1) s (woken d v s) d.combs (λ p m h. or_left (s p) (differs p.waits_for v d.initial) h) r.0 r.1 (not-true (s r.0) both.0) (or_right (s r.0) (differs r.0.waits_for v d.initial) both.1) (omega arith)
+
+  pub settled_at : (s : Started) → (v : Valuation) × Settled d s base v
+  settled_at s = let r = rounds_end d sound s base in (after_rounds d s base r.0 base, r.2)
+
+  settles_within : (n : ℕ) (s : Started) → unstarted s ≤ n → (t : Started) × (v : Valuation) × Settles d base s t v
+  settles_within n s le = turn n s le (settled_at s)
+    where
+      turn : (n : ℕ) (s : Started) → unstarted s ≤ n → ((v : Valuation) × Settled d s base v) → (t : Started) × (v : Valuation) × Settles d base s t v
+      turn zero s le r =
+          elim (true_or_false (adds d r.0 s)) [
+            inl more ↦ absurd (omega (arith, fewer_unstarted r.0 s more, le))
+          | inr over ↦ (s, r.0, ends r.1 over)
+          ]
+      turn (suc n) s le r =
+          elim (true_or_false (adds d r.0 s)) [
+            inl more ↦ (let rest = turn n (woken d r.0 s) (omega (arith, fewer_unstarted r.0 s more, le)) (settled_at (woken d r.0 s)) in
+                        (rest.0, rest.1, goes_on r.1 more rest.2))
+          | inr over ↦ (s, r.0, ends r.1 over)
+          ]
+
+  pub settles : (s : Started) → (t : Started) × (v : Valuation) × Settles d base s t v
+  settles s = settles_within (unstarted s) s (omega arith)
+
+  pub settles_alike : {s t u : Started} {v w : Valuation} → Settles d base s t v → Settles d base s u w → (u ≡ t) × (w ≡ v)
+  settles_alike {s = s} (ends {v = v} a over) (ends {v = w} b over') = (refl, settled_once d sound s base w v b a)
+  settles_alike {s = s} (ends {v = v} a over) (goes_on {v = w} b more rest) =
+      clash (adds d w s) more (ap (λ x. adds d x s) (settled_once d sound s base w v b a) ∙ over)
+  settles_alike {s = s} (goes_on {v = v} a more rest) (ends {v = w} b over) =
+      clash (adds d w s) (ap (λ x. adds d x s) (settled_once d sound s base w v b a) ∙ more) over
+  settles_alike {s = s} (goes_on {v = v} {w = z} a more rest) (goes_on {t = u} {v = w} {w = y} b more' rest') =
+      settles_alike rest (subst (λ x. Settles d base (woken d x s) u y) (settled_once d sound s base w v b a) rest')

@@ -1,0 +1,7 @@
+pub mod Valuation
+pub mod Machine
+pub mod Settle
+pub mod Trace
+pub mod Order
+pub mod Rounds
+pub mod Laws
