@@ -8,3 +8,7 @@ pub mod Settling
 pub mod Traces
 pub mod Orders
 pub mod Laws
+pub mod Alike
+pub mod Types
+pub mod Agreement
+pub mod TracesAgree

@@ -5,3 +5,5 @@ pub mod Trace
 pub mod Order
 pub mod Rounds
 pub mod Laws
+pub mod Agreement
+pub mod Alike
