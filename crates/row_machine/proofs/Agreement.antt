@@ -6,7 +6,7 @@ use Rattle.row_machine.specs.Valuation.{Place, Valuation, Changes, Member, has, 
 use Rattle.row_machine.specs.Machine.{Process, EdgeProcess, Machine, Started, told, base_of, after_edges}
 use Rattle.row_machine.specs.Settle.{Settled, Settles, ends, goes_on, differs, woken, adds}
 use Rattle.row_machine.specs.Order.{Sound}
-use Rattle.row_machine.specs.Agreement.{Map, image_or, lifted, Typed, TypedMachine, SoundEdges, Overwritten, SameWrites, Twin, Copy, EdgeTwin, Simulates, SameRow}
+use Rattle.row_machine.specs.Agreement.{Map, image_or, lifted, Typed, TypedMachine, Overwritten, SameWrites, Twin, Copy, EdgeTwin, Simulates, SameRow}
 use Rattle.row_machine.proofs.Basics.{true_or_false, clash, member-any, any-member}
 use Rattle.row_machine.proofs.Writes.{unwritten, written, writer}
 use Rattle.row_machine.proofs.Told.{of_process, at_rest, at_writer, only_if-none, only_if-same}
@@ -16,7 +16,7 @@ some_or_none : {A : Type 0} (o : Option A) → ((x : A) × (o ≡ Some x)) ⊎ (
 some_or_none (Some x) = inl (x, refl)
 some_or_none None = inr refl
 
-none_some : {A C : Type 0} {x : A} (o : Option A) → o ≡ None → o ≡ Some x → C
+pub none_some : {A C : Type 0} {x : A} (o : Option A) → o ≡ None → o ≡ Some x → C
 none_some o n e = absurd (apart (sym n ∙ e))
   where
     apart : {A : Type 0} {x : A} → None ≡ Some x → ⊥
@@ -26,26 +26,26 @@ same_Bool : (a b : Bool) → (a ≡ true → b ≡ true) → (b ≡ true → a �
 same_Bool true b f g = sym (f refl)
 same_Bool false b f g = sym (false_from_ne_true b (λ e. clash false (g e) refl))
 
-module _ (fits : Place → Bit4 → Type 0) (m : Map) where
+module _ (m : Map) where
   pub lifted_image : (v : Valuation) (q q' : Place) → m.origin q' ≡ Some q → lifted m v q' ≡ v q
   lifted_image v q q' e = ap (λ o. image_or o v (m.extra v q')) e
 
   pub lifted_extra : (v : Valuation) (q' : Place) → m.origin q' ≡ None → lifted m v q' ≡ m.extra v q'
   lifted_extra v q' e = ap (λ o. image_or o v (m.extra v q')) e
 
-  module _ (d e : Machine) (simulates : Simulates fits m d e) (sound_d : Sound d) (sound_e : Sound e) where
+  module _ (d e : Machine) (simulates : Simulates m d e) (sound_d : Sound d) (sound_e : Sound e) where
     -- the started sets are alike: twins together, copies and what runs from time zero always
     pub record Matched (s s' : Started) : Type 0 where
-      pub twins : (p t : Process) → Member d.combs p → Member e.combs t → Twin fits m d e p t → s' t ≡ s p
-      pub copies : (t : Process) → Member e.combs t → Copy fits m t → s' t ≡ true
+      pub twins : (p t : Process) → Member d.combs p → Member e.combs t → Twin m d e p t → s' t ≡ s p
+      pub copies : (t : Process) → Member e.combs t → Copy m t → s' t ≡ true
       pub from_zero : (p : Process) → Member d.combs p → p.from_zero ≡ true → s p ≡ true
 
     -- the bases are alike, but for bits that are written anyway
     pub record SameBase (base base' : Valuation) : Type 0 where
-      pub images : (q q' : Place) → m.origin q' ≡ Some q → (base' q' ≡ base q) ⊎ Overwritten fits d q
+      pub images : (q q' : Place) → m.origin q' ≡ Some q → (base' q' ≡ base q) ⊎ Overwritten m d q
       pub others : (q' : Place) → m.origin q' ≡ None → base' q' ≡ e.rest q'
 
-    pub matched_woken : (s s' : Started) (v : Valuation) → Typed fits v → Matched s s' → Matched (woken d v s) (woken e (lifted m v) s')
+    pub matched_woken : (s s' : Started) (v : Valuation) → Typed m v → Matched s s' → Matched (woken d v s) (woken e (lifted m v) s')
     matched_woken s s' v typed h = record {
         twins = λ p t mp mt twin. λ i. h.twins p t mp mt twin i || twin.wakes v typed i;
         copies = λ t mt copy. or_left (s' t) (differs t.waits_for (lifted m v) e.initial) (h.copies t mt copy);
@@ -53,14 +53,14 @@ module _ (fits : Place → Bit4 → Type 0) (m : Map) where
       }
 
     -- the same processes are started next, so settling goes on or ends in both
-    module _ (s s' : Started) (v : Valuation) (typed : Typed fits v) (h : Matched s s') where
+    module _ (s s' : Started) (v : Valuation) (typed : Typed m v) (h : Matched s s') where
       abbrev test : Process → Bool
       test p = not (s p) && differs p.waits_for v d.initial
 
       abbrev test' : Process → Bool
       test' t = not (s' t) && differs t.waits_for (lifted m v) e.initial
 
-      same_test : (p t : Process) → Member d.combs p → Member e.combs t → Twin fits m d e p t → test' t ≡ test p
+      same_test : (p t : Process) → Member d.combs p → Member e.combs t → Twin m d e p t → test' t ≡ test p
       same_test p t mp mt twin = λ i. not (h.twins p t mp mt twin i) && twin.wakes v typed i
 
       no_test : (t : Process) → s' t ≡ true → test' t ≡ false
@@ -83,22 +83,22 @@ module _ (fits : Place → Bit4 → Type 0) (m : Map) where
               let t = simulates.twin r.0 r.1 in
               member-any test' e.combs t.0 t.1 (same_test r.0 t.0 r.1 t.1 t.2 ∙ r.2)
 
-    module _ (s s' : Started) (base base' v : Valuation) (typed : Typed fits v) (h : Matched s s') (bases : SameBase base base') (settled : Settled d s base v) where
+    module _ (s s' : Started) (base base' v : Valuation) (typed : Typed m v) (h : Matched s s') (bases : SameBase base base') (settled : Settled d s base v) where
       after : Place → Bit4
       after q' = put_each (told s' (lifted m v)) e.combs base' q'
 
       -- a bit that a twin writes
-      at_twin : (q q' : Place) → m.origin q' ≡ Some q → (p t : Process) → Member d.combs p → Member e.combs t → Twin fits m d e p t → has p.writes q ≡ true
+      at_twin : (q q' : Place) → m.origin q' ≡ Some q → (p t : Process) → Member d.combs p → Member e.combs t → Twin m d e p t → has p.writes q ≡ true
           → (told s v p q ≡ told s' (lifted m v) t q') × (after q' ≡ changed (told s v p q) (base' q')) × (v q ≡ changed (told s v p q) (base q))
       unfolding after
       at_twin q q' o p t mp mt twin w =
           let same : told s v p q ≡ told s' (lifted m v) t q' =
-                only_if-same (s p) (p.assigns v) (t.assigns (lifted m v)) q q' (sym (twin.assigns v typed q q' o)) ∙ ap (λ b. only_if b (t.assigns (lifted m v)) q') (sym (h.twins p t mp mt twin)) in
+                only_if-same (s p) (p.assigns v) (t.assigns (lifted m v)) q q' (sym (twin.assigns v typed q q' o w)) ∙ ap (λ b. only_if b (t.assigns (lifted m v)) q') (sym (h.twins p t mp mt twin)) in
           (same,
            at_writer e sound_e s' (lifted m v) base' t mt q' (twin.writes.images q q' o ∙ w) ∙ ap (λ x. changed x (base' q')) (sym same),
            ap (λ f. f q) settled ∙ at_writer d sound_d s v base p mp q w)
 
-      always_written : (q : Place) (over : Overwritten fits d q) → has over.by.writes q ≡ true
+      always_written : (q : Place) (over : Overwritten m d q) → has over.by.writes q ≡ true
       always_written q over =
           elim (true_or_false (has over.by.writes q)) [
             inl t ↦ t
@@ -106,7 +106,7 @@ module _ (fits : Place → Bit4 → Type 0) (m : Map) where
           ]
 
       -- a bit that is written in each run
-      at_overwritten : (q q' : Place) → m.origin q' ≡ Some q → Overwritten fits d q → v q ≡ after q'
+      at_overwritten : (q q' : Place) → m.origin q' ≡ Some q → Overwritten m d q → v q ≡ after q'
       at_overwritten q q' o over =
           let t = simulates.twin over.by over.is_process in
           let r = at_twin q q' o over.by t.0 over.is_process t.1 t.2 (always_written q over) in

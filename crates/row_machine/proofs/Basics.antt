@@ -57,3 +57,7 @@ true_or_false false = inr refl
 
 pub clash : {C : Type 0} (b : Bool) → b ≡ true → b ≡ false → C
 clash b t f = absurd (false≢true (sym f ∙ t))
+
+-- the bit by which a process follows another
+pub followed_bit : (p q : Process) → follows p q ≡ true → (r : Place) × (has p.reads r ≡ true) × (has q.writes r ≡ true)
+followed_bit p q f = let r = any-member (has q.writes) p.reads f in (r.0, member-has p.reads r.0 r.1, r.2)

@@ -2,6 +2,7 @@ pub mod Basics
 pub mod Writes
 pub mod Told
 pub mod Settled
+pub mod Unique
 pub mod Open
 pub mod Rounds
 pub mod Settling
@@ -12,3 +13,6 @@ pub mod Alike
 pub mod Types
 pub mod Agreement
 pub mod TracesAgree
+pub mod RoundTraces
+pub mod Dependence
+pub mod Translation

@@ -1,4 +1,4 @@
--- Settling from a started set ends, in one way.
+-- Settling from a started set ends.
 use Rattle.std.proofs.Common.{◌≡◌, ℕ, zero, suc, ◌+◌, ◌<◌, ◌≤◌, ◌⊎◌, Bool, true, false, not, ◌&&◌, ◌||◌, List, refl, sym, ap, ◌∙◌, subst, inl, inr, arith}
 use Rattle.std.proofs.lemmas.Bool.{and_parts, not-true, or_left, or_right}
 use Rattle.row_machine.specs.Valuation.{Valuation, Member}
@@ -43,12 +43,3 @@ module _ (d : Machine) (sound : Sound d) (base : Valuation) where
 
   pub settles : (s : Started) → (t : Started) × (v : Valuation) × Settles d base s t v
   settles s = settles_within (unstarted s) s (omega arith)
-
-  pub settles_alike : {s t u : Started} {v w : Valuation} → Settles d base s t v → Settles d base s u w → (u ≡ t) × (w ≡ v)
-  settles_alike {s = s} (ends {v = v} a over) (ends {v = w} b over') = (refl, settled_once d sound s base w v b a)
-  settles_alike {s = s} (ends {v = v} a over) (goes_on {v = w} b more rest) =
-      clash (adds d w s) more (ap (λ x. adds d x s) (settled_once d sound s base w v b a) ∙ over)
-  settles_alike {s = s} (goes_on {v = v} a more rest) (ends {v = w} b over) =
-      clash (adds d w s) (ap (λ x. adds d x s) (settled_once d sound s base w v b a) ∙ more) over
-  settles_alike {s = s} (goes_on {v = v} {w = z} a more rest) (goes_on {t = u} {v = w} {w = y} b more' rest') =
-      settles_alike rest (subst (λ x. Settles d base (woken d x s) u y) (settled_once d sound s base w v b a) rest')

@@ -2,10 +2,12 @@
 use Rattle.std.proofs.Common.{◌≡◌, List, [], ◌∷◌, refl, sym, ap, ◌∙◌, subst}
 use Rattle.row_machine.specs.Valuation.{Valuation}
 use Rattle.row_machine.specs.Machine.{Machine, Started, at_zero, base_of, after_edges}
-use Rattle.row_machine.specs.Settle.{Settles}
+use Rattle.row_machine.specs.Settle.{Settled, Settles}
 use Rattle.row_machine.specs.Trace.{RowStep, Trace, done, row, HasTrace, OneTrace}
 use Rattle.row_machine.specs.Order.{Sound}
-use Rattle.row_machine.proofs.Settling.{settles, settles_alike}
+use Rattle.row_machine.proofs.Settled.{settled_once}
+use Rattle.row_machine.proofs.Settling.{settles}
+use Rattle.row_machine.proofs.Unique.{trace_once}
 
 module _ (d : Machine) (sound : Sound d) where
   pub steps : (r last held : Valuation) (s : Started) → (t : Started) × (v : Valuation) × RowStep d r last held s t v
@@ -13,13 +15,6 @@ module _ (d : Machine) (sound : Sound d) where
       let first = settles d sound (base_of d r held) s in
       let second = settles d sound (base_of d r (after_edges d last first.1)) first.0 in
       (second.0, second.1, record { quiet = first.1; started = first.0; inputs_settle = first.2; updates_settle = second.2 })
-
-  pub steps_alike : (r last held : Valuation) (s t u : Started) (v w : Valuation) → RowStep d r last held s t v → RowStep d r last held s u w → (u ≡ t) × (w ≡ v)
-  steps_alike r last held s t u v w a b =
-      let first = settles_alike d sound (base_of d r held) a.inputs_settle b.inputs_settle in
-      settles_alike d sound (base_of d r (after_edges d last a.quiet)) a.updates_settle
-        (subst (λ (x : Valuation). Settles d (base_of d r (after_edges d last x)) a.started u w) first.1
-          (subst (λ (x : Started). Settles d (base_of d r (after_edges d last b.quiet)) x u w) first.0 b.updates_settle))
 
   pub has_trace : (rows : List Valuation) (last held : Valuation) (s : Started) → (vs : List Valuation) × Trace d last held s rows vs
   has_trace [] last held s = ([], done)
@@ -29,11 +24,7 @@ module _ (d : Machine) (sound : Sound d) where
       (one.1 ∷ rest.0, row one.2 rest.1)
 
   pub traces_alike : {last held : Valuation} {s : Started} {rows vs us : List Valuation} → Trace d last held s rows vs → Trace d last held s rows us → us ≡ vs
-  traces_alike done done = refl
-  traces_alike (row {r = r} {last = last} {held = held} {v = v} {s = s} {t = t} {rows = rows} {vs = vs} a rest) (row {v = w} {t = u} {vs = us} b rest') =
-      let same = steps_alike r last held s t u v w a b in
-      let moved = subst (λ (x : Valuation). Trace d x x t rows us) same.1 (subst (λ (x : Started). Trace d w w x rows us) same.0 rest') in
-      λ i. same.1 i ∷ traces_alike rest moved i
+  traces_alike a b = trace_once (Settled d) (λ s base v u x y. settled_once d sound s base u v y x) d a b
 
   pub one_trace : (rows : List Valuation) → OneTrace d rows
   one_trace rows =

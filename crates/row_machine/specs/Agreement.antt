@@ -2,6 +2,7 @@
 use Rattle.std.specs.Prelude.{◌≡◌, ◌⊎◌, Bool, true, false, List, map, Option, Some, None}
 use Rattle.std.specs.List.{AllZip}
 use Rattle.b4_core.specs.declared.bit.Bit4.{Bit4}
+use Rattle.b4_core.specs.declared.bit.Bit4.TheVariants.{Zero, One, X, Z}
 use Rattle.row_machine.specs.Valuation.{Place, Valuation, Changes, Member, has, NoneWrites, OneWriter}
 use Rattle.row_machine.specs.Machine.{Process, EdgeProcess, Machine}
 use Rattle.row_machine.specs.Settle.{differs}
@@ -13,6 +14,8 @@ pub record Map : Type 0 where
   pub origin : Place → Option Place
   -- what any other target bit holds
   pub extra : Valuation → Place → Bit4
+  -- whether a source bit is of a two-state type (IEEE 1800-2017 clause 6.11.2)
+  pub two_state : Place → Bool
 
 abbrev pub image_or : Option Place → Valuation → Bit4 → Bit4
 image_or (Some q) v b = v q
@@ -22,33 +25,38 @@ image_or None v b = b
 abbrev pub lifted : Map → Valuation → Valuation
 lifted m v q = image_or (m.origin q) v (m.extra v q)
 
--- each bit holds a value of its type: a bit of a two-state type holds 0 or 1 (IEEE 1800-2017 clause 6.11.2)
-abbrev pub Typed : (Place → Bit4 → Type 0) → Valuation → Type 0
-Typed fits v = (q : Place) → fits q (v q)
+abbrev pub is_known : Bit4 → Bool
+is_known Zero = true
+is_known One = true
+is_known X = false
+is_known Z = false
+
+-- a bit of a two-state type holds 0 or 1
+abbrev pub Fits : Map → Place → Bit4 → Type 0
+Fits m q b = m.two_state q ≡ true → is_known b ≡ true
+
+-- each bit holds a value of its type
+abbrev pub Typed : Map → Valuation → Type 0
+Typed m v = (q : Place) → Fits m q (v q)
 
 -- what is assigned on typed valuations is typed
-abbrev pub KeepsTypes : (Place → Bit4 → Type 0) → (Valuation → Changes) → Type 0
-KeepsTypes fits assigns = (v : Valuation) → Typed fits v → (q : Place) (b : Bit4) → assigns v q ≡ Some b → fits q b
+abbrev pub KeepsTypes : Map → (Valuation → Changes) → Type 0
+KeepsTypes m assigns = (v : Valuation) → Typed m v → (q : Place) (b : Bit4) → assigns v q ≡ Some b → Fits m q b
 
-pub record TypedMachine (fits : Place → Bit4 → Type 0) (d : Machine) : Type 0 where
-  pub start : Typed fits d.start
-  pub rest : Typed fits d.rest
-  pub combs : (p : Process) → Member d.combs p → KeepsTypes fits p.assigns
-  pub edges : (p : EdgeProcess) → Member d.edges p → KeepsTypes fits p.updates
-
--- edge processes write only their own bits
-pub record SoundEdges (d : Machine) : Type 0 where
-  pub within : (p : EdgeProcess) → Member d.edges p → (v : Valuation) (q : Place) → has p.writes q ≡ false → p.updates v q ≡ None
-  pub one_writer : OneWriter (λ (p : EdgeProcess). p.writes) d.edges
+pub record TypedMachine (m : Map) (d : Machine) : Type 0 where
+  pub start : Typed m d.start
+  pub rest : Typed m d.rest
+  pub combs : (p : Process) → Member d.combs p → KeepsTypes m p.assigns
+  pub edges : (p : EdgeProcess) → Member d.edges p → KeepsTypes m p.updates
 
 -- a process that runs from time zero writes the bit in each run, so what it held before doesn't matter
-pub record Overwritten (fits : Place → Bit4 → Type 0) (d : Machine) (q : Place) : Type 0 where
+pub record Overwritten (m : Map) (d : Machine) (q : Place) : Type 0 where
   pub by : Process
   pub is_process : Member d.combs by
   pub from_zero : by.from_zero ≡ true
-  pub always : (v : Valuation) → Typed fits v → (b : Bit4) × (by.assigns v q ≡ Some b)
+  pub always : (v : Valuation) → Typed m v → (b : Bit4) × (by.assigns v q ≡ Some b)
 
-module _ (fits : Place → Bit4 → Type 0) (m : Map) where
+module _ (m : Map) where
   -- the target process writes the images of what the source process writes
   pub record SameWrites (source target : List Place) : Type 0 where
     pub images : (q q' : Place) → m.origin q' ≡ Some q → has target q' ≡ has source q
@@ -58,29 +66,29 @@ module _ (fits : Place → Bit4 → Type 0) (m : Map) where
   pub record Twin (d e : Machine) (p t : Process) : Type 0 where
     pub from_zero : t.from_zero ≡ p.from_zero
     pub writes : SameWrites p.writes t.writes
-    pub assigns : (v : Valuation) → Typed fits v → (q q' : Place) → m.origin q' ≡ Some q → t.assigns (lifted m v) q' ≡ p.assigns v q
-    pub wakes : (v : Valuation) → Typed fits v → differs t.waits_for (lifted m v) e.initial ≡ differs p.waits_for v d.initial
+    pub assigns : (v : Valuation) → Typed m v → (q q' : Place) → m.origin q' ≡ Some q → has p.writes q ≡ true → t.assigns (lifted m v) q' ≡ p.assigns v q
+    pub wakes : (v : Valuation) → Typed m v → differs t.waits_for (lifted m v) e.initial ≡ differs p.waits_for v d.initial
 
   -- the target process t sets bits that are no images to what they hold
   pub record Copy (t : Process) : Type 0 where
     pub from_zero : t.from_zero ≡ true
     pub writes : (q' : Place) → has t.writes q' ≡ true → m.origin q' ≡ None
-    pub assigns : (v : Valuation) → Typed fits v → (q' : Place) → has t.writes q' ≡ true → t.assigns (lifted m v) q' ≡ Some (m.extra v q')
+    pub assigns : (v : Valuation) → Typed m v → (q' : Place) → has t.writes q' ≡ true → t.assigns (lifted m v) q' ≡ Some (m.extra v q')
 
   -- the edge process t does what p does, in the first row and later
   pub record EdgeTwin (d e : Machine) (p t : EdgeProcess) : Type 0 where
     pub writes : SameWrites p.writes t.writes
-    pub first : (w : Valuation) → Typed fits w → t.runs e.initial (lifted m w) ≡ p.runs d.initial w
-    pub later : (v w : Valuation) → Typed fits v → Typed fits w → t.runs (lifted m v) (lifted m w) ≡ p.runs v w
-    pub updates : (w : Valuation) → Typed fits w → (q q' : Place) → m.origin q' ≡ Some q → t.updates (lifted m w) q' ≡ p.updates w q
+    pub first : (w : Valuation) → Typed m w → t.runs e.initial (lifted m w) ≡ p.runs d.initial w
+    pub later : (v w : Valuation) → Typed m v → Typed m w → t.runs (lifted m v) (lifted m w) ≡ p.runs v w
+    pub updates : (w : Valuation) → Typed m w → (q q' : Place) → m.origin q' ≡ Some q → has p.writes q ≡ true → t.updates (lifted m w) q' ≡ p.updates w q
 
   -- the target e has a process for each process of the source d, and copies
   pub record Simulates (d e : Machine) : Type 0 where
     pub inputs : SameWrites d.inputs e.inputs
     pub registers : SameWrites d.registers e.registers
     pub start : (q q' : Place) → m.origin q' ≡ Some q → has d.registers q ≡ true → e.start q' ≡ d.start q
-    pub rest : (q q' : Place) → m.origin q' ≡ Some q → has d.inputs q ≡ false → has d.registers q ≡ false → (e.rest q' ≡ d.rest q) ⊎ Overwritten fits d q
-    pub unwritten : (q' : Place) → m.origin q' ≡ None → NoneWrites (λ (p : Process). p.writes) e.combs q' → (v : Valuation) → Typed fits v → m.extra v q' ≡ e.rest q'
+    pub rest : (q q' : Place) → m.origin q' ≡ Some q → has d.inputs q ≡ false → has d.registers q ≡ false → (e.rest q' ≡ d.rest q) ⊎ Overwritten m d q
+    pub unwritten : (q' : Place) → m.origin q' ≡ None → NoneWrites (λ (p : Process). p.writes) e.combs q' → (v : Valuation) → Typed m v → m.extra v q' ≡ e.rest q'
     pub twin : (p : Process) → Member d.combs p → (t : Process) × Member e.combs t × Twin d e p t
     pub source : (t : Process) → Member e.combs t → ((p : Process) × Member d.combs p × Twin d e p t) ⊎ Copy t
     pub edge_twin : (p : EdgeProcess) → Member d.edges p → (t : EdgeProcess) × Member e.edges t × EdgeTwin d e p t
@@ -88,7 +96,7 @@ module _ (fits : Place → Bit4 → Type 0) (m : Map) where
 
   -- a row of the target gives its inputs the values that the source's row gives, which are of their types
   pub record SameRow (d : Machine) (row row' : Valuation) : Type 0 where
-    pub typed : (q : Place) → has d.inputs q ≡ true → fits q (row q)
+    pub typed : (q : Place) → has d.inputs q ≡ true → Fits m q (row q)
     pub images : (q q' : Place) → m.origin q' ≡ Some q → has d.inputs q ≡ true → row' q' ≡ row q
 
   -- the traces of the two agree both ways

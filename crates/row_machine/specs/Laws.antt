@@ -1,11 +1,16 @@
--- The laws of machines over rows, each a contract of a function of this crate.
-use Rattle.std.specs.Prelude.{◌≡◌, List}
+-- The laws of machines over rows. Each is the contract of a function of this crate.
+use Rattle.std.specs.Prelude.{◌≡◌, ◌↔◌, false, List}
+use Rattle.std.specs.List.{AllZip}
 use Rattle.row_machine.specs.Valuation.{Valuation, Member}
 use Rattle.row_machine.specs.Machine.{Process, Machine, Started}
 use Rattle.row_machine.specs.Settle.{Settled, Settles}
-use Rattle.row_machine.specs.Trace.{OneTrace}
-use Rattle.row_machine.specs.Order.{Sound, Free, IsOrder, run}
-use Rattle.row_machine.specs.Rounds.{Reaches}
+use Rattle.row_machine.specs.Trace.{HasTrace, OneTrace}
+use Rattle.row_machine.specs.Order.{Sound, Free, follows, IsOrder, run}
+use Rattle.row_machine.specs.Rounds.{Reaches, HasRoundTrace}
+use Rattle.row_machine.specs.Alike.{Alike}
+use Rattle.row_machine.specs.Agreement.{Map, TypedMachine, Simulates, SameRow, TracesAgree}
+use Rattle.row_machine.specs.Dependence.{AddsNoDependence}
+use Rattle.row_machine.specs.Translation.{Refines, Translates, identity}
 
 -- over a base and a started set a sound machine has exactly one settled valuation
 abbrev pub OneSettled : Type 0
@@ -25,6 +30,10 @@ EachHasOneTrace = (d : Machine) → Sound d → (rows : List Valuation) → OneT
 abbrev pub OrderFrees : Type 0
 OrderFrees = (ps qs : List Process) → IsOrder ps qs → (p : Process) → Member ps p → Free ps p
 
+-- so are processes none of which follows another
+abbrev pub IndependentAreFree : Type 0
+IndependentAreFree = (ps : List Process) → ((p q : Process) → Member ps p → Member ps q → follows p q ≡ false) → (p : Process) → Member ps p → Free ps p
+
 -- one run in an order settles
 abbrev pub OneRunSettles : Type 0
 OneRunSettles = (d : Machine) → Sound d → (qs : List Process) → IsOrder d.combs qs → (s : Started) (base : Valuation)
@@ -33,3 +42,36 @@ OneRunSettles = (d : Machine) → Sound d → (qs : List Process) → IsOrder d.
 -- the rounds reach each settled valuation
 abbrev pub RoundsReach : Type 0
 RoundsReach = (d : Machine) → Sound d → (s : Started) (base v : Valuation) → Settled d s base v → Reaches d s base v
+
+-- so the trace is the trace by rounds
+abbrev pub RoundsTrace : Type 0
+RoundsTrace = (d : Machine) → Sound d → (rows vs : List Valuation) → HasTrace d rows vs ↔ HasRoundTrace d rows vs
+
+-- of any machine, sound or not, a trace by rounds is a trace, and there is at most one
+abbrev pub RoundTraceIsTrace : Type 0
+RoundTraceIsTrace = (d : Machine) (rows vs : List Valuation) → HasRoundTrace d rows vs → HasTrace d rows vs
+
+abbrev pub OneRoundTrace : Type 0
+OneRoundTrace = (d : Machine) (rows vs us : List Valuation) → HasRoundTrace d rows vs → HasRoundTrace d rows us → us ≡ vs
+
+-- machines that are alike are equal
+abbrev pub AlikeAreEqual : Type 0
+AlikeAreEqual = (d e : Machine) → Alike d e → d ≡ e
+
+-- a target that simulates its source has its traces
+abbrev pub SimulationAgrees : Type 0
+SimulationAgrees = (m : Map) (d e : Machine) → Simulates m d e → TypedMachine m d → Sound d → Sound e
+    → (rows rows' : List Valuation) → AllZip (SameRow m d) rows rows' → TracesAgree m d e rows rows'
+
+-- copies get no process stuck
+abbrev pub TargetIsFree : Type 0
+TargetIsFree = (m : Map) (d e : Machine) → AddsNoDependence m d e → ((p : Process) → Member d.combs p → Free d.combs p)
+    → (t : Process) → Member e.combs t → Free e.combs t
+
+-- a target that refines its source translates it
+abbrev pub RefinementTranslates : Type 0
+RefinementTranslates = (m : Map) (d e : Machine) → Refines m d e → Translates m d e
+
+-- a target that is alike translates a sound source
+abbrev pub AlikeTranslates : Type 0
+AlikeTranslates = (d e : Machine) → Alike d e → Sound d → Translates identity d e

@@ -7,3 +7,5 @@ pub mod Rounds
 pub mod Laws
 pub mod Agreement
 pub mod Alike
+pub mod Dependence
+pub mod Translation

@@ -2,7 +2,7 @@
 use Rattle.std.specs.Prelude.{◌≡◌, Bool, true, false, ⊤, List, [], ◌∷◌, None}
 use Rattle.std.specs.List.{list_any}
 use Rattle.row_machine.specs.Valuation.{Place, Valuation, Member, has, put, OneWriter}
-use Rattle.row_machine.specs.Machine.{Process, Machine, Started, told}
+use Rattle.row_machine.specs.Machine.{Process, EdgeProcess, Machine, Started, told}
 
 -- the process hangs on the bits that it reads alone, and assigns only bits that it may write
 pub record Honest (p : Process) : Type 0 where
@@ -17,9 +17,17 @@ follows p q = list_any (has q.writes) p.reads
 pub data Free (ps : List Process) : Process → Type 0 where
   free : {p : Process} → ((q : Process) → Member ps q → follows p q ≡ true → Free ps q) → Free ps p
 
-pub record Sound (d : Machine) : Type 0 where
+-- each process writes only its own bits, each combinational process hangs on its reads alone, and no bit has two writers
+pub record WellWritten (d : Machine) : Type 0 where
   pub honest : (p : Process) → Member d.combs p → Honest p
   pub one_writer : OneWriter (λ (p : Process). p.writes) d.combs
+  pub edges_within : (p : EdgeProcess) → Member d.edges p → (v : Valuation) (q : Place) → has p.writes q ≡ false → p.updates v q ≡ None
+  pub edges_one_writer : OneWriter (λ (p : EdgeProcess). p.writes) d.edges
+
+-- well written, and no combinational process is stuck
+pub record Sound (d : Machine) : Type 0 where
+  pub well_written : WellWritten d
+  pub open well_written use *
   pub all_free : (p : Process) → Member d.combs p → Free d.combs p
 
 -- no process follows itself or a later one

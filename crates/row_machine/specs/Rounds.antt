@@ -2,7 +2,8 @@
 -- when it is run on the valuation at the round's start.
 use Rattle.std.specs.Prelude.{◌≡◌, ℕ, zero, suc, ◌+◌, ◌<◌, List, [], ◌∷◌, length}
 use Rattle.row_machine.specs.Valuation.{Valuation, put_each}
-use Rattle.row_machine.specs.Machine.{Process, Machine, Started, told}
+use Rattle.row_machine.specs.Machine.{Process, Machine, Started, at_zero, told}
+use Rattle.row_machine.specs.Trace.{TraceBy}
 
 abbrev pub round : Machine → Started → Valuation → Valuation → Valuation
 round d s base v = put_each (told s v) d.combs base
@@ -25,3 +26,7 @@ pub record Reaches (d : Machine) (s : Started) (base v : Valuation) : Type 0 whe
   pub within : rounds < round_limit d
   pub reached : after_rounds d s base rounds base ≡ v
   pub stays : round d s base v ≡ v
+
+-- the trace of a machine that is run by rounds
+abbrev pub HasRoundTrace : Machine → List Valuation → List Valuation → Type 0
+HasRoundTrace d rows vs = TraceBy (Reaches d) d d.initial d.start at_zero rows vs

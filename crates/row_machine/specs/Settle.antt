@@ -30,7 +30,11 @@ woken d v s p = s p || differs p.waits_for v d.initial
 abbrev pub adds : Machine → Valuation → Started → Bool
 adds d v s = list_any (λ p. not (s p) && differs p.waits_for v d.initial) d.combs
 
--- settling from one set of started processes ends with another one and a valuation
-pub data Settles (d : Machine) (base : Valuation) : Started → Started → Valuation → Type 0 where
-  ends : {s : Started} {v : Valuation} → Settled d s base v → adds d v s ≡ false → Settles d base s s v
-  goes_on : {s t : Started} {v w : Valuation} → Settled d s base v → adds d v s ≡ true → Settles d base (woken d v s) t w → Settles d base s t w
+-- Settling from one set of started processes ends with another one and a valuation.
+-- `IsSettled` says which valuation is settled over a started set and a base.
+pub data SettlesBy (IsSettled : Started → Valuation → Valuation → Type 0) (d : Machine) (base : Valuation) : Started → Started → Valuation → Type 0 where
+  ends : {s : Started} {v : Valuation} → IsSettled s base v → adds d v s ≡ false → SettlesBy IsSettled d base s s v
+  goes_on : {s t : Started} {v w : Valuation} → IsSettled s base v → adds d v s ≡ true → SettlesBy IsSettled d base (woken d v s) t w → SettlesBy IsSettled d base s t w
+
+abbrev pub Settles : Machine → Valuation → Started → Started → Valuation → Type 0
+Settles d = SettlesBy (Settled d) d

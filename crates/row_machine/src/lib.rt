@@ -1,9 +1,16 @@
 //! Designs over rows, as abstract machines: what settles, what a row step does, and the laws of both.
+//!
+//! A machine stands for a source design and for a target design alike; the definitions are in `specs/`.
+//! Each function here carries one law as its contract and does nothing. The proofs of the laws, to be cited by
+//! crates above, are in `proofs/Laws.antt` under the functions' names.
 #![tactic(auto)]
 
-ghost use Rattle.row_machine.specs.Laws.{OneSettled, SettlingEnds, EachHasOneTrace, OrderFrees, OneRunSettles, RoundsReach};
+ghost use Rattle.row_machine.specs.Laws.{
+    AlikeAreEqual, AlikeTranslates, EachHasOneTrace, IndependentAreFree, OneRoundTrace, OneRunSettles, OneSettled, OrderFrees, RefinementTranslates,
+    RoundTraceIsTrace, RoundsReach, RoundsTrace, SettlingEnds, SimulationAgrees, TargetIsFree,
+};
 
-/// A sound machine has exactly one settled valuation over a base and a set of started processes.
+/// Over a base and a set of started processes a sound machine has exactly one settled valuation.
 pub fn one_settled()
     ensures { OneSettled }
 {
@@ -21,20 +28,75 @@ pub fn one_trace()
 {
 }
 
-/// Processes that stand in an order, none following itself or a later one, are free.
+/// Processes that stand in an order, none following itself or a later one, are free: none is stuck.
 pub fn order_frees()
     ensures { OrderFrees }
 {
 }
 
-/// One run in an order gives the settled valuation.
+/// Processes none of which reads a bit that one of them writes are free.
+pub fn independent_are_free()
+    ensures { IndependentAreFree }
+{
+}
+
+/// One run of the processes in an order gives the settled valuation.
 pub fn one_run_settles()
     ensures { OneRunSettles }
 {
 }
 
-/// From the base, the rounds reach the settled valuation within one more than the bits that the processes may write.
+/// From the base, the rounds of a sound machine reach the settled valuation within the round limit,
+/// which is one more than the number of bits that its combinational processes may write.
 pub fn rounds_reach()
     ensures { RoundsReach }
+{
+}
+
+/// The trace of a sound machine is its trace by rounds.
+pub fn rounds_trace()
+    ensures { RoundsTrace }
+{
+}
+
+/// A trace by rounds of any machine is a trace.
+pub fn round_trace_is_trace()
+    ensures { RoundTraceIsTrace }
+{
+}
+
+/// Any machine has at most one trace by rounds.
+pub fn one_round_trace()
+    ensures { OneRoundTrace }
+{
+}
+
+/// Machines whose processes and values are alike at each point are equal.
+pub fn alike_are_equal()
+    ensures { AlikeAreEqual }
+{
+}
+
+/// A target that simulates its source has the source's traces and no others, for rows that are alike.
+pub fn simulation_agrees()
+    ensures { SimulationAgrees }
+{
+}
+
+/// Where no source process is stuck and copies add no dependence, no target process is stuck.
+pub fn target_is_free()
+    ensures { TargetIsFree }
+{
+}
+
+/// A target that refines its source translates it: one trace on each side, traces that agree, rounds that reach.
+pub fn refinement_translates()
+    ensures { RefinementTranslates }
+{
+}
+
+/// A target that is alike at each point translates a sound source.
+pub fn alike_translates()
+    ensures { AlikeTranslates }
 {
 }
