@@ -2,8 +2,7 @@
 use Rattle.std.proofs.Common.{◌≡◌, sym, ◌∙◌}
 use Rattle.row_machine.specs.Settle.{Settled}
 use Rattle.row_machine.specs.Order.{free, follows}
-use Rattle.row_machine.specs.Rounds.{round}
-use Rattle.row_machine.specs.Laws.{OneSettled, SettlingEnds, EachHasOneTrace, OrderFrees, IndependentAreFree, OneRunSettles, RoundsReach, RoundsTrace, RoundTraceIsTrace, OneRoundTrace, AlikeAreEqual, SimulationAgrees, TargetIsFree, RefinementTranslates, AlikeTranslates}
+use Rattle.row_machine.specs.Laws.{OneSettled, SettlingEnds, EachHasOneTrace, OrderFrees, IndependentAreFree, OneRunSettles, RunsTrace, RoundsReach, RoundsTrace, RoundTraceIsTrace, OneRoundTrace, AlikeAreEqual, SimulationAgrees, TargetIsFree, RefinementTranslates, AlikeTranslates}
 use Rattle.row_machine.proofs.Basics.{clash}
 use Rattle.row_machine.proofs.Settled.{settled_once}
 use Rattle.row_machine.proofs.Settling.{settled_at, settles}
@@ -12,6 +11,7 @@ use Rattle.row_machine.proofs.Rounds.{reaches}
 use Rattle.row_machine.proofs.Traces as Traces
 use Rattle.row_machine.proofs.Orders as Orders
 use Rattle.row_machine.proofs.RoundTraces as RoundTraces
+use Rattle.row_machine.proofs.Runs as Runs
 use Rattle.row_machine.proofs.Alike as Alike
 use Rattle.row_machine.proofs.TracesAgree as TracesAgree
 use Rattle.row_machine.proofs.Dependence as Dependence
@@ -37,10 +37,10 @@ pub independent_are_free : IndependentAreFree
 independent_are_free ps none p m = free (λ q mq f. clash (follows p q) f (none p q m mq))
 
 pub one_run_settles : OneRunSettles
-one_run_settles d sound qs order s base =
-    let r = settled_at d sound base s in
-    let same = Orders.run_settles d sound s base r.0 r.1 qs order in
-    same ∙ r.1 ∙ (λ i. round d s base (sym same i))
+one_run_settles = Runs.one_run
+
+pub runs_trace : RunsTrace
+runs_trace = Runs.runs_trace
 
 pub rounds_reach : RoundsReach
 rounds_reach d sound s base v settled = reaches d sound s base v settled

@@ -16,3 +16,6 @@ pub mod TracesAgree
 pub mod RoundTraces
 pub mod Dependence
 pub mod Translation
+pub mod Members
+pub mod Assignments
+pub mod Runs

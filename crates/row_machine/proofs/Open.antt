@@ -3,11 +3,12 @@ use Rattle.std.proofs.Common.{◌≡◌, ℕ, zero, suc, ◌+◌, ◌<◌, ◌�
 use Rattle.row_machine.specs.Valuation.{Member}
 use Rattle.row_machine.proofs.Basics.{true_or_false, clash}
 
-module _ {A : Type 0} (weight : A → ℕ) where
-  abbrev pub share : Bool → ℕ → ℕ
-  share true n = 0
-  share false n = n
+-- what counts of a weight, none once it is done
+abbrev pub share : Bool → ℕ → ℕ
+share true n = 0
+share false n = n
 
+module _ {A : Type 0} (weight : A → ℕ) where
   abbrev pub open_weight : (A → Bool) → List A → ℕ
   open_weight is_done [] = 0
   open_weight is_done (x ∷ xs) = share (is_done x) (weight x) + open_weight is_done xs

@@ -13,10 +13,10 @@ use Rattle.row_machine.proofs.Rounds.{rounds_end}
 
 module _ (d : Machine) (sound : Sound d) (base : Valuation) where
   -- how many processes aren't started
-  abbrev unstarted : Started → ℕ
+  abbrev pub unstarted : Started → ℕ
   unstarted s = open_weight (λ p. 1) s d.combs
 
-  fewer_unstarted : (v : Valuation) (s : Started) → adds d v s ≡ true → unstarted (woken d v s) < unstarted s
+  pub fewer_unstarted : (v : Valuation) (s : Started) → adds d v s ≡ true → unstarted (woken d v s) < unstarted s
   fewer_unstarted v s e =
       let r = any-member (λ p. not (s p) && differs p.waits_for v d.initial) d.combs e in
       let both = and_parts (not (s r.0)) (differs r.0.waits_for v d.initial) r.2 in

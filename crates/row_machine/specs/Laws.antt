@@ -6,6 +6,7 @@ use Rattle.row_machine.specs.Machine.{Process, Machine, Started}
 use Rattle.row_machine.specs.Settle.{Settled, Settles}
 use Rattle.row_machine.specs.Trace.{HasTrace, OneTrace}
 use Rattle.row_machine.specs.Order.{Sound, Free, follows, IsOrder, run}
+use Rattle.row_machine.specs.Runs.{trace_of}
 use Rattle.row_machine.specs.Rounds.{Reaches, HasRoundTrace}
 use Rattle.row_machine.specs.Alike.{Alike}
 use Rattle.row_machine.specs.Agreement.{Map, TypedMachine, Simulates, SameRow, TracesAgree}
@@ -38,6 +39,10 @@ IndependentAreFree = (ps : List Process) → ((p q : Process) → Member ps p �
 abbrev pub OneRunSettles : Type 0
 OneRunSettles = (d : Machine) → Sound d → (qs : List Process) → IsOrder d.combs qs → (s : Started) (base : Valuation)
     → Settled d s base (run s qs base)
+
+-- and running in an order, row by row, gives the trace
+abbrev pub RunsTrace : Type 0
+RunsTrace = (d : Machine) → Sound d → (qs : List Process) → IsOrder d.combs qs → (rows : List Valuation) → HasTrace d rows (trace_of d qs rows)
 
 -- the rounds reach each settled valuation
 abbrev pub RoundsReach : Type 0

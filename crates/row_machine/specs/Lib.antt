@@ -9,3 +9,4 @@ pub mod Agreement
 pub mod Alike
 pub mod Dependence
 pub mod Translation
+pub mod Runs

@@ -1,6 +1,7 @@
 -- A design as a machine over rows: its combinational processes, its edge processes, and what its bits hold by themselves.
-use Rattle.std.specs.Prelude.{Bool, ◌||◌, List, cond}
-use Rattle.row_machine.specs.Valuation.{Place, Valuation, Changes, has, only_if, put_each}
+use Rattle.std.specs.Prelude.{Bool, true, List, [], cond}
+use Rattle.b4_core.specs.declared.bit.Bit4.{Bit4}
+use Rattle.row_machine.specs.Valuation.{Place, Valuation, Changes, has, only_if, put_each, each_bit}
 
 -- a combinational process: a continuous assignment, a port connection, an `always_comb` or an `always @*`
 -- (IEEE 1800-2017 clauses 9.2.2.1, 9.2.2.2, 10.3 and 23.3.3)
@@ -15,6 +16,10 @@ pub record Process : Type 0 where
   pub writes : List Place
   -- what it assigns when it is run on a valuation
   pub assigns : Valuation → Changes
+
+-- a process that runs from time zero and in each run assigns all the bits that it writes, as a continuous assignment does
+abbrev pub assignment : List Place → List Place → (Valuation → Place → Bit4) → Process
+assignment reads writes value = record { from_zero = true; waits_for = []; reads = reads; writes = writes; assigns = λ v. each_bit writes (value v) }
 
 -- an edge process: `always_ff`, or `always` with edges (clauses 9.2.2.4 and 9.4.2)
 pub record EdgeProcess : Type 0 where

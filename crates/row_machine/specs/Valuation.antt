@@ -1,5 +1,5 @@
 -- The bits of a design's signals and what they hold (IEEE 1800-2017 clause 6.3.1).
-use Rattle.std.specs.Prelude.{ℕ, Bool, true, false, ◌&&◌, ◌||◌, ◌==◌, ◌≡◌, ◌⊎◌, ⊤, List, [], ◌∷◌, Option, Some, None}
+use Rattle.std.specs.Prelude.{ℕ, zero, suc, Bool, true, false, ◌&&◌, ◌||◌, ◌==◌, ◌≡◌, ◌⊎◌, ⊤, List, [], ◌∷◌, Option, Some, None}
 use Rattle.b4_core.specs.declared.bit.Bit4.{Bit4}
 
 -- a bit of a signal: the signal's number in its design, and the bit's index, the least significant bit at 0
@@ -55,3 +55,12 @@ NoneWrites {A} writes xs q = (x : A) → Member xs x → has (writes x) q ≡ fa
 abbrev pub OneWriter : {A : Type 0} → (A → List Place) → List A → Type 0
 OneWriter writes [] = ⊤
 OneWriter writes (x ∷ xs) = ((q : Place) → has (writes x) q ≡ true → NoneWrites writes xs q) × OneWriter writes xs
+
+-- the bits of a signal of some width
+abbrev pub signal_bits : ℕ → ℕ → List Place
+signal_bits signal zero = []
+signal_bits signal (suc width) = record { signal = signal; bit = width } ∷ signal_bits signal width
+
+-- each of these bits gets its value
+abbrev pub each_bit : List Place → (Place → Bit4) → Changes
+each_bit qs value q = only_if (has qs q) (λ p. Some (value p)) q

@@ -7,7 +7,7 @@
 
 ghost use Rattle.row_machine.specs.Laws.{
     AlikeAreEqual, AlikeTranslates, EachHasOneTrace, IndependentAreFree, OneRoundTrace, OneRunSettles, OneSettled, OrderFrees, RefinementTranslates,
-    RoundTraceIsTrace, RoundsReach, RoundsTrace, SettlingEnds, SimulationAgrees, TargetIsFree,
+    RoundTraceIsTrace, RoundsReach, RoundsTrace, RunsTrace, SettlingEnds, SimulationAgrees, TargetIsFree,
 };
 
 /// Over a base and a set of started processes a sound machine has exactly one settled valuation.
@@ -43,6 +43,12 @@ pub fn independent_are_free()
 /// One run of the processes in an order gives the settled valuation.
 pub fn one_run_settles()
     ensures { OneRunSettles }
+{
+}
+
+/// Running the processes in an order, row by row, gives the trace.
+pub fn runs_trace()
+    ensures { RunsTrace }
 {
 }
 
