@@ -19,3 +19,5 @@ pub mod Translation
 pub mod Members
 pub mod Assignments
 pub mod Runs
+mod Examples
+mod CopyExample
