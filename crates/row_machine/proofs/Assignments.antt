@@ -1,11 +1,11 @@
 -- The bits of a signal, and processes that assign all of theirs.
-use Rattle.std.proofs.Common.{◌≡◌, ℕ, zero, suc, ◌+◌, ◌<◌, ◌≤◌, ◌⊎◌, Bool, true, false, ◌&&◌, ◌||◌, ◌==◌, nat_lt, length, List, [], ◌∷◌, Some, None, refl, sym, ap, ◌∙◌, subst, inl, inr, arith}
-use Rattle.std.proofs.lemmas.Bool.{eqb-true, eq-eqb, ltb-true, ltb-false}
+use Rattle.std.proofs.Common.{◌≡◌, ℕ, zero, suc, ◌<◌, ◌⊎◌, true, false, nat_lt, length, List, Some, None, refl, sym, ap, ◌∙◌, subst, inl, inr, arith}
+use Rattle.std.proofs.lemmas.Bool.{ltb-true, ltb-false}
 use Rattle.b4_core.specs.declared.bit.Bit4.{Bit4}
 use Rattle.row_machine.specs.Valuation.{Place, Valuation, Member, has, only_if, each_bit, signal_bits}
-use Rattle.row_machine.specs.Machine.{Process, assignment}
+use Rattle.row_machine.specs.Machine.{assignment}
 use Rattle.row_machine.specs.Order.{Honest}
-use Rattle.row_machine.proofs.Basics.{has-member, member-has, true_or_false, clash}
+use Rattle.row_machine.proofs.Basics.{member-has, true_or_false}
 
 pub length-signal_bits : (s w : ℕ) → length (signal_bits s w) ≡ w
 length-signal_bits s zero = refl
@@ -39,14 +39,14 @@ not_assigned qs value q h = ap (λ b. only_if b (λ p. Some (value p)) q) h
 pub same_bits : (qs : List Place) (f g : Place → Bit4) → ((q : Place) → has qs q ≡ true → f q ≡ g q) → (q : Place) → each_bit qs f q ≡ each_bit qs g q
 same_bits qs f g h q =
     elim (true_or_false (has qs q)) [
-      inl t ↦ assigned qs f q t ∙ ap Some (h q t) ∙ sym (assigned qs g q t)
-    | inr n ↦ not_assigned qs f q n ∙ sym (not_assigned qs g q n)
+      | inl t ↦ assigned qs f q t ∙ ap Some (h q t) ∙ sym (assigned qs g q t)
+      | inr n ↦ not_assigned qs f q n ∙ sym (not_assigned qs g q n)
     ]
 
 pub assignment_honest : (reads writes : List Place) (value : Valuation → Place → Bit4)
     → ((v u : Valuation) → ((q : Place) → has reads q ≡ true → v q ≡ u q) → (q : Place) → has writes q ≡ true → value v q ≡ value u q)
     → Honest (assignment reads writes value)
 assignment_honest reads writes value h = record {
-    by_reads = λ v u alike. same_bits writes (value v) (value u) (h v u alike);
-    within = λ v q n. not_assigned writes (value v) q n
-  }
+  by_reads = λ v u alike. same_bits writes (value v) (value u) (h v u alike);
+  within = λ v q n. not_assigned writes (value v) q n;
+}

@@ -1,6 +1,6 @@
 -- Tests on places and lists.
-use Rattle.std.proofs.Common.{◌≡◌, ℕ, ◌+◌, ◌<◌, ◌≤◌, ◌⊎◌, Bool, true, false, not, cond, ◌&&◌, ◌||◌, ◌==◌, List, [], ◌∷◌, length, slice_index_or, refl, sym, ap, ◌∙◌, subst, inl, inr, arith, zero, suc, le_of_suc-le-suc}
-use Rattle.std.proofs.lemmas.Bool.{or_cases, or_left, or_right, or_parts, and_parts, eqb-true, eq-eqb, false≢true}
+use Rattle.std.proofs.Common.{◌≡◌, ℕ, ◌<◌, ◌⊎◌, Bool, true, false, ◌&&◌, ◌==◌, List, [], ◌∷◌, length, slice_index_or, refl, sym, ◌∙◌, subst, inl, inr, arith, zero, suc, le_of_suc-le-suc}
+use Rattle.std.proofs.lemmas.Bool.{or_cases, or_left, or_right, and_parts, eqb-true, eq-eqb, false≢true}
 use Rattle.std.specs.List.{list_any}
 use Rattle.row_machine.specs.Valuation.{Place, Member, is_place, has}
 use Rattle.row_machine.specs.Machine.{Process}
@@ -38,8 +38,8 @@ pub any-member : {A : Type 0} (t : A → Bool) (xs : List A) → list_any t xs �
 any-member t [] e = absurd (false≢true e)
 any-member t (y ∷ ys) e =
     elim (or_cases (t y) (list_any t ys) e) [
-      inl f ↦ (y, inl refl, f)
-    | inr f ↦ (let r = any-member t ys f in (r.0, inr r.1, r.2))
+      | inl f ↦ (y, inl refl, f)
+      | inr f ↦ (let r = any-member t ys f in (r.0, inr r.1, r.2))
     ]
 
 pub member_at : {A : Type 0} (xs : List A) (k : ℕ) (d : A) → k < length xs → Member xs (slice_index_or xs k d)

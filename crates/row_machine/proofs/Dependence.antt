@@ -1,11 +1,11 @@
 -- Where no source process is stuck, no target process is.
-use Rattle.std.proofs.Common.{◌≡◌, ◌⊎◌, true, List, Some, refl, sym, ◌∙◌, inl, inr}
+use Rattle.std.proofs.Common.{◌≡◌, true, List, Some, sym, ◌∙◌, inl, inr}
 use Rattle.row_machine.specs.Valuation.{Place, Member, has}
 use Rattle.row_machine.specs.Machine.{Process, Machine}
-use Rattle.row_machine.specs.Order.{Free, free, follows}
-use Rattle.row_machine.specs.Agreement.{Map, SameWrites, Twin, Copy}
-use Rattle.row_machine.specs.Dependence.{ComesFrom, writes_image, stands_behind, FollowsReads, FollowsSources, AddsNoDependence}
-use Rattle.row_machine.proofs.Basics.{follows_writer, clash}
+use Rattle.row_machine.specs.Order.{Free, free}
+use Rattle.row_machine.specs.Agreement.{Map}
+use Rattle.row_machine.specs.Dependence.{ComesFrom, writes_image, stands_behind, FollowsReads, AddsNoDependence}
+use Rattle.row_machine.proofs.Basics.{follows_writer}
 use Rattle.row_machine.proofs.Agreement.{none_some}
 
 module _ (m : Map) (d e : Machine) where
@@ -21,18 +21,18 @@ module _ (m : Map) (d e : Machine) where
     twin_free : (p : Process) → Free d.combs p → (t : Process) → FollowsReads m d e p t → Free e.combs t
     twin_free p (free h) t twin =
         free (λ b mb f. comes_free p.reads (λ u mu q q' o writes reads.
-          elim (adds u mu) [
-            inl s ↦ twin_free s.0 (h s.0 s.1 (follows_writer p s.0 q reads (sym (s.2.is_twin.writes.images q q' o) ∙ writes))) u s.2
+        elim (adds u mu) [
+          | inl s ↦ twin_free s.0 (h s.0 s.1 (follows_writer p s.0 q reads (sym (s.2.is_twin.writes.images q q' o) ∙ writes))) u s.2
           | inr s ↦ none_some (m.origin q') (s.is_copy.writes q' writes) o
-          ]) (twin.by_reads b mb f) mb)
+        ]) (twin.by_reads b mb f) mb)
 
     pub target_free : (t : Process) → Member e.combs t → Free e.combs t
     target_free t mt =
         elim (adds t mt) [
-          inl s ↦ twin_free s.0 (all_free s.0 s.1) t s.2
-        | inr s ↦ comes_free s.sources (λ u mu q q' o writes reads.
-            elim (adds u mu) [
-              inl r ↦ twin_free r.0 (all_free r.0 r.1) u r.2
-            | inr r ↦ none_some (m.origin q') (r.is_copy.writes q' writes) o
-            ]) s.comes mt
+          | inl s ↦ twin_free s.0 (all_free s.0 s.1) t s.2
+          | inr s ↦ comes_free s.sources (λ u mu q q' o writes reads.
+              elim (adds u mu) [
+                | inl r ↦ twin_free r.0 (all_free r.0 r.1) u r.2
+                | inr r ↦ none_some (m.origin q') (r.is_copy.writes q' writes) o
+              ]) s.comes mt
         ]

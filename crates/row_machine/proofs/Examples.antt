@@ -1,5 +1,5 @@
 -- Small machines, run on rows: the definitions compute.
-use Rattle.std.proofs.Common.{◌≡◌, ℕ, Bool, true, false, not, ◌||◌, ◌&&◌, cond, if◌then◌else◌, List, [], ◌∷◌, map, refl}
+use Rattle.std.proofs.Common.{◌≡◌, ℕ, Bool, true, false, not, if◌then◌else◌, List, [], ◌∷◌, map, refl}
 use Rattle.b4_core.specs.declared.bit.Bit4.{Bit4}
 use Rattle.b4_core.specs.declared.bit.Bit4.TheVariants.{Zero, One, X, Z}
 use Rattle.row_machine.specs.Valuation.{Place, Valuation, has, each_bit, is_place}
@@ -30,24 +30,24 @@ rises Z b = same_bit b One
 -- assign y = ~q; always_ff @(posedge clk) q <= d;
 abbrev flip_flop : EdgeProcess
 flip_flop = record {
-    writes = one_bit 2 ∷ [];
-    runs = λ v w. rises (v (one_bit 0)) (w (one_bit 0));
-    updates = λ v. each_bit (one_bit 2 ∷ []) (λ q. v (one_bit 1))
-  }
+  writes = one_bit 2 ∷ [];
+  runs = λ v w. rises (v (one_bit 0)) (w (one_bit 0));
+  updates = λ v. each_bit (one_bit 2 ∷ []) (λ q. v (one_bit 1));
+}
 
 abbrev inverter : Process
 inverter = assignment (one_bit 2 ∷ []) (one_bit 3 ∷ []) (λ v q. inverse (v (one_bit 2)))
 
 abbrev clocked : Machine
 clocked = record {
-    combs = inverter ∷ [];
-    edges = flip_flop ∷ [];
-    inputs = one_bit 0 ∷ one_bit 1 ∷ [];
-    registers = one_bit 2 ∷ [];
-    initial = λ q. X;
-    start = λ q. X;
-    rest = λ q. X
-  }
+  combs = inverter ∷ [];
+  edges = flip_flop ∷ [];
+  inputs = one_bit 0 ∷ one_bit 1 ∷ [];
+  registers = one_bit 2 ∷ [];
+  initial = λ q. X;
+  start = λ q. X;
+  rest = λ q. X;
+}
 
 abbrev seen_at : ℕ → List Valuation → List Bit4
 seen_at n vs = map (λ v. v (one_bit n)) vs
@@ -65,23 +65,23 @@ first_edge = refl
 -- y = a; as an `always_comb` it runs from time zero, as an `always @*` only once a has another value than x
 abbrev follower : Bool → Process
 follower zero = record {
-    from_zero = zero;
-    waits_for = one_bit 0 ∷ [];
-    reads = one_bit 0 ∷ [];
-    writes = one_bit 3 ∷ [];
-    assigns = λ v. each_bit (one_bit 3 ∷ []) (λ q. inverse (v (one_bit 0)))
-  }
+  from_zero = zero;
+  waits_for = one_bit 0 ∷ [];
+  reads = one_bit 0 ∷ [];
+  writes = one_bit 3 ∷ [];
+  assigns = λ v. each_bit (one_bit 3 ∷ []) (λ q. inverse (v (one_bit 0)));
+}
 
 abbrev combinational : Bool → Machine
 combinational zero = record {
-    combs = follower zero ∷ [];
-    edges = [];
-    inputs = one_bit 0 ∷ [];
-    registers = [];
-    initial = λ q. X;
-    start = λ q. X;
-    rest = λ q. Zero
-  }
+  combs = follower zero ∷ [];
+  edges = [];
+  inputs = one_bit 0 ∷ [];
+  registers = [];
+  initial = λ q. X;
+  start = λ q. X;
+  rest = λ q. Zero;
+}
 
 from_time_zero : seen_at 3 (trace_of (combinational true) (follower true ∷ []) (row_of X X ∷ row_of Zero X ∷ row_of X X ∷ [])) ≡ X ∷ One ∷ X ∷ []
 unfolding has

@@ -1,5 +1,5 @@
 -- Elements of lists, and lists with one writer, for the machines of crates above.
-use Rattle.std.proofs.Common.{◌≡◌, ℕ, zero, suc, ◌+◌, ◌<◌, ◌≤◌, ◌⊎◌, Bool, true, false, List, [], ◌∷◌, ◌++◌, map, length, slice_index_or, All, refl, sym, ap, ◌∙◌, subst, inl, inr, arith, le_of_suc-le-suc, zero-lt-suc}
+use Rattle.std.proofs.Common.{◌≡◌, ℕ, zero, suc, ◌<◌, ◌⊎◌, true, false, List, [], ◌∷◌, ◌++◌, map, length, slice_index_or, All, refl, sym, ap, subst, inl, inr, arith, le_of_suc-le-suc}
 use Rattle.std.specs.List.{AllZip}
 use Rattle.row_machine.specs.Valuation.{Place, Member, has, NoneWrites, OneWriter}
 use Rattle.row_machine.proofs.Basics.{member_at}
@@ -67,6 +67,7 @@ module _ {A : Type 0} (writes : A → List Place) where
 
   pub one_writer-append : (xs ys : List A) → OneWriter writes xs → OneWriter writes ys → ((x : A) → Member xs x → (q : Place) → has (writes x) q ≡ true → NoneWrites writes ys q) → OneWriter writes (xs ++ ys)
   one_writer-append [] ys a b cross = b
-  one_writer-append (x ∷ xs) ys a b cross =
-      ((λ q h y m. elim (append-member xs ys y m) [ inl l ↦ a.0 q h y l | inr r ↦ cross x (inl refl) q h y r ]),
-       one_writer-append xs ys a.1 b (λ z m. cross z (inr m)))
+  one_writer-append (x ∷ xs) ys a b cross = (
+    (λ q h y m. elim (append-member xs ys y m) [ inl l ↦ a.0 q h y l | inr r ↦ cross x (inl refl) q h y r ]),
+    one_writer-append xs ys a.1 b (λ z m. cross z (inr m)),
+  )

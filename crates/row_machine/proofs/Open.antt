@@ -1,7 +1,7 @@
 -- Counting the processes that aren't done, each by a weight.
-use Rattle.std.proofs.Common.{◌≡◌, ℕ, zero, suc, ◌+◌, ◌<◌, ◌≤◌, ◌⊎◌, Bool, true, false, cond, List, [], ◌∷◌, refl, sym, ap, ◌∙◌, subst, inl, inr, arith}
+use Rattle.std.proofs.Common.{◌≡◌, ℕ, ◌+◌, ◌<◌, ◌≤◌, Bool, true, false, List, [], ◌∷◌, refl, subst, inl, inr, arith}
 use Rattle.row_machine.specs.Valuation.{Member}
-use Rattle.row_machine.proofs.Basics.{true_or_false, clash}
+use Rattle.row_machine.proofs.Basics.{clash}
 
 -- what counts of a weight, none once it is done
 abbrev pub share : Bool → ℕ → ℕ

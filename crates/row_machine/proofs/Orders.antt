@@ -1,6 +1,6 @@
 -- An order of the processes shows that none is stuck, and one run in it settles.
-use Rattle.std.proofs.Common.{◌≡◌, ◌⊎◌, Bool, true, false, List, [], ◌∷◌, refl, sym, ap, ◌∙◌, subst, inl, inr}
-use Rattle.row_machine.specs.Valuation.{Place, Valuation, Member, has, changed, put, put_each, NoneWrites, OneWriter}
+use Rattle.std.proofs.Common.{◌≡◌, ◌⊎◌, true, false, List, [], ◌∷◌, refl, sym, ap, ◌∙◌, subst, inl, inr}
+use Rattle.row_machine.specs.Valuation.{Place, Valuation, Member, has, changed, put, NoneWrites, OneWriter}
 use Rattle.row_machine.specs.Machine.{Process, Machine, Started, told}
 use Rattle.row_machine.specs.Settle.{Settled}
 use Rattle.row_machine.specs.Order.{Sound, Free, free, follows, Ordered, IsOrder, run}
@@ -17,10 +17,10 @@ freed ps (x ∷ qs) order left p m = freed ps qs order.1 rest p m
     rest : (q : Process) → Member ps q → Free ps q ⊎ Member qs q
     rest q mq =
         elim (left q mq) [
-          inl done ↦ inl done
-        | inr k ↦ elim k [
-            inl e ↦ inl (subst (Free ps) (sym e) (free before))
-          | inr later ↦ inr later
+          | inl done ↦ inl done
+          | inr k ↦ elim k [
+            | inl e ↦ inl (subst (Free ps) (sym e) (free before))
+            | inr later ↦ inr later
           ]
         ]
 
@@ -51,7 +51,7 @@ module _ (d : Machine) (sound : Sound d) (s : Started) (base u : Valuation) (set
       told_alike : (q : Place) → told s v p q ≡ told s u p q
       told_alike q =
           only_if-same (s p) (p.assigns v) (p.assigns u) q q
-            ((sound.honest p m).by_reads v u (λ r reads. half.alike r (unread p (p ∷ qs) order.0 r reads)) q)
+          ((sound.honest p m).by_reads v u (λ r reads. half.alike r (unread p (p ∷ qs) order.0 r reads)) q)
 
       kept : (q : Place) → has p.writes q ≡ false → put (told s v p) v q ≡ v q
       kept q e = ap (λ o. changed o (v q)) (told-within d sound s v p m q e)
@@ -59,12 +59,12 @@ module _ (d : Machine) (sound : Sound d) (s : Started) (base u : Valuation) (set
       alike : (q : Place) → NoneWrites of_process qs q → put (told s v p) v q ≡ u q
       alike q n =
           elim (true_or_false (has p.writes q)) [
-            inl t ↦
-              ap (λ o. changed o (v q)) (told_alike q)
-              ∙ ap (λ b. changed (told s u p q) b) (half.ahead p (inl refl) q t)
-              ∙ sym (at_writer d sound s u base p m q t)
-              ∙ sym (ap (λ f. f q) settled)
-          | inr f ↦ kept q f ∙ half.alike q (none_of p qs q f n)
+            | inl t ↦
+                ap (λ o. changed o (v q)) (told_alike q)
+                ∙ ap (λ b. changed (told s u p q) b) (half.ahead p (inl refl) q t)
+                ∙ sym (at_writer d sound s u base p m q t)
+                ∙ sym (ap (λ f. f q) settled)
+            | inr f ↦ kept q f ∙ half.alike q (none_of p qs q f n)
           ]
 
   run_comes : (qs : List Process) (v : Valuation) → ((p : Process) → Member qs p → Member d.combs p) → OneWriter of_process qs → Ordered qs → Half qs v → (q : Place) → run s qs v q ≡ u q
@@ -74,9 +74,9 @@ module _ (d : Machine) (sound : Sound d) (s : Started) (base u : Valuation) (set
 
   at_first : (qs : List Process) → IsOrder d.combs qs → Half qs base
   at_first qs order = record {
-      alike = λ q n. sym (at_rest d sound s u base q (λ p m. n p (order.every p m))) ∙ sym (ap (λ f. f q) settled);
-      ahead = λ p m q h. refl
-    }
+    alike = λ q n. sym (at_rest d sound s u base q (λ p m. n p (order.every p m))) ∙ sym (ap (λ f. f q) settled);
+    ahead = λ p m q h. refl;
+  }
 
   pub run_settles : (qs : List Process) → IsOrder d.combs qs → run s qs base ≡ u
   run_settles qs order = λ i q. run_comes qs base order.only order.one_writer order.ordered (at_first qs order) q i

@@ -1,5 +1,5 @@
 -- Running the processes in an order gives the trace.
-use Rattle.std.proofs.Common.{◌≡◌, ℕ, zero, suc, ◌+◌, ◌<◌, ◌≤◌, ◌⊎◌, Bool, true, false, if◌then◌else◌, List, [], ◌∷◌, length, refl, sym, ap, ◌∙◌, subst, inl, inr, arith}
+use Rattle.std.proofs.Common.{ℕ, zero, suc, ◌≤◌, Bool, true, false, if◌then◌else◌, List, [], ◌∷◌, length, sym, ◌∙◌, subst, inl, inr, arith}
 use Rattle.row_machine.specs.Valuation.{Valuation}
 use Rattle.row_machine.specs.Machine.{Process, Machine, Started, at_zero, base_of, after_edges}
 use Rattle.row_machine.specs.Settle.{Settled, Settles, ends, goes_on, adds, woken}
@@ -25,16 +25,16 @@ module _ (d : Machine) (sound : Sound d) (qs : List Process) (order : IsOrder d.
   settle_leads : (n : ℕ) (base : Valuation) (s : Started) → unstarted d sound base s ≤ n → Leads base s (settle d qs n base s)
   settle_leads zero base s le =
       elim (true_or_false (adds d (run s qs base) s)) [
-        inl more ↦ absurd (omega (arith, fewer_unstarted d sound base (run s qs base) s more, le))
-      | inr over ↦ ends (one_run s base) over
+        | inl more ↦ absurd (omega (arith, fewer_unstarted d sound base (run s qs base) s more, le))
+        | inr over ↦ ends (one_run s base) over
       ]
   settle_leads (suc n) base s le =
       elim (true_or_false (adds d (run s qs base) s)) [
-        inl more ↦
-          subst (λ b. Leads base s (if b then settle d qs n base (woken d (run s qs base) s) else record { started = s; now = run s qs base })) (sym more)
+        | inl more ↦
+            subst (λ b. Leads base s (if b then settle d qs n base (woken d (run s qs base) s) else record { started = s; now = run s qs base })) (sym more)
             (goes_on (one_run s base) more (settle_leads n base (woken d (run s qs base) s) (omega (arith, fewer_unstarted d sound base (run s qs base) s more, le))))
-      | inr over ↦
-          subst (λ b. Leads base s (if b then settle d qs n base (woken d (run s qs base) s) else record { started = s; now = run s qs base })) (sym over)
+        | inr over ↦
+            subst (λ b. Leads base s (if b then settle d qs n base (woken d (run s qs base) s) else record { started = s; now = run s qs base })) (sym over)
             (ends (one_run s base) over)
       ]
 
@@ -55,7 +55,7 @@ module _ (d : Machine) (sound : Sound d) (qs : List Process) (order : IsOrder d.
         quiet = quiet.now;
         started = quiet.started;
         inputs_settle = fully_leads (base_of d r held) s;
-        updates_settle = fully_leads (base_of d r (after_edges d last quiet.now)) quiet.started
+        updates_settle = fully_leads (base_of d r (after_edges d last quiet.now)) quiet.started;
       }
 
   trace_leads : (rows : List Valuation) (last held : Valuation) (s : Started) → Trace d last held s rows (trace_from d qs last held s rows)

@@ -1,9 +1,9 @@
 -- A sound machine has at most one settled valuation over a base and a started set.
-use Rattle.std.proofs.Common.{◌≡◌, ◌⊎◌, Bool, true, false, List, refl, sym, ap, ◌∙◌, inl, inr}
-use Rattle.row_machine.specs.Valuation.{Place, Valuation, Member, has, changed, put_each, NoneWrites}
-use Rattle.row_machine.specs.Machine.{Process, Machine, Started, told}
+use Rattle.std.proofs.Common.{◌≡◌, true, sym, ap, ◌∙◌, inl, inr}
+use Rattle.row_machine.specs.Valuation.{Place, Valuation, Member, has, changed, NoneWrites}
+use Rattle.row_machine.specs.Machine.{Process, Machine, Started}
 use Rattle.row_machine.specs.Settle.{Settled}
-use Rattle.row_machine.specs.Order.{Sound, Free, free, follows}
+use Rattle.row_machine.specs.Order.{Sound, Free, free}
 use Rattle.row_machine.proofs.Writes.{writer}
 use Rattle.row_machine.proofs.Told.{of_process, at_rest, at_writer, same_told}
 

@@ -1,13 +1,12 @@
 -- Settling from a started set ends.
-use Rattle.std.proofs.Common.{◌≡◌, ℕ, zero, suc, ◌+◌, ◌<◌, ◌≤◌, ◌⊎◌, Bool, true, false, not, ◌&&◌, ◌||◌, List, refl, sym, ap, ◌∙◌, subst, inl, inr, arith}
+use Rattle.std.proofs.Common.{◌≡◌, ℕ, zero, suc, ◌<◌, ◌≤◌, true, not, ◌&&◌, inl, inr, arith}
 use Rattle.std.proofs.lemmas.Bool.{and_parts, not-true, or_left, or_right}
-use Rattle.row_machine.specs.Valuation.{Valuation, Member}
-use Rattle.row_machine.specs.Machine.{Process, Machine, Started}
+use Rattle.row_machine.specs.Valuation.{Valuation}
+use Rattle.row_machine.specs.Machine.{Machine, Started}
 use Rattle.row_machine.specs.Settle.{Settled, Settles, ends, goes_on, differs, woken, adds}
 use Rattle.row_machine.specs.Order.{Sound}
 use Rattle.row_machine.specs.Rounds.{after_rounds}
-use Rattle.row_machine.proofs.Basics.{true_or_false, clash, any-member}
-use Rattle.row_machine.proofs.Settled.{settled_once}
+use Rattle.row_machine.proofs.Basics.{true_or_false, any-member}
 use Rattle.row_machine.proofs.Open.{open_weight, open_weight-falls}
 use Rattle.row_machine.proofs.Rounds.{rounds_end}
 
@@ -31,14 +30,14 @@ module _ (d : Machine) (sound : Sound d) (base : Valuation) where
       turn : (n : ℕ) (s : Started) → unstarted s ≤ n → ((v : Valuation) × Settled d s base v) → (t : Started) × (v : Valuation) × Settles d base s t v
       turn zero s le r =
           elim (true_or_false (adds d r.0 s)) [
-            inl more ↦ absurd (omega (arith, fewer_unstarted r.0 s more, le))
-          | inr over ↦ (s, r.0, ends r.1 over)
+            | inl more ↦ absurd (omega (arith, fewer_unstarted r.0 s more, le))
+            | inr over ↦ (s, r.0, ends r.1 over)
           ]
       turn (suc n) s le r =
           elim (true_or_false (adds d r.0 s)) [
-            inl more ↦ (let rest = turn n (woken d r.0 s) (omega (arith, fewer_unstarted r.0 s more, le)) (settled_at (woken d r.0 s)) in
-                        (rest.0, rest.1, goes_on r.1 more rest.2))
-          | inr over ↦ (s, r.0, ends r.1 over)
+            | inl more ↦ (let rest = turn n (woken d r.0 s) (omega (arith, fewer_unstarted r.0 s more, le)) (settled_at (woken d r.0 s)) in
+                (rest.0, rest.1, goes_on r.1 more rest.2))
+            | inr over ↦ (s, r.0, ends r.1 over)
           ]
 
   pub settles : (s : Started) → (t : Started) × (v : Valuation) × Settles d base s t v

@@ -1,8 +1,8 @@
 -- What a process is told to assign hangs on its reads alone.
-use Rattle.std.proofs.Common.{◌≡◌, ◌⊎◌, Bool, true, false, List, None, refl, sym, ap, ◌∙◌, inl, inr}
+use Rattle.std.proofs.Common.{◌≡◌, Bool, true, false, List, None, refl, inl, inr}
 use Rattle.row_machine.specs.Valuation.{Place, Valuation, Changes, Member, has, changed, only_if, put_each, NoneWrites}
 use Rattle.row_machine.specs.Machine.{Process, Machine, Started, told}
-use Rattle.row_machine.specs.Order.{Honest, Sound, follows}
+use Rattle.row_machine.specs.Order.{Sound, follows}
 use Rattle.row_machine.proofs.Basics.{follows_writer}
 use Rattle.row_machine.proofs.Writes.{Within, unwritten, written, writer}
 
@@ -40,6 +40,6 @@ module _ (d : Machine) (sound : Sound d) (s : Started) where
       reads : (r : Place) → has p.reads r ≡ true → v r ≡ u r
       reads r h =
           elim (writer of_process d.combs r) [
-            inl w ↦ before w.0 w.1 (follows_writer p w.0 r h w.2) r w.2
-          | inr n ↦ rest r n
+            | inl w ↦ before w.0 w.1 (follows_writer p w.0 r h w.2) r w.2
+            | inr n ↦ rest r n
           ]

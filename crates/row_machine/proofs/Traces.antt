@@ -1,9 +1,9 @@
 -- A sound machine has exactly one trace for any rows.
-use Rattle.std.proofs.Common.{◌≡◌, List, [], ◌∷◌, refl, sym, ap, ◌∙◌, subst}
+use Rattle.std.proofs.Common.{◌≡◌, List, [], ◌∷◌}
 use Rattle.row_machine.specs.Valuation.{Valuation}
 use Rattle.row_machine.specs.Machine.{Machine, Started, at_zero, base_of, after_edges}
-use Rattle.row_machine.specs.Settle.{Settled, Settles}
-use Rattle.row_machine.specs.Trace.{RowStep, Trace, done, row, HasTrace, OneTrace}
+use Rattle.row_machine.specs.Settle.{Settled}
+use Rattle.row_machine.specs.Trace.{RowStep, Trace, done, row, OneTrace}
 use Rattle.row_machine.specs.Order.{Sound}
 use Rattle.row_machine.proofs.Settled.{settled_once}
 use Rattle.row_machine.proofs.Settling.{settles}

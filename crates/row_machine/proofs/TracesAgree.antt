@@ -1,14 +1,13 @@
 -- A target that simulates its source has the source's traces, lifted.
-use Rattle.std.proofs.Common.{◌≡◌, ◌⊎◌, Bool, true, false, cond, List, [], ◌∷◌, map, Some, None, refl, sym, ap, ◌∙◌, subst, inl, inr}
+use Rattle.std.proofs.Common.{◌≡◌, ◌⊎◌, Bool, true, false, cond, List, [], ◌∷◌, map, Some, refl, sym, ap, ◌∙◌, inl, inr}
 use Rattle.std.specs.List.{AllZip}
-use Rattle.std.proofs.lemmas.Bool.{false_from_ne_true}
 use Rattle.b4_core.specs.declared.bit.Bit4.{Bit4}
-use Rattle.row_machine.specs.Valuation.{Place, Valuation, Changes, Member, has, changed, only_if, put_each, NoneWrites}
-use Rattle.row_machine.specs.Machine.{Process, EdgeProcess, Machine, Started, at_zero, base_of, after_edges}
-use Rattle.row_machine.specs.Settle.{Settled, Settles, ends, goes_on, woken, adds}
+use Rattle.row_machine.specs.Valuation.{Place, Valuation, Changes, Member, has, changed, only_if, NoneWrites}
+use Rattle.row_machine.specs.Machine.{EdgeProcess, Machine, Started, at_zero, base_of, after_edges}
+use Rattle.row_machine.specs.Settle.{Settles, ends, goes_on, woken}
 use Rattle.row_machine.specs.Trace.{RowStep, Trace, done, row, HasTrace}
 use Rattle.row_machine.specs.Order.{Sound}
-use Rattle.row_machine.specs.Agreement.{Map, lifted, Typed, TypedMachine, Overwritten, EdgeTwin, Simulates, SameRow, TracesAgree}
+use Rattle.row_machine.specs.Agreement.{Map, lifted, Typed, TypedMachine, EdgeTwin, Simulates, SameRow, TracesAgree}
 use Rattle.row_machine.proofs.Writes.{Within, unwritten, written, writer}
 use Rattle.row_machine.proofs.Told.{only_if-none, only_if-same}
 use Rattle.row_machine.proofs.Types.{base_typed, after_edges_typed, settled_typed}
@@ -46,20 +45,20 @@ module _ (m : Map) (d e : Machine) (simulates : Simulates m d e) (typed : TypedM
 
   same_base : (r r' now now' : Valuation) → SameRow m d r r' → SameRegisters now now' → SameBase m d e simulates sound_d sound_e (base_of d r now) (base_of e r' now')
   same_base r r' now now' rows nows = record {
-      images = λ q q' o.
-          choose (has d.inputs q) (has e.inputs q') (has d.registers q) (has e.registers q') (r q) (r' q') (now q) (now' q') (d.rest q) (e.rest q')
-            (simulates.inputs.images q q' o) (simulates.registers.images q q' o) (rows.images q q' o) (nows q q' o) (simulates.rest q q' o);
-      others = λ q' o. λ i. cond (simulates.inputs.no_more q' o i) (r' q') (cond (simulates.registers.no_more q' o i) (now' q') (e.rest q'))
-    }
+    images = λ q q' o.
+        choose (has d.inputs q) (has e.inputs q') (has d.registers q) (has e.registers q') (r q) (r' q') (now q) (now' q') (d.rest q) (e.rest q')
+        (simulates.inputs.images q q' o) (simulates.registers.images q q' o) (rows.images q q' o) (nows q q' o) (simulates.rest q q' o);
+    others = λ q' o. λ i. cond (simulates.inputs.no_more q' o i) (r' q') (cond (simulates.registers.no_more q' o i) (now' q') (e.rest q'));
+  }
 
   edges_alike : (last last' w : Valuation) → Typed m w → SameEdges last last' → (q q' : Place) → m.origin q' ≡ Some q → after_edges e last' (lifted m w) q' ≡ after_edges d last w q
   edges_alike last last' w at_w same q q' o =
       elim (writer of_edge d.edges q) [
-        inl p ↦ (let t = simulates.edge_twin p.0 p.1 in at_writer p.0 t.0 p.1 t.1 t.2 p.2)
-      | inr n ↦
-          unwritten of_edge (edge_told last' (lifted m w)) e.edges (edges_within e sound_e last' (lifted m w)) (lifted m w) q' (none n)
-          ∙ lifted_image m w q q' o
-          ∙ sym (unwritten of_edge (edge_told last w) d.edges (edges_within d sound_d last w) w q n)
+        | inl p ↦ (let t = simulates.edge_twin p.0 p.1 in at_writer p.0 t.0 p.1 t.1 t.2 p.2)
+        | inr n ↦
+            unwritten of_edge (edge_told last' (lifted m w)) e.edges (edges_within e sound_e last' (lifted m w)) (lifted m w) q' (none n)
+            ∙ lifted_image m w q q' o
+            ∙ sym (unwritten of_edge (edge_told last w) d.edges (edges_within d sound_d last w) w q n)
       ]
     where
       none : NoneWrites of_edge d.edges q → NoneWrites of_edge e.edges q'
@@ -81,18 +80,22 @@ module _ (m : Map) (d e : Machine) (simulates : Simulates m d e) (typed : TypedM
 
   settling : (base base' : Valuation) → Typed m base → SameBase m d e simulates sound_d sound_e base base' → {s t : Started} {v : Valuation} → Settles d base s t v → (s' : Started) → Alike s s' → Settling base' s' t v
   settling base base' at_base bases (ends {s = s} {v = v} settled over) s' h =
-      let at_v = settled_typed m d typed sound_d s base v at_base settled in
-      (s',
-       ends (settled_alike m d e simulates sound_d sound_e s s' base base' v at_v h bases settled)
-         (adds_alike m d e simulates sound_d sound_e s s' v at_v h ∙ over),
-       h, at_v)
+      let at_v = settled_typed m d typed sound_d s base v at_base settled in (
+        s',
+        ends (settled_alike m d e simulates sound_d sound_e s s' base base' v at_v h bases settled)
+            (adds_alike m d e simulates sound_d sound_e s s' v at_v h ∙ over),
+        h,
+        at_v,
+      )
   settling base base' at_base bases (goes_on {s = s} {v = v} settled more rest) s' h =
       let at_v = settled_typed m d typed sound_d s base v at_base settled in
-      let next = settling base base' at_base bases rest (woken e (lifted m v) s') (matched_woken m d e simulates sound_d sound_e s s' v at_v h) in
-      (next.0,
-       goes_on (settled_alike m d e simulates sound_d sound_e s s' base base' v at_v h bases settled)
-         (adds_alike m d e simulates sound_d sound_e s s' v at_v h ∙ more) next.1,
-       next.2, next.3)
+      let next = settling base base' at_base bases rest (woken e (lifted m v) s') (matched_woken m d e simulates sound_d sound_e s s' v at_v h) in (
+        next.0,
+        goes_on (settled_alike m d e simulates sound_d sound_e s s' base base' v at_v h bases settled)
+            (adds_alike m d e simulates sound_d sound_e s s' v at_v h ∙ more) next.1,
+        next.2,
+        next.3,
+      )
 
   abbrev Stepping : Valuation → Valuation → Valuation → Started → Started → Valuation → Type 0
   Stepping r' last' held' s' t v = (t' : Started) × RowStep e r' last' held' s' t' (lifted m v) × Alike t t' × Typed m v
@@ -103,9 +106,9 @@ module _ (m : Map) (d e : Machine) (simulates : Simulates m d e) (typed : TypedM
       let now = after_edges d last a.quiet in
       let now' = after_edges e last' (lifted m a.quiet) in
       let second = settling (base_of d r now) (base_of e r' now')
-            (base_typed m d typed r now rows.typed (after_edges_typed m d typed last a.quiet first.3))
-            (same_base r r' now now' rows (λ q q' o reg. edges_alike last last' a.quiet first.3 edges q q' o))
-            a.updates_settle first.0 first.2 in
+      (base_typed m d typed r now rows.typed (after_edges_typed m d typed last a.quiet first.3))
+      (same_base r r' now now' rows (λ q q' o reg. edges_alike last last' a.quiet first.3 edges q q' o))
+      a.updates_settle first.0 first.2 in
       (second.0, record { quiet = lifted m a.quiet; started = first.0; inputs_settle = first.1; updates_settle = second.1 }, second.2, second.3)
 
   traces : {last held : Valuation} {s : Started} {rows vs : List Valuation} → Trace d last held s rows vs
@@ -117,21 +120,21 @@ module _ (m : Map) (d e : Machine) (simulates : Simulates m d e) (typed : TypedM
   traces (row {r = r} {last = last} {held = held} {v = v} {s = s} {t = t} a rest) (r' ∷ rows') last' held' s' rows at_held helds edges h =
       let one = step r r' last last' held held' v s s' t rows.0 at_held helds edges h a in
       row one.1
-        (traces rest rows' (lifted m v) (lifted m v) one.0 rows.1 one.3 (λ q q' o reg. lifted_image m v q q' o) (λ p u twin w at_w. twin.later v w one.3 at_w) one.2)
+      (traces rest rows' (lifted m v) (lifted m v) one.0 rows.1 one.3 (λ q q' o reg. lifted_image m v q q' o) (λ p u twin w at_w. twin.later v w one.3 at_w) one.2)
 
   forward : (rows rows' : List Valuation) → AllZip (SameRow m d) rows rows' → (vs : List Valuation) → HasTrace d rows vs → HasTrace e rows' (map (lifted m) vs)
   forward rows rows' same vs trace =
       traces trace rows' e.initial e.start at_zero same typed.start (λ q q' o reg. simulates.start q q' o reg) (λ p t twin w at_w. twin.first w at_w)
-        (record {
-          twins = λ p t mp mt twin. twin.from_zero;
-          copies = λ t mt copy. copy.from_zero;
-          from_zero = λ p mp z. z
-        })
+      (record {
+        twins = λ p t mp mt twin. twin.from_zero;
+        copies = λ t mt copy. copy.from_zero;
+        from_zero = λ p mp z. z;
+      })
 
   pub traces_agree : (rows rows' : List Valuation) → AllZip (SameRow m d) rows rows' → TracesAgree m d e rows rows'
   traces_agree rows rows' same = record {
-      forward = forward rows rows' same;
-      back = λ us trace.
-          let own = has_trace d sound_d rows d.initial d.start at_zero in
-          (own.0, own.1, traces_alike e sound_e (forward rows rows' same own.0 own.1) trace)
-    }
+    forward = forward rows rows' same;
+    back = λ us trace.
+        let own = has_trace d sound_d rows d.initial d.start at_zero in
+        (own.0, own.1, traces_alike e sound_e (forward rows rows' same own.0 own.1) trace);
+  }

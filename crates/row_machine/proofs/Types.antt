@@ -1,12 +1,12 @@
 -- Settled valuations of a typed machine are typed.
-use Rattle.std.proofs.Common.{◌≡◌, ◌⊎◌, Bool, true, false, cond, List, [], ◌∷◌, Option, Some, None, refl, sym, ap, ◌∙◌, subst, inl, inr}
+use Rattle.std.proofs.Common.{◌≡◌, Bool, true, false, cond, List, [], ◌∷◌, Option, Some, None, refl, sym, ap, ◌∙◌, subst, inl, inr}
 use Rattle.b4_core.specs.declared.bit.Bit4.{Bit4}
 use Rattle.row_machine.specs.Valuation.{Place, Valuation, Changes, Member, has, changed, only_if, put, put_each, NoneWrites}
 use Rattle.row_machine.specs.Machine.{Process, EdgeProcess, Machine, Started, told, base_of, after_edges}
 use Rattle.row_machine.specs.Settle.{Settled}
-use Rattle.row_machine.specs.Order.{Sound, Free, free, follows}
-use Rattle.row_machine.specs.Agreement.{Map, Fits, Typed, KeepsTypes, TypedMachine}
-use Rattle.row_machine.proofs.Basics.{true_or_false, clash, follows_writer}
+use Rattle.row_machine.specs.Order.{Sound, Free, free}
+use Rattle.row_machine.specs.Agreement.{Map, Fits, Typed, TypedMachine}
+use Rattle.row_machine.proofs.Basics.{follows_writer}
 use Rattle.row_machine.proofs.Writes.{writer}
 use Rattle.row_machine.proofs.Told.{of_process, at_rest, at_writer, only_if-same}
 
@@ -40,7 +40,7 @@ module _ (m : Map) where
     pub after_edges_typed : (last w : Valuation) → Typed m w → Typed m (after_edges d last w)
     after_edges_typed last w at_w =
         put_each_typed (λ (p : EdgeProcess). only_if (p.runs last w) (p.updates w)) d.edges w at_w
-          (λ p m q. only_if_fits (p.runs last w) (p.updates w) q (λ b e. typed.edges p m w at_w q b e))
+        (λ p m q. only_if_fits (p.runs last w) (p.updates w) q (λ b e. typed.edges p m w at_w q b e))
 
     module _ (sound : Sound d) (s : Started) (base v : Valuation) (at_base : Typed m base) (settled : Settled d s base v) where
       rest_typed : (q : Place) → NoneWrites of_process d.combs q → Fits m q (v q)
@@ -65,20 +65,20 @@ module _ (m : Map) where
       run_typed : (p : Process) → Member d.combs p → ((r : Place) → has p.reads r ≡ true → Fits m r (v r)) → (q : Place) → has p.writes q ≡ true → Fits m q (v q)
       run_typed p k reads q h =
           subst (Fits m q)
-            (ap (λ o. changed o (base q)) (sym (only_if-same (s p) (p.assigns v) (p.assigns (seen p)) q q ((sound.honest p k).by_reads v (seen p) (seen_read p) q)))
-              ∙ sym (at_writer d sound s v base p k q h)
-              ∙ sym (ap (λ f. f q) settled))
-            (changed_fits (told s (seen p) p q) (base q) q (at_base q)
-              (only_if_fits (s p) (p.assigns (seen p)) q (typed.combs p k (seen p) (seen_typed p reads) q)))
+          (ap (λ o. changed o (base q)) (sym (only_if-same (s p) (p.assigns v) (p.assigns (seen p)) q q ((sound.honest p k).by_reads v (seen p) (seen_read p) q)))
+          ∙ sym (at_writer d sound s v base p k q h)
+          ∙ sym (ap (λ f. f q) settled))
+          (changed_fits (told s (seen p) p q) (base q) q (at_base q)
+          (only_if_fits (s p) (p.assigns (seen p)) q (typed.combs p k (seen p) (seen_typed p reads) q)))
 
       written_typed : (p : Process) → Free d.combs p → Member d.combs p → (q : Place) → has p.writes q ≡ true → Fits m q (v q)
       written_typed p (free h) m q e =
           run_typed p m
-            (λ r reads. elim (writer of_process d.combs r) [
-              inl w ↦ written_typed w.0 (h w.0 w.1 (follows_writer p w.0 r reads w.2)) w.1 r w.2
+          (λ r reads. elim (writer of_process d.combs r) [
+            | inl w ↦ written_typed w.0 (h w.0 w.1 (follows_writer p w.0 r reads w.2)) w.1 r w.2
             | inr n ↦ rest_typed r n
-            ])
-            q e
+          ])
+          q e
 
       pub settled_typed : Typed m v
       settled_typed q = elim (writer of_process d.combs q) [ inl w ↦ written_typed w.0 (sound.all_free w.0 w.1) w.1 q w.2 | inr n ↦ rest_typed q n ]

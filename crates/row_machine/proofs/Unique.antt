@@ -1,5 +1,5 @@
 -- Where a notion of settled has one valuation over a base and a started set, rows have at most one trace by it.
-use Rattle.std.proofs.Common.{◌≡◌, Bool, true, false, List, [], ◌∷◌, refl, sym, ap, ◌∙◌, subst}
+use Rattle.std.proofs.Common.{◌≡◌, List, ◌∷◌, refl, ap, ◌∙◌, subst}
 use Rattle.row_machine.specs.Valuation.{Valuation}
 use Rattle.row_machine.specs.Machine.{Machine, Started, base_of, after_edges}
 use Rattle.row_machine.specs.Settle.{SettlesBy, ends, goes_on, woken, adds}
@@ -20,8 +20,8 @@ module _ (IsSettled : Started → Valuation → Valuation → Type 0) (once : (s
   step_once r last held s t u v w a b =
       let first = settles_once a.inputs_settle b.inputs_settle in
       settles_once a.updates_settle
-        (subst (λ (x : Valuation). SettlesBy IsSettled d (base_of d r (after_edges d last x)) a.started u w) first.1
-          (subst (λ (x : Started). SettlesBy IsSettled d (base_of d r (after_edges d last b.quiet)) x u w) first.0 b.updates_settle))
+      (subst (λ (x : Valuation). SettlesBy IsSettled d (base_of d r (after_edges d last x)) a.started u w) first.1
+      (subst (λ (x : Started). SettlesBy IsSettled d (base_of d r (after_edges d last b.quiet)) x u w) first.0 b.updates_settle))
 
   pub trace_once : {last held : Valuation} {s : Started} {rows vs us : List Valuation} → TraceBy IsSettled d last held s rows vs → TraceBy IsSettled d last held s rows us → us ≡ vs
   trace_once done done = refl

@@ -1,5 +1,5 @@
 -- What a bit holds after a list of writers.
-use Rattle.std.proofs.Common.{◌≡◌, ◌⊎◌, Bool, true, false, List, [], ◌∷◌, None, refl, sym, ap, ◌∙◌, subst, inl, inr}
+use Rattle.std.proofs.Common.{◌≡◌, ◌⊎◌, true, false, List, [], ◌∷◌, None, refl, sym, ap, ◌∙◌, subst, inl, inr}
 use Rattle.row_machine.specs.Valuation.{Place, Valuation, Changes, Member, has, changed, put, put_each, NoneWrites, OneWriter}
 use Rattle.row_machine.proofs.Basics.{true_or_false, clash}
 
@@ -36,10 +36,10 @@ module _ {A : Type 0} (writes : A → List Place) where
   writer [] q = inr (λ x m. elim m [ ])
   writer (y ∷ ys) q =
       elim (true_or_false (has (writes y) q)) [
-        inl t ↦ inl (y, inl refl, t)
-      | inr t ↦ elim (writer ys q) [
-          inl r ↦ inl (r.0, inr r.1, r.2)
-        | inr n ↦ inr (none_of ys y q t n)
+        | inl t ↦ inl (y, inl refl, t)
+        | inr t ↦ elim (writer ys q) [
+          | inl r ↦ inl (r.0, inr r.1, r.2)
+          | inr n ↦ inr (none_of ys y q t n)
         ]
       ]
     where

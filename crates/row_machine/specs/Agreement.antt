@@ -1,9 +1,8 @@
 -- Agreement of two machines, a source and a target: the target's valuation is a function of the source's.
 use Rattle.std.specs.Prelude.{◌≡◌, ◌⊎◌, Bool, true, false, List, map, Option, Some, None}
-use Rattle.std.specs.List.{AllZip}
 use Rattle.b4_core.specs.declared.bit.Bit4.{Bit4}
 use Rattle.b4_core.specs.declared.bit.Bit4.TheVariants.{Zero, One, X, Z}
-use Rattle.row_machine.specs.Valuation.{Place, Valuation, Changes, Member, has, NoneWrites, OneWriter}
+use Rattle.row_machine.specs.Valuation.{Place, Valuation, Changes, Member, has, NoneWrites}
 use Rattle.row_machine.specs.Machine.{Process, EdgeProcess, Machine}
 use Rattle.row_machine.specs.Settle.{differs}
 use Rattle.row_machine.specs.Trace.{HasTrace}

@@ -1,5 +1,5 @@
 -- Machines that are alike at each point: the target of a design that needs no map.
-use Rattle.std.specs.Prelude.{◌≡◌, List}
+use Rattle.std.specs.Prelude.{◌≡◌}
 use Rattle.std.specs.List.{AllZip}
 use Rattle.row_machine.specs.Valuation.{Place, Valuation}
 use Rattle.row_machine.specs.Machine.{Process, EdgeProcess, Machine}

@@ -1,10 +1,10 @@
 -- Settling: the valuation that the started processes agree on, and the processes that it starts.
-use Rattle.std.specs.Prelude.{◌≡◌, Bool, true, false, not, ◌&&◌, ◌||◌, List, [], ◌∷◌}
+use Rattle.std.specs.Prelude.{◌≡◌, Bool, true, false, not, ◌&&◌, ◌||◌, List}
 use Rattle.b4_core.specs.declared.bit.Bit4.{Bit4}
 use Rattle.b4_core.specs.declared.bit.Bit4.TheVariants.{Zero, One, X, Z}
 use Rattle.std.specs.List.{list_any}
 use Rattle.row_machine.specs.Valuation.{Place, Valuation, put_each}
-use Rattle.row_machine.specs.Machine.{Process, Machine, Started, told}
+use Rattle.row_machine.specs.Machine.{Machine, Started, told}
 
 -- a valuation is settled if it is the base, overwritten by what the started processes assign when run on it
 abbrev pub Settled : Machine → Started → Valuation → Valuation → Type 0

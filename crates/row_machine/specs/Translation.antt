@@ -1,5 +1,5 @@
 -- A target machine that translates a source machine.
-use Rattle.std.specs.Prelude.{◌≡◌, false, List, Some}
+use Rattle.std.specs.Prelude.{false, List, Some}
 use Rattle.std.specs.List.{AllZip}
 use Rattle.row_machine.specs.Valuation.{Valuation}
 use Rattle.row_machine.specs.Machine.{Machine, Started}

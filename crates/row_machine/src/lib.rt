@@ -6,103 +6,101 @@
 #![tactic(auto)]
 
 ghost use Rattle.row_machine.specs.Laws.{
-    AlikeAreEqual, AlikeTranslates, EachHasOneTrace, IndependentAreFree, OneRoundTrace, OneRunSettles, OneSettled, OrderFrees, RefinementTranslates,
-    RoundTraceIsTrace, RoundsReach, RoundsTrace, RunsTrace, SettlingEnds, SimulationAgrees, TargetIsFree,
+  AlikeAreEqual,
+  AlikeTranslates,
+  EachHasOneTrace,
+  IndependentAreFree,
+  OneRoundTrace,
+  OneRunSettles,
+  OneSettled,
+  OrderFrees,
+  RefinementTranslates,
+  RoundTraceIsTrace,
+  RoundsReach,
+  RoundsTrace,
+  RunsTrace,
+  SettlingEnds,
+  SimulationAgrees,
+  TargetIsFree,
 };
 
 /// Over a base and a set of started processes a sound machine has exactly one settled valuation.
 pub fn one_settled()
     ensures { OneSettled }
-{
-}
+{}
 
 /// Settling from a set of started processes ends, with one set and one valuation.
 pub fn settling_ends()
     ensures { SettlingEnds }
-{
-}
+{}
 
 /// A sound machine has exactly one trace for any rows.
 pub fn one_trace()
     ensures { EachHasOneTrace }
-{
-}
+{}
 
 /// Processes that stand in an order, none following itself or a later one, are free: none is stuck.
 pub fn order_frees()
     ensures { OrderFrees }
-{
-}
+{}
 
 /// Processes none of which reads a bit that one of them writes are free.
 pub fn independent_are_free()
     ensures { IndependentAreFree }
-{
-}
+{}
 
 /// One run of the processes in an order gives the settled valuation.
 pub fn one_run_settles()
     ensures { OneRunSettles }
-{
-}
+{}
 
 /// Running the processes in an order, row by row, gives the trace.
 pub fn runs_trace()
     ensures { RunsTrace }
-{
-}
+{}
 
 /// From the base, the rounds of a sound machine reach the settled valuation within the round limit,
 /// which is one more than the number of bits that its combinational processes may write.
 pub fn rounds_reach()
     ensures { RoundsReach }
-{
-}
+{}
 
 /// The trace of a sound machine is its trace by rounds.
 pub fn rounds_trace()
     ensures { RoundsTrace }
-{
-}
+{}
 
 /// A trace by rounds of any machine is a trace.
 pub fn round_trace_is_trace()
     ensures { RoundTraceIsTrace }
-{
-}
+{}
 
 /// Any machine has at most one trace by rounds.
 pub fn one_round_trace()
     ensures { OneRoundTrace }
-{
-}
+{}
 
 /// Machines whose processes and values are alike at each point are equal.
 pub fn alike_are_equal()
     ensures { AlikeAreEqual }
-{
-}
+{}
 
 /// A target that simulates its source has the source's traces and no others, for rows that are alike.
 pub fn simulation_agrees()
     ensures { SimulationAgrees }
-{
-}
+{}
 
 /// Where no source process is stuck and copies add no dependence, no target process is stuck.
 pub fn target_is_free()
     ensures { TargetIsFree }
-{
-}
+{}
 
 /// A target that refines its source translates it: one trace on each side, traces that agree, rounds that reach.
 pub fn refinement_translates()
     ensures { RefinementTranslates }
-{
-}
+{}
 
 /// A target that is alike at each point translates a sound source.
 pub fn alike_translates()
     ensures { AlikeTranslates }
-{
-}
+{}
