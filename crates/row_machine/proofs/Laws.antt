@@ -1,7 +1,7 @@
 -- The proofs of the laws, as crates above cite them.
 use Rattle.row_machine.specs.Settle.{Settled}
 use Rattle.row_machine.specs.Order.{free, follows}
-use Rattle.row_machine.specs.Laws.{OneSettled, SettlingEnds, EachHasOneTrace, OrderFrees, IndependentAreFree, OneRunSettles, RunsTrace, RoundsReach, RoundsTrace, RoundTraceIsTrace, OneRoundTrace, AlikeAreEqual, SimulationAgrees, TargetIsFree, RefinementTranslates, AlikeTranslates}
+use Rattle.row_machine.specs.Laws.{PlacesAreAnOrder, FreeOrStuck, LeftAreStuck, OneSettled, SettlingEnds, EachHasOneTrace, OrderFrees, IndependentAreFree, OneRunSettles, RunsTrace, RoundsReach, RoundsTrace, RoundTraceIsTrace, OneRoundTrace, AlikeAreEqual, SimulationAgrees, TargetIsFree, RefinementTranslates, AlikeTranslates}
 use Rattle.row_machine.proofs.Basics.{clash}
 use Rattle.row_machine.proofs.Settled.{settled_once}
 use Rattle.row_machine.proofs.Settling.{settled_at, settles}
@@ -10,6 +10,8 @@ use Rattle.row_machine.proofs.Rounds.{reaches}
 use Rattle.row_machine.proofs.Traces as Traces
 use Rattle.row_machine.proofs.Orders as Orders
 use Rattle.row_machine.proofs.RoundTraces as RoundTraces
+use Rattle.row_machine.proofs.OrderOfPlaces as OrderOfPlaces
+use Rattle.row_machine.proofs.Stuck as Stuck
 use Rattle.row_machine.proofs.Runs as Runs
 use Rattle.row_machine.proofs.Alike as Alike
 use Rattle.row_machine.proofs.TracesAgree as TracesAgree
@@ -34,6 +36,15 @@ order_frees = Orders.order_frees
 
 pub independent_are_free : IndependentAreFree
 independent_are_free ps none p m = free (λ q mq f. clash (follows p q) f (none p q m mq))
+
+pub places_are_an_order : PlacesAreAnOrder
+places_are_an_order ps d ks one order = OrderOfPlaces.order_of_places ps d one ks order
+
+pub free_or_stuck : FreeOrStuck
+free_or_stuck ps p m = (Stuck.free_or_stuck ps p m, Stuck.free_not_stuck ps p)
+
+pub left_are_stuck : LeftAreStuck
+left_are_stuck = Stuck.left_are_stuck
 
 pub one_run_settles : OneRunSettles
 one_run_settles = Runs.one_run

@@ -21,3 +21,5 @@ pub mod Assignments
 pub mod Runs
 mod Examples
 mod CopyExample
+pub mod Stuck
+pub mod OrderOfPlaces

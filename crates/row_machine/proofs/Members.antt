@@ -1,8 +1,8 @@
 -- Elements of lists, and lists with one writer, for the machines of crates above.
-use Rattle.std.proofs.Common.{◌≡◌, ℕ, zero, suc, ◌<◌, ◌⊎◌, true, false, List, [], ◌∷◌, ◌++◌, map, length, slice_index_or, All, refl, sym, ap, subst, inl, inr, arith, le_of_suc-le-suc}
+use Rattle.std.proofs.Common.{◌≡◌, ℕ, zero, suc, ◌<◌, ◌⊎◌, Bool, true, false, not, cond, filter, List, [], ◌∷◌, ◌++◌, map, length, slice_index_or, All, refl, sym, ap, ◌∙◌, subst, inl, inr, arith, le_of_suc-le-suc}
 use Rattle.std.specs.List.{AllZip}
 use Rattle.row_machine.specs.Valuation.{Place, Member, has, NoneWrites, OneWriter}
-use Rattle.row_machine.proofs.Basics.{member_at}
+use Rattle.row_machine.proofs.Basics.{member_at, true_or_false}
 
 -- an element stands somewhere
 pub member-place : {A : Type 0} (xs : List A) (x : A) → Member xs x → (k : ℕ) × (k < length xs) × (slice_index_or xs k x ≡ x)
@@ -37,6 +37,29 @@ member-front (y ∷ xs) ys x (inr m) = inr (member-front xs ys x m)
 pub member-back : {A : Type 0} (xs ys : List A) (x : A) → Member ys x → Member (xs ++ ys) x
 member-back [] ys x m = m
 member-back (y ∷ xs) ys x m = inr (member-back xs ys x m)
+
+pub member-filter : {A : Type 0} (test : A → Bool) (xs : List A) (x : A) → Member xs x → test x ≡ true → Member (filter test xs) x
+member-filter test [] x m t = elim m [ ]
+member-filter test (y ∷ ys) x (inl e) t =
+    subst (λ b. Member (cond b (y ∷ filter test ys) (filter test ys)) x) (sym ((λ i. test (sym e i)) ∙ t)) (inl e)
+member-filter test (y ∷ ys) x (inr m) t = either (test y) (member-filter test ys x m t)
+  where
+    either : (b : Bool) → Member (filter test ys) x → Member (cond b (y ∷ filter test ys) (filter test ys)) x
+    either true k = inr k
+    either false k = k
+
+pub filter-member : {A : Type 0} (test : A → Bool) (xs : List A) (x : A) → Member (filter test xs) x → Member xs x × (test x ≡ true)
+filter-member test [] x m = elim m [ ]
+filter-member test (y ∷ ys) x m = either (true_or_false (test y)) m (filter-member test ys x)
+  where
+    either : (test y ≡ true) ⊎ (test y ≡ false) → Member (cond (test y) (y ∷ filter test ys) (filter test ys)) x
+        → (Member (filter test ys) x → Member ys x × (test x ≡ true)) → Member (y ∷ ys) x × (test x ≡ true)
+    either (inl t) m rest = first (subst (λ b. Member (cond b (y ∷ filter test ys) (filter test ys)) x) t m)
+      where
+        first : Member (y ∷ filter test ys) x → Member (y ∷ ys) x × (test x ≡ true)
+        first (inl e) = (inl e, (λ i. test (e i)) ∙ t)
+        first (inr k) = let r = rest k in (inr r.0, r.1)
+    either (inr f) m rest = let r = rest (subst (λ b. Member (cond b (y ∷ filter test ys) (filter test ys)) x) f m) in (inr r.0, r.1)
 
 -- rows that are made from one list
 pub zip-maps : {A B C : Type 0} (R : B → C → Type 0) (f : A → B) (g : A → C) (xs : List A) → ((x : A) → Member xs x → R (f x) (g x)) → AllZip R (map f xs) (map g xs)

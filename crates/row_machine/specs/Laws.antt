@@ -1,11 +1,12 @@
 -- The laws of machines over rows. Each is the contract of a function of this crate.
-use Rattle.std.specs.Prelude.{◌≡◌, ◌↔◌, false, List}
+use Rattle.std.specs.Prelude.{◌≡◌, ◌↔◌, ◌⊎◌, ℕ, true, false, List}
 use Rattle.std.specs.List.{AllZip}
-use Rattle.row_machine.specs.Valuation.{Valuation, Member}
+use Rattle.row_machine.specs.Valuation.{Valuation, Member, OneWriter}
 use Rattle.row_machine.specs.Machine.{Process, Machine, Started}
 use Rattle.row_machine.specs.Settle.{Settled, Settles}
 use Rattle.row_machine.specs.Trace.{HasTrace, OneTrace}
 use Rattle.row_machine.specs.Order.{Sound, Free, follows, IsOrder, run}
+use Rattle.row_machine.specs.Stuck.{Stuck, IsOrderOfPlaces, at_places}
 use Rattle.row_machine.specs.Runs.{trace_of}
 use Rattle.row_machine.specs.Rounds.{Reaches, HasRoundTrace}
 use Rattle.row_machine.specs.Alike.{Alike}
@@ -34,6 +35,19 @@ OrderFrees = (ps qs : List Process) → IsOrder ps qs → (p : Process) → Memb
 -- so are processes none of which follows another
 abbrev pub IndependentAreFree : Type 0
 IndependentAreFree = (ps : List Process) → ((p q : Process) → Member ps p → Member ps q → follows p q ≡ false) → (p : Process) → Member ps p → Free ps p
+
+-- places in an order give the processes in an order
+abbrev pub PlacesAreAnOrder : Type 0
+PlacesAreAnOrder = (ps : List Process) (d : Process) (ks : List ℕ) → OneWriter (λ (p : Process). p.writes) ps → IsOrderOfPlaces ps d ks → IsOrder ps (at_places ps d ks)
+
+-- each process is free or stuck, and not both
+abbrev pub FreeOrStuck : Type 0
+FreeOrStuck = (ps : List Process) (p : Process) → Member ps p → (Free ps p ⊎ Stuck ps p) × (Free ps p → Stuck ps p → ⊥)
+
+-- processes each of which follows one of them are stuck
+abbrev pub LeftAreStuck : Type 0
+LeftAreStuck = (ps left : List Process) → ((p : Process) → Member left p → Member ps p)
+    → ((p : Process) → Member left p → (q : Process) × Member left q × (follows p q ≡ true)) → (p : Process) → Member left p → Stuck ps p
 
 -- one run in an order settles
 abbrev pub OneRunSettles : Type 0

@@ -10,3 +10,4 @@ pub mod Alike
 pub mod Dependence
 pub mod Translation
 pub mod Runs
+pub mod Stuck

@@ -5,7 +5,7 @@
 //! crates above, are in `proofs/Laws.antt` under the functions' names.
 #![tactic(auto)]
 
-ghost use Rattle.row_machine.specs.Laws.{
+ghost use Rattle.row_machine.specs.Laws.{FreeOrStuck, LeftAreStuck, PlacesAreAnOrder, 
   AlikeAreEqual,
   AlikeTranslates,
   EachHasOneTrace,
@@ -48,6 +48,24 @@ pub fn order_frees()
 pub fn independent_are_free()
     ensures { IndependentAreFree }
 {}
+
+/// Places that name each process once, none following itself or a later one, give an order.
+pub fn places_are_an_order()
+    ensures { PlacesAreAnOrder }
+{
+}
+
+/// Each process is free or stuck, and not both: it is stuck if it lies on a circle, or follows a process that does.
+pub fn free_or_stuck()
+    ensures { FreeOrStuck }
+{
+}
+
+/// Processes each of which follows one of them are stuck: what is left when an order can't go on.
+pub fn left_are_stuck()
+    ensures { LeftAreStuck }
+{
+}
 
 /// One run of the processes in an order gives the settled valuation.
 pub fn one_run_settles()
