@@ -94,8 +94,8 @@ module _ (m : Map) where
           let same : told s v p q ≡ told s' (lifted m v) t q' =
           only_if-same (s p) (p.assigns v) (t.assigns (lifted m v)) q q' (sym (twin.assigns v typed q q' o w)) ∙ ap (λ b. only_if b (t.assigns (lifted m v)) q') (sym (h.twins p t mp mt twin)) in (
             same,
-            at_writer e sound_e s' (lifted m v) base' t mt q' (twin.writes.images q q' o ∙ w) ∙ ap (λ x. changed x (base' q')) (sym same),
-            ap (λ f. f q) settled ∙ at_writer d sound_d s v base p mp q w,
+            at_writer e sound_e.well_written s' (lifted m v) base' t mt q' (twin.writes.images q q' o ∙ w) ∙ ap (λ x. changed x (base' q')) (sym same),
+            ap (λ f. f q) settled ∙ at_writer d sound_d.well_written s v base p mp q w,
           )
 
       always_written : (q : Place) (over : Overwritten m d q) → has over.by.writes q ≡ true
@@ -123,7 +123,7 @@ module _ (m : Map) where
                 let r = at_twin q q' o w.0 t.0 w.1 t.1 t.2 w.2 in
                 r.2 ∙ ap (λ b. changed (told s v w.0 q) b) (sym same) ∙ sym r.1)
             | inr n ↦
-                ap (λ f. f q) settled ∙ at_rest d sound_d s v base q n ∙ sym same ∙ sym (at_rest e sound_e s' (lifted m v) base' q' (none q q' o n))
+                ap (λ f. f q) settled ∙ at_rest d sound_d.well_written s v base q n ∙ sym same ∙ sym (at_rest e sound_e.well_written s' (lifted m v) base' q' (none q q' o n))
           ]
         where
           none : (q q' : Place) → m.origin q' ≡ Some q → NoneWrites of_process d.combs q → NoneWrites of_process e.combs q'
@@ -140,11 +140,11 @@ module _ (m : Map) where
             | inl w ↦ elim (simulates.source w.0 w.1) [
               | inl p ↦ clash (has w.0.writes q') w.2 (p.2.writes.no_more q' o)
               | inr copy ↦
-                  sym (at_writer e sound_e s' (lifted m v) base' w.0 w.1 q' w.2
+                  sym (at_writer e sound_e.well_written s' (lifted m v) base' w.0 w.1 q' w.2
                   ∙ ap (λ b. changed (only_if b (w.0.assigns (lifted m v)) q') (base' q')) (h.copies w.0 w.1 copy)
                   ∙ ap (λ c. changed c (base' q')) (copy.assigns v typed q' w.2))
             ]
-            | inr n ↦ simulates.unwritten q' o n v typed ∙ sym (bases.others q' o) ∙ sym (at_rest e sound_e s' (lifted m v) base' q' n)
+            | inr n ↦ simulates.unwritten q' o n v typed ∙ sym (bases.others q' o) ∙ sym (at_rest e sound_e.well_written s' (lifted m v) base' q' n)
           ]
 
       pub settled_alike : Settled e s' base' (lifted m v)

@@ -1,7 +1,7 @@
 -- The proofs of the laws, as crates above cite them.
 use Rattle.row_machine.specs.Settle.{Settled}
 use Rattle.row_machine.specs.Order.{free, follows}
-use Rattle.row_machine.specs.Laws.{PlacesAreAnOrder, FreeOrStuck, LeftAreStuck, OneSettled, SettlingEnds, EachHasOneTrace, OrderFrees, IndependentAreFree, OneRunSettles, RunsTrace, RoundsReach, RoundsTrace, RoundTraceIsTrace, OneRoundTrace, AlikeAreEqual, SimulationAgrees, TargetIsFree, RefinementTranslates, AlikeTranslates}
+use Rattle.row_machine.specs.Laws.{ReachedOrChanging, PlacesAreAnOrder, FreeOrStuck, LeftAreStuck, OneSettled, SettlingEnds, EachHasOneTrace, OrderFrees, IndependentAreFree, OneRunSettles, RunsTrace, RoundsReach, RoundsTrace, RoundTraceIsTrace, OneRoundTrace, AlikeAreEqual, SimulationAgrees, TargetIsFree, RefinementTranslates, AlikeTranslates}
 use Rattle.row_machine.proofs.Basics.{clash}
 use Rattle.row_machine.proofs.Settled.{settled_once}
 use Rattle.row_machine.proofs.Settling.{settled_at, settles}
@@ -10,6 +10,7 @@ use Rattle.row_machine.proofs.Rounds.{reaches}
 use Rattle.row_machine.proofs.Traces as Traces
 use Rattle.row_machine.proofs.Orders as Orders
 use Rattle.row_machine.proofs.RoundTraces as RoundTraces
+use Rattle.row_machine.proofs.RoundsEnd as RoundsEnd
 use Rattle.row_machine.proofs.OrderOfPlaces as OrderOfPlaces
 use Rattle.row_machine.proofs.Stuck as Stuck
 use Rattle.row_machine.proofs.Runs as Runs
@@ -63,6 +64,9 @@ round_trace_is_trace d rows vs t = RoundTraces.round_trace_trace d t
 
 pub one_round_trace : OneRoundTrace
 one_round_trace d rows vs us a b = RoundTraces.round_trace_once d a b
+
+pub reached_or_changing : ReachedOrChanging
+reached_or_changing d well s base = (RoundsEnd.reached_or_changing d well s base, RoundsEnd.not_both d s base)
 
 pub alike_are_equal : AlikeAreEqual
 alike_are_equal = Alike.same_machine

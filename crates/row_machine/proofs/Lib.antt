@@ -23,3 +23,4 @@ mod Examples
 mod CopyExample
 pub mod Stuck
 pub mod OrderOfPlaces
+pub mod RoundsEnd

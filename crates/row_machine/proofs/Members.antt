@@ -1,5 +1,5 @@
 -- Elements of lists, and lists with one writer, for the machines of crates above.
-use Rattle.std.proofs.Common.{◌≡◌, ℕ, zero, suc, ◌<◌, ◌⊎◌, Bool, true, false, not, cond, filter, List, [], ◌∷◌, ◌++◌, map, length, slice_index_or, All, refl, sym, ap, ◌∙◌, subst, inl, inr, arith, le_of_suc-le-suc}
+use Rattle.std.proofs.Common.{◌≡◌, ℕ, zero, suc, ◌<◌, ◌⊎◌, Bool, true, false, cond, filter, List, [], ◌∷◌, ◌++◌, map, length, slice_index_or, All, refl, sym, ap, ◌∙◌, subst, inl, inr, arith, le_of_suc-le-suc}
 use Rattle.std.specs.List.{AllZip}
 use Rattle.row_machine.specs.Valuation.{Place, Member, has, NoneWrites, OneWriter}
 use Rattle.row_machine.proofs.Basics.{member_at, true_or_false}

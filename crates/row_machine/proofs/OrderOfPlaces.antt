@@ -1,5 +1,5 @@
 -- An order that is given by the places of the processes.
-use Rattle.std.proofs.Common.{◌≡◌, ℕ, ◌<◌, ◌⊎◌, true, false, List, [], ◌∷◌, map, length, slice_index_or, refl, sym, ap, ◌∙◌, subst, inl, inr, arith}
+use Rattle.std.proofs.Common.{◌≡◌, ℕ, ◌<◌, true, false, List, [], ◌∷◌, length, slice_index_or, refl, sym, ◌∙◌, subst, inl, inr}
 use Rattle.std.proofs.lemmas.Bool.{cases_order}
 use Rattle.row_machine.specs.Valuation.{Place, Member, has, NoneWrites, OneWriter}
 use Rattle.row_machine.specs.Machine.{Process}
@@ -17,12 +17,12 @@ module _ (ps : List Process) (d : Process) (one : OneWriter of_process ps) where
   not_both : (k j : ℕ) → k < length ps → j < length ps → (k ≡ j → ⊥) → (q : Place) → has (at k).writes q ≡ true → has (at j).writes q ≡ false
   not_both k j hk hj other q h =
       elim (cases_order k j) [
-        inl e ↦ absurd (other e)
-      | inr less ↦ elim less [
-          inl l ↦ one_writer_at of_process ps one k j d l hj q h
-        | inr l ↦ elim (true_or_false (has (at j).writes q)) [
-            inl t ↦ clash (has (at k).writes q) h (one_writer_at of_process ps one j k d l hk q t)
-          | inr f ↦ f
+        | inl e ↦ absurd (other e)
+        | inr less ↦ elim less [
+          | inl l ↦ one_writer_at of_process ps one k j d l hj q h
+          | inr l ↦ elim (true_or_false (has (at j).writes q)) [
+            | inl t ↦ clash (has (at k).writes q) h (one_writer_at of_process ps one j k d l hk q t)
+            | inr f ↦ f
           ]
         ]
       ]
@@ -39,12 +39,12 @@ module _ (ps : List Process) (d : Process) (one : OneWriter of_process ps) where
 
   pub order_of_places : (ks : List ℕ) → IsOrderOfPlaces ps d ks → IsOrder ps (at_places ps d ks)
   order_of_places ks order = record {
-      every = λ p m.
-          let k = member-place ps p m in
-          subst (Member (at_places ps d ks)) (same_element ps k.0 d p k.1 ∙ k.2) (member-map at ks k.0 (order.every k.0 k.1));
-      only = λ p m.
-          let k = map-member at ks p m in
-          subst (Member ps) (sym k.2) (member_at ps k.0 d (order.within k.0 k.1));
-      one_writer = one_writer ks order.within order.distinct;
-      ordered = order.ordered
-    }
+    every = λ p m.
+        let k = member-place ps p m in
+        subst (Member (at_places ps d ks)) (same_element ps k.0 d p k.1 ∙ k.2) (member-map at ks k.0 (order.every k.0 k.1));
+    only = λ p m.
+        let k = map-member at ks p m in
+        subst (Member ps) (sym k.2) (member_at ps k.0 d (order.within k.0 k.1));
+    one_writer = one_writer ks order.within order.distinct;
+    ordered = order.ordered;
+  }

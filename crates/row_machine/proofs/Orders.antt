@@ -54,7 +54,7 @@ module _ (d : Machine) (sound : Sound d) (s : Started) (base u : Valuation) (set
           ((sound.honest p m).by_reads v u (λ r reads. half.alike r (unread p (p ∷ qs) order.0 r reads)) q)
 
       kept : (q : Place) → has p.writes q ≡ false → put (told s v p) v q ≡ v q
-      kept q e = ap (λ o. changed o (v q)) (told-within d sound s v p m q e)
+      kept q e = ap (λ o. changed o (v q)) (told-within d sound.well_written s v p m q e)
 
       alike : (q : Place) → NoneWrites of_process qs q → put (told s v p) v q ≡ u q
       alike q n =
@@ -62,7 +62,7 @@ module _ (d : Machine) (sound : Sound d) (s : Started) (base u : Valuation) (set
             | inl t ↦
                 ap (λ o. changed o (v q)) (told_alike q)
                 ∙ ap (λ b. changed (told s u p q) b) (half.ahead p (inl refl) q t)
-                ∙ sym (at_writer d sound s u base p m q t)
+                ∙ sym (at_writer d sound.well_written s u base p m q t)
                 ∙ sym (ap (λ f. f q) settled)
             | inr f ↦ kept q f ∙ half.alike q (none_of p qs q f n)
           ]
@@ -74,7 +74,7 @@ module _ (d : Machine) (sound : Sound d) (s : Started) (base u : Valuation) (set
 
   at_first : (qs : List Process) → IsOrder d.combs qs → Half qs base
   at_first qs order = record {
-    alike = λ q n. sym (at_rest d sound s u base q (λ p m. n p (order.every p m))) ∙ sym (ap (λ f. f q) settled);
+    alike = λ q n. sym (at_rest d sound.well_written s u base q (λ p m. n p (order.every p m))) ∙ sym (ap (λ f. f q) settled);
     ahead = λ p m q h. refl;
   }
 

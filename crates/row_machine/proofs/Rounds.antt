@@ -58,12 +58,12 @@ module _ (d : Machine) (sound : Sound d) (s : Started) (base : Valuation) where
   next_stands is_done v st = record {
     closed = λ p m e q mq f. stays_done is_done v st q mq (before_done is_done p e q mq f);
     kept = λ p m e q h.
-        at_writer d sound s (round d s base v) base p m q h
-        ∙ ap (λ o. changed o (base q)) (same_told d sound s (round d s base v) v p m
-        (λ r n. at_rest d sound s v base r n ∙ sym (st.outside r n))
+        at_writer d sound.well_written s (round d s base v) base p m q h
+        ∙ ap (λ o. changed o (base q)) (same_told d sound.well_written s (round d s base v) v p m
+        (λ r n. at_rest d sound.well_written s v base r n ∙ sym (st.outside r n))
         (λ q2 m2 f r w. st.kept q2 m2 (before_done is_done p e q2 m2 f) r w) q)
-        ∙ sym (at_writer d sound s v base p m q h);
-    outside = λ q n. at_rest d sound s v base q n;
+        ∙ sym (at_writer d sound.well_written s v base p m q h);
+    outside = λ q n. at_rest d sound.well_written s v base q n;
   }
 
   -- a process that isn't done, or else all are
@@ -121,7 +121,7 @@ module _ (d : Machine) (sound : Sound d) (s : Started) (base : Valuation) where
       at q =
           elim (writer of_process d.combs q) [
             | inl w ↦ sym (st.kept w.0 w.1 (all w.0 w.1 (some_bit w.0.writes q w.2)) q w.2)
-            | inr n ↦ st.outside q n ∙ sym (at_rest d sound s v base q n)
+            | inr n ↦ st.outside q n ∙ sym (at_rest d sound.well_written s v base q n)
           ]
 
   come_to_rest : (n : ℕ) (is_done : Process → Bool) (v : Valuation) → Stands is_done v → open_bits is_done ≤ n → (k : ℕ) × (k ≤ n) × Settled d s base (after_rounds d s base k v)

@@ -10,14 +10,14 @@ use Rattle.row_machine.proofs.Told.{of_process, at_rest, at_writer, same_told}
 module _ (d : Machine) (sound : Sound d) (s : Started) (base v u : Valuation) (settled_v : Settled d s base v) (settled_u : Settled d s base u) where
   same_rest : (q : Place) → NoneWrites of_process d.combs q → v q ≡ u q
   same_rest q n =
-      ap (λ f. f q) settled_v ∙ at_rest d sound s v base q n ∙ sym (at_rest d sound s u base q n) ∙ sym (ap (λ f. f q) settled_u)
+      ap (λ f. f q) settled_v ∙ at_rest d sound.well_written s v base q n ∙ sym (at_rest d sound.well_written s u base q n) ∙ sym (ap (λ f. f q) settled_u)
 
   same_written : (p : Process) → Free d.combs p → Member d.combs p → (q : Place) → has p.writes q ≡ true → v q ≡ u q
   same_written p (free h) m q e =
       ap (λ f. f q) settled_v
-      ∙ at_writer d sound s v base p m q e
-      ∙ ap (λ o. changed o (base q)) (same_told d sound s v u p m same_rest (λ p2 m2 f. same_written p2 (h p2 m2 f) m2) q)
-      ∙ sym (at_writer d sound s u base p m q e)
+      ∙ at_writer d sound.well_written s v base p m q e
+      ∙ ap (λ o. changed o (base q)) (same_told d sound.well_written s v u p m same_rest (λ p2 m2 f. same_written p2 (h p2 m2 f) m2) q)
+      ∙ sym (at_writer d sound.well_written s u base p m q e)
       ∙ sym (ap (λ f. f q) settled_u)
 
   pub settled_once : v ≡ u

@@ -1,5 +1,5 @@
 -- A process is free or stuck, and not both.
-use Rattle.std.proofs.Common.{◌≡◌, ℕ, zero, suc, ◌+◌, ◌<◌, ◌≤◌, ◌⊎◌, Bool, true, false, not, ◌&&◌, ◌||◌, ◌==◌, List, [], ◌∷◌, filter, cond, length, slice_index_or, refl, sym, ap, ◌∙◌, subst, inl, inr, arith}
+use Rattle.std.proofs.Common.{◌≡◌, ℕ, zero, suc, ◌<◌, ◌≤◌, ◌⊎◌, Bool, true, false, not, ◌&&◌, ◌||◌, ◌==◌, List, [], ◌∷◌, filter, length, slice_index_or, refl, sym, ◌∙◌, subst, inl, inr, arith}
 use Rattle.std.proofs.lemmas.Bool.{and_parts, and_from, or_cases, or_left, or_right, or_from, not-true, not_from_false, eqb-true, eqb-false, eq-eqb}
 use Rattle.std.specs.List.{list_any}
 use Rattle.row_machine.specs.Valuation.{Member}
@@ -26,8 +26,8 @@ free_onwards ps (free h) (further {q = q} m f rest) = free_onwards ps (h q m f) 
 pub free_not_stuck : (ps : List Process) (p : Process) → Free ps p → Stuck ps p → ⊥
 free_not_stuck ps p f stuck =
     elim stuck.leads_there [
-      inl e ↦ on_no_circle ps stuck.circle (subst (Free ps) e f) stuck.is_circle
-    | inr on ↦ on_no_circle ps stuck.circle (free_onwards ps f on) stuck.is_circle
+      | inl e ↦ on_no_circle ps stuck.circle (subst (Free ps) e f) stuck.is_circle
+      | inr on ↦ on_no_circle ps stuck.circle (free_onwards ps f on) stuck.is_circle
     ]
 
 abbrev upto : ℕ → List ℕ
@@ -84,14 +84,14 @@ module _ (ps left : List Process) (within : (p : Process) → Member left p → 
   fewer : (visited : ℕ → Bool) (k : ℕ) → k < length left → visited k ≡ false → unvisited (and_also visited k) < unvisited visited
   fewer visited k h new =
       open_weight-falls (λ i. 1) visited (and_also visited k) (upto (length left)) (λ i m e. or_left (visited i) (i == k) e) k (member-upto (length left) k h) new
-        (or_right (visited k) (k == k) (eq-eqb k k refl)) (omega arith)
+      (or_right (visited k) (k == k) (eq-eqb k k refl)) (omega arith)
 
   here_again : (k j : ℕ) → k < length left → follows (at k) (at j) ≡ true → j ≡ k → ReachedFrom k → Stuck ps start
   here_again k j h f e from = record {
-      circle = at k;
-      is_circle = at_once (in_all k h) ((λ i. follows (at k) (at (sym e i))) ∙ f);
-      leads_there = from
-    }
+    circle = at k;
+    is_circle = at_once (in_all k h) ((λ i. follows (at k) (at (sym e i))) ∙ f);
+    leads_there = from;
+  }
 
   back_there : (k j : ℕ) → j < length left → follows (at k) (at j) ≡ true → FollowsOn ps (at j) (at k) → ReachedFrom k → Stuck ps start
   back_there k j h f on from = record { circle = at j; is_circle = longer ps on (in_all j h) f; leads_there = onwards k j h f from }
@@ -99,8 +99,8 @@ module _ (ps left : List Process) (within : (p : Process) → Member left p → 
   trail_on : (visited : ℕ → Bool) (k j : ℕ) → j < length left → follows (at k) (at j) ≡ true → Trail visited k → Trail (and_also visited k) j
   trail_on visited k j h f trail i e =
       elim (or_cases (visited i) (i == k) e) [
-        inl t ↦ longer ps (trail i t) (in_all j h) f
-      | inr same ↦ at_once (in_all j h) ((λ x. follows (at (eqb-true i k same x)) (at j)) ∙ f)
+        | inl t ↦ longer ps (trail i t) (in_all j h) f
+        | inr same ↦ at_once (in_all j h) ((λ x. follows (at (eqb-true i k same x)) (at j)) ∙ f)
       ]
 
   walk : (n : ℕ) (visited : ℕ → Bool) (k : ℕ) → k < length left → visited k ≡ false → Trail visited k → ReachedFrom k → unvisited visited ≤ n → Stuck ps start
@@ -108,11 +108,11 @@ module _ (ps left : List Process) (within : (p : Process) → Member left p → 
   walk (suc n) visited k h new trail from le =
       let s = next_place k h in
       elim (true_or_false (s.0 == k)) [
-        inl same ↦ here_again k s.0 h s.2 (eqb-true s.0 k same) from
-      | inr other ↦ elim (true_or_false (visited s.0)) [
-          inl seen ↦ back_there k s.0 s.1 s.2 (trail s.0 seen) from
-        | inr unseen ↦
-            walk n (and_also visited k) s.0 s.1 (or_from (visited s.0) (s.0 == k) unseen other) (trail_on visited k s.0 s.1 s.2 trail) (onwards k s.0 s.1 s.2 from)
+        | inl same ↦ here_again k s.0 h s.2 (eqb-true s.0 k same) from
+        | inr other ↦ elim (true_or_false (visited s.0)) [
+          | inl seen ↦ back_there k s.0 s.1 s.2 (trail s.0 seen) from
+          | inr unseen ↦
+              walk n (and_also visited k) s.0 s.1 (or_from (visited s.0) (s.0 == k) unseen other) (trail_on visited k s.0 s.1 s.2 trail) (onwards k s.0 s.1 s.2 from)
               (omega (arith, fewer visited k h new, le))
         ]
       ]
@@ -145,8 +145,8 @@ module _ (ps : List Process) where
   next_free : (is_done : Process → Bool) → AreFree is_done → (p : Process) → waits is_done p ≡ false → Free ps p
   next_free is_done are p e =
       free (λ q m f. elim (true_or_false (is_done q)) [
-        inl t ↦ are q m t
-      | inr n ↦ clash (waits is_done p) (member-any (λ x. follows p x && not (is_done x)) ps q m (and_from (follows p q) (not (is_done q)) f (not_from_false (is_done q) n))) e
+        | inl t ↦ are q m t
+        | inr n ↦ clash (waits is_done p) (member-any (λ x. follows p x && not (is_done x)) ps q m (and_from (follows p q) (not (is_done q)) f (not_from_false (is_done q) n))) e
       ])
 
   abbrev more_done : (Process → Bool) → Process → Bool
@@ -161,16 +161,16 @@ module _ (ps : List Process) where
       let r = any-member (can_go is_done) ps more in
       let both = and_parts (not (is_done r.0)) (not (waits is_done r.0)) r.2 in
       open_weight-falls (λ p. 1) is_done (more_done is_done) ps (λ p m e. or_left (is_done p) (not (waits is_done p)) e) r.0 r.1
-        (not-true (is_done r.0) both.0) (or_right (is_done r.0) (not (waits is_done r.0)) both.1) (omega arith)
+      (not-true (is_done r.0) both.0) (or_right (is_done r.0) (not (waits is_done r.0)) both.1) (omega arith)
 
   rest_of : (is_done : Process → Bool) → list_any (can_go is_done) ps ≡ false → Rest is_done
   rest_of is_done none p m e =
       elim (true_or_false (waits is_done p)) [
-        inl t ↦ (let r = any-member (λ x. follows p x && not (is_done x)) ps t in
-                 let both = and_parts (follows p r.0) (not (is_done r.0)) r.2 in
-                 (r.0, r.1, not-true (is_done r.0) both.1, both.0))
-      | inr n ↦ clash (list_any (can_go is_done) ps)
-          (member-any (can_go is_done) ps p m (and_from (not (is_done p)) (not (waits is_done p)) (not_from_false (is_done p) e) (not_from_false (waits is_done p) n))) none
+        | inl t ↦ (let r = any-member (λ x. follows p x && not (is_done x)) ps t in
+            let both = and_parts (follows p r.0) (not (is_done r.0)) r.2 in
+            (r.0, r.1, not-true (is_done r.0) both.1, both.0))
+        | inr n ↦ clash (list_any (can_go is_done) ps)
+            (member-any (can_go is_done) ps p m (and_from (not (is_done p)) (not (waits is_done p)) (not_from_false (is_done p) e) (not_from_false (waits is_done p) n))) none
       ]
 
   abbrev Parted : Type 0
@@ -179,13 +179,13 @@ module _ (ps : List Process) where
   parted : (n : ℕ) (is_done : Process → Bool) → AreFree is_done → open_weight (λ p. 1) is_done ps ≤ n → Parted
   parted zero is_done are le =
       elim (true_or_false (list_any (can_go is_done) ps)) [
-        inl more ↦ absurd (omega (arith, fewer_left is_done more, le))
-      | inr none ↦ (is_done, are, rest_of is_done none)
+        | inl more ↦ absurd (omega (arith, fewer_left is_done more, le))
+        | inr none ↦ (is_done, are, rest_of is_done none)
       ]
   parted (suc n) is_done are le =
       elim (true_or_false (list_any (can_go is_done) ps)) [
-        inl more ↦ parted n (more_done is_done) (more_free is_done are) (omega (arith, fewer_left is_done more, le))
-      | inr none ↦ (is_done, are, rest_of is_done none)
+        | inl more ↦ parted n (more_done is_done) (more_free is_done are) (omega (arith, fewer_left is_done more, le))
+        | inr none ↦ (is_done, are, rest_of is_done none)
       ]
 
   abbrev undone : (Process → Bool) → List Process
@@ -201,7 +201,7 @@ module _ (ps : List Process) where
   free_or_stuck p m =
       let r = parted (open_weight (λ p. 1) (λ p. false) ps) (λ p. false) (λ p m e. clash false e refl) (omega arith) in
       elim (true_or_false (r.0 p)) [
-        inl t ↦ inl (r.1 p m t)
-      | inr n ↦ inr (left_are_stuck ps (undone r.0) (λ q k. (filter-member (λ p. not (r.0 p)) ps q k).0) (next_undone r.0 r.2) p
-          (member-filter (λ p. not (r.0 p)) ps p m (not_from_false (r.0 p) n)))
+        | inl t ↦ inl (r.1 p m t)
+        | inr n ↦ inr (left_are_stuck ps (undone r.0) (λ q k. (filter-member (λ p. not (r.0 p)) ps q k).0) (next_undone r.0 r.2) p
+            (member-filter (λ p. not (r.0 p)) ps p m (not_from_false (r.0 p) n)))
       ]

@@ -2,7 +2,7 @@
 use Rattle.std.proofs.Common.{◌≡◌, Bool, true, false, List, None, refl, inl, inr}
 use Rattle.row_machine.specs.Valuation.{Place, Valuation, Changes, Member, has, changed, only_if, put_each, NoneWrites}
 use Rattle.row_machine.specs.Machine.{Process, Machine, Started, told}
-use Rattle.row_machine.specs.Order.{Sound, follows}
+use Rattle.row_machine.specs.Order.{WellWritten, follows}
 use Rattle.row_machine.proofs.Basics.{follows_writer}
 use Rattle.row_machine.proofs.Writes.{Within, unwritten, written, writer}
 
@@ -17,9 +17,9 @@ only_if-same false c c' q q' e = refl
 abbrev pub of_process : Process → List Place
 of_process p = p.writes
 
-module _ (d : Machine) (sound : Sound d) (s : Started) where
+module _ (d : Machine) (well : WellWritten d) (s : Started) where
   pub told-within : (v : Valuation) → Within of_process (told s v) d.combs
-  told-within v p m q n = only_if-none (s p) (p.assigns v) q ((sound.honest p m).within v q n)
+  told-within v p m q n = only_if-none (s p) (p.assigns v) q ((well.honest p m).within v q n)
 
   -- a bit that nobody writes
   pub at_rest : (v base : Valuation) (q : Place) → NoneWrites of_process d.combs q → put_each (told s v) d.combs base q ≡ base q
@@ -27,7 +27,7 @@ module _ (d : Machine) (sound : Sound d) (s : Started) where
 
   -- a bit that p writes
   pub at_writer : (v base : Valuation) (p : Process) → Member d.combs p → (q : Place) → has p.writes q ≡ true → put_each (told s v) d.combs base q ≡ changed (told s v p q) (base q)
-  at_writer v base p m q h = written of_process (told s v) d.combs (told-within v) sound.one_writer base p m q h
+  at_writer v base p m q h = written of_process (told s v) d.combs (told-within v) well.one_writer base p m q h
 
   -- the valuations are alike at each bit that p reads, if they are at what the processes write that p follows
   pub same_told : (v u : Valuation) (p : Process) → Member d.combs p
@@ -35,7 +35,7 @@ module _ (d : Machine) (sound : Sound d) (s : Started) where
       → ((q : Process) → Member d.combs q → follows p q ≡ true → (r : Place) → has q.writes r ≡ true → v r ≡ u r)
       → (q : Place) → told s v p q ≡ told s u p q
   same_told v u p m rest before q =
-      only_if-same (s p) (p.assigns v) (p.assigns u) q q ((sound.honest p m).by_reads v u reads q)
+      only_if-same (s p) (p.assigns v) (p.assigns u) q q ((well.honest p m).by_reads v u reads q)
     where
       reads : (r : Place) → has p.reads r ≡ true → v r ≡ u r
       reads r h =

@@ -44,7 +44,7 @@ module _ (m : Map) where
 
     module _ (sound : Sound d) (s : Started) (base v : Valuation) (at_base : Typed m base) (settled : Settled d s base v) where
       rest_typed : (q : Place) → NoneWrites of_process d.combs q → Fits m q (v q)
-      rest_typed q n = subst (Fits m q) (sym (at_rest d sound s v base q n) ∙ sym (ap (λ f. f q) settled)) (at_base q)
+      rest_typed q n = subst (Fits m q) (sym (at_rest d sound.well_written s v base q n) ∙ sym (ap (λ f. f q) settled)) (at_base q)
 
       -- the valuation as far as p reads it, else the base
       seen : Process → Valuation
@@ -66,7 +66,7 @@ module _ (m : Map) where
       run_typed p k reads q h =
           subst (Fits m q)
           (ap (λ o. changed o (base q)) (sym (only_if-same (s p) (p.assigns v) (p.assigns (seen p)) q q ((sound.honest p k).by_reads v (seen p) (seen_read p) q)))
-          ∙ sym (at_writer d sound s v base p k q h)
+          ∙ sym (at_writer d sound.well_written s v base p k q h)
           ∙ sym (ap (λ f. f q) settled))
           (changed_fits (told s (seen p) p q) (base q) q (at_base q)
           (only_if_fits (s p) (p.assigns (seen p)) q (typed.combs p k (seen p) (seen_typed p reads) q)))

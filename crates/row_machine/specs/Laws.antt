@@ -1,14 +1,14 @@
 -- The laws of machines over rows. Each is the contract of a function of this crate.
-use Rattle.std.specs.Prelude.{◌≡◌, ◌↔◌, ◌⊎◌, ℕ, true, false, List}
+use Rattle.std.specs.Prelude.{◌≡◌, ◌↔◌, ◌⊎◌, ℕ, ◌<◌, true, false, List}
 use Rattle.std.specs.List.{AllZip}
 use Rattle.row_machine.specs.Valuation.{Valuation, Member, OneWriter}
 use Rattle.row_machine.specs.Machine.{Process, Machine, Started}
 use Rattle.row_machine.specs.Settle.{Settled, Settles}
 use Rattle.row_machine.specs.Trace.{HasTrace, OneTrace}
-use Rattle.row_machine.specs.Order.{Sound, Free, follows, IsOrder, run}
+use Rattle.row_machine.specs.Order.{WellWritten, Sound, Free, follows, IsOrder, run}
 use Rattle.row_machine.specs.Stuck.{Stuck, IsOrderOfPlaces, at_places}
 use Rattle.row_machine.specs.Runs.{trace_of}
-use Rattle.row_machine.specs.Rounds.{Reaches, HasRoundTrace}
+use Rattle.row_machine.specs.Rounds.{round_limit, Reaches, ChangesABit, HasRoundTrace}
 use Rattle.row_machine.specs.Alike.{Alike}
 use Rattle.row_machine.specs.Agreement.{Map, TypedMachine, Simulates, SameRow, TracesAgree}
 use Rattle.row_machine.specs.Dependence.{AddsNoDependence}
@@ -72,6 +72,12 @@ RoundTraceIsTrace = (d : Machine) (rows vs : List Valuation) → HasRoundTrace d
 
 abbrev pub OneRoundTrace : Type 0
 OneRoundTrace = (d : Machine) (rows vs us : List Valuation) → HasRoundTrace d rows vs → HasRoundTrace d rows us → us ≡ vs
+
+-- the rounds of a well written machine, sound or not, reach a valuation, or each up to the limit changes a bit, and not both
+abbrev pub ReachedOrChanging : Type 0
+ReachedOrChanging = (d : Machine) → WellWritten d → (s : Started) (base : Valuation)
+    → (((v : Valuation) × Reaches d s base v) ⊎ ((n : ℕ) → n < round_limit d → ChangesABit d s base n))
+    × ((v : Valuation) → Reaches d s base v → ((n : ℕ) → n < round_limit d → ChangesABit d s base n) → ⊥)
 
 -- machines that are alike are equal
 abbrev pub AlikeAreEqual : Type 0

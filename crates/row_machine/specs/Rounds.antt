@@ -1,7 +1,7 @@
 -- Rounds: how a target design is run. Each round puts over the base what each started process assigns
 -- when it is run on the valuation at the round's start.
-use Rattle.std.specs.Prelude.{◌≡◌, ℕ, zero, suc, ◌+◌, ◌<◌, List, [], ◌∷◌, length}
-use Rattle.row_machine.specs.Valuation.{Valuation, put_each}
+use Rattle.std.specs.Prelude.{◌≡◌, ◌≢◌, ℕ, zero, suc, ◌+◌, ◌<◌, List, [], ◌∷◌, length}
+use Rattle.row_machine.specs.Valuation.{Place, Valuation, put_each}
 use Rattle.row_machine.specs.Machine.{Process, Machine, Started, at_zero, told}
 use Rattle.row_machine.specs.Trace.{TraceBy}
 
@@ -30,3 +30,7 @@ pub record Reaches (d : Machine) (s : Started) (base v : Valuation) : Type 0 whe
 -- the trace of a machine that is run by rounds
 abbrev pub HasRoundTrace : Machine → List Valuation → List Valuation → Type 0
 HasRoundTrace d rows vs = TraceBy (Reaches d) d d.initial d.start at_zero rows vs
+
+-- the round after n rounds from the base changes a bit
+abbrev pub ChangesABit : Machine → Started → Valuation → ℕ → Type 0
+ChangesABit d s base n = (q : Place) × (round d s base (after_rounds d s base n base) q ≢ after_rounds d s base n base q)

@@ -5,7 +5,11 @@
 //! crates above, are in `proofs/Laws.antt` under the functions' names.
 #![tactic(auto)]
 
-ghost use Rattle.row_machine.specs.Laws.{FreeOrStuck, LeftAreStuck, PlacesAreAnOrder, 
+ghost use Rattle.row_machine.specs.Laws.{
+  ReachedOrChanging,
+  FreeOrStuck,
+  LeftAreStuck,
+  PlacesAreAnOrder,
   AlikeAreEqual,
   AlikeTranslates,
   EachHasOneTrace,
@@ -52,20 +56,17 @@ pub fn independent_are_free()
 /// Places that name each process once, none following itself or a later one, give an order.
 pub fn places_are_an_order()
     ensures { PlacesAreAnOrder }
-{
-}
+{}
 
 /// Each process is free or stuck, and not both: it is stuck if it lies on a circle, or follows a process that does.
 pub fn free_or_stuck()
     ensures { FreeOrStuck }
-{
-}
+{}
 
 /// Processes each of which follows one of them are stuck: what is left when an order can't go on.
 pub fn left_are_stuck()
     ensures { LeftAreStuck }
-{
-}
+{}
 
 /// One run of the processes in an order gives the settled valuation.
 pub fn one_run_settles()
@@ -96,6 +97,12 @@ pub fn round_trace_is_trace()
 /// Any machine has at most one trace by rounds.
 pub fn one_round_trace()
     ensures { OneRoundTrace }
+{}
+
+/// The rounds of a well written machine, sound or not, reach a valuation, or each of the first `round_limit` rounds
+/// changes a bit, and not both.
+pub fn reached_or_changing()
+    ensures { ReachedOrChanging }
 {}
 
 /// Machines whose processes and values are alike at each point are equal.
