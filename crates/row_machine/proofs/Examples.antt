@@ -3,9 +3,10 @@ use Rattle.std.proofs.Common.{◌≡◌, ℕ, Bool, true, false, not, if◌then�
 use Rattle.b4_core.specs.declared.bit.Bit4.{Bit4}
 use Rattle.b4_core.specs.declared.bit.Bit4.TheVariants.{Zero, One, X, Z}
 use Rattle.row_machine.specs.Valuation.{Place, Valuation, has, each_bit, is_place}
-use Rattle.row_machine.specs.Machine.{Process, EdgeProcess, Machine, assignment}
+use Rattle.row_machine.specs.Machine.{at_zero, Process, EdgeProcess, Machine, assignment}
 use Rattle.row_machine.specs.Settle.{same_bit}
 use Rattle.row_machine.specs.Runs.{trace_of}
+use Rattle.row_machine.specs.Rounds.{after_rounds, round_limit}
 
 abbrev pub one_bit : ℕ → Place
 one_bit n = record { signal = n; bit = 0 }
@@ -91,3 +92,25 @@ from_time_zero = refl
 once_woken : seen_at 3 (trace_of (combinational false) (follower false ∷ []) (row_of X X ∷ row_of Zero X ∷ row_of X X ∷ [])) ≡ Zero ∷ One ∷ X ∷ []
 unfolding has
 once_woken = refl
+
+-- assign y = ~z; assign z = y; the rounds don't come to rest where the bits start at 0
+abbrev ring : Machine
+ring = record {
+  combs = assignment (one_bit 4 ∷ []) (one_bit 3 ∷ []) (λ v q. inverse (v (one_bit 4))) ∷ assignment (one_bit 3 ∷ []) (one_bit 4 ∷ []) (λ v q. v (one_bit 3)) ∷ [];
+  edges = [];
+  inputs = [];
+  registers = [];
+  initial = λ q. Zero;
+  start = λ q. Zero;
+  rest = λ q. Zero;
+}
+
+abbrev ring_after : ℕ → Bit4
+ring_after n = after_rounds ring at_zero (λ q. Zero) n (λ q. Zero) (one_bit 3)
+
+goes_round : ring_after 0 ∷ ring_after 1 ∷ ring_after 2 ∷ ring_after 3 ∷ ring_after 4 ∷ [] ≡ Zero ∷ One ∷ One ∷ Zero ∷ Zero ∷ []
+unfolding has
+goes_round = refl
+
+three_rounds : round_limit ring ≡ 3
+three_rounds = refl

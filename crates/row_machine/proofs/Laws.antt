@@ -1,7 +1,8 @@
 -- The proofs of the laws, as crates above cite them.
+use Rattle.row_machine.specs.Machine.{at_zero}
 use Rattle.row_machine.specs.Settle.{Settled}
 use Rattle.row_machine.specs.Order.{free, follows}
-use Rattle.row_machine.specs.Laws.{ReachedOrChanging, PlacesAreAnOrder, FreeOrStuck, LeftAreStuck, OneSettled, SettlingEnds, EachHasOneTrace, OrderFrees, IndependentAreFree, OneRunSettles, RunsTrace, RoundsReach, RoundsTrace, RoundTraceIsTrace, OneRoundTrace, AlikeAreEqual, SimulationAgrees, TargetIsFree, RefinementTranslates, AlikeTranslates}
+use Rattle.row_machine.specs.Laws.{TraceOrUnsettled, TraceIsSettled, OneUnsettled, ReachedOrChanging, PlacesAreAnOrder, FreeOrStuck, LeftAreStuck, OneSettled, SettlingEnds, EachHasOneTrace, OrderFrees, IndependentAreFree, OneRunSettles, RunsTrace, RoundsReach, RoundsTrace, RoundTraceIsTrace, OneRoundTrace, AlikeAreEqual, SimulationAgrees, TargetIsFree, RefinementTranslates, AlikeTranslates}
 use Rattle.row_machine.proofs.Basics.{clash}
 use Rattle.row_machine.proofs.Settled.{settled_once}
 use Rattle.row_machine.proofs.Settling.{settled_at, settles}
@@ -11,6 +12,7 @@ use Rattle.row_machine.proofs.Traces as Traces
 use Rattle.row_machine.proofs.Orders as Orders
 use Rattle.row_machine.proofs.RoundTraces as RoundTraces
 use Rattle.row_machine.proofs.RoundsEnd as RoundsEnd
+use Rattle.row_machine.proofs.Unsettled as Unsettled
 use Rattle.row_machine.proofs.OrderOfPlaces as OrderOfPlaces
 use Rattle.row_machine.proofs.Stuck as Stuck
 use Rattle.row_machine.proofs.Runs as Runs
@@ -66,7 +68,16 @@ pub one_round_trace : OneRoundTrace
 one_round_trace d rows vs us a b = RoundTraces.round_trace_once d a b
 
 pub reached_or_changing : ReachedOrChanging
-reached_or_changing d well s base = (RoundsEnd.reached_or_changing d well s base, RoundsEnd.not_both d s base)
+reached_or_changing d own s base = (RoundsEnd.reached_or_changing d own s base, RoundsEnd.not_both d s base)
+
+pub trace_or_unsettled : TraceOrUnsettled
+trace_or_unsettled d own rows = Unsettled.traced_or_unsettled d own rows d.initial d.start at_zero
+
+pub trace_is_settled : TraceIsSettled
+trace_is_settled d rows vs k t base trace failing = Unsettled.not_unsettled d trace failing
+
+pub one_unsettled : OneUnsettled
+one_unsettled d rows k j t u base base' a b = Unsettled.unsettled_once d a b
 
 pub alike_are_equal : AlikeAreEqual
 alike_are_equal = Alike.same_machine

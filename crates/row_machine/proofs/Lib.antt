@@ -4,6 +4,7 @@ pub mod Told
 pub mod Settled
 pub mod Unique
 pub mod Open
+pub mod Waking
 pub mod Rounds
 pub mod Settling
 pub mod Traces
@@ -24,3 +25,4 @@ mod CopyExample
 pub mod Stuck
 pub mod OrderOfPlaces
 pub mod RoundsEnd
+pub mod Unsettled

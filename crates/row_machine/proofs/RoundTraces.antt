@@ -39,7 +39,7 @@ module _ (d : Machine) where
     still : (v : Valuation) (r : Reaches d s base v) (n : ℕ) → after_rounds d s base (r.rounds + n) base ≡ v
     still v r n = after_both r.rounds n base ∙ ap (after_rounds d s base n) r.reached ∙ stays_after v r.stays n
 
-    reached_once : (v u : Valuation) → Reaches d s base v → Reaches d s base u → u ≡ v
+    pub reached_once : (v u : Valuation) → Reaches d s base v → Reaches d s base u → u ≡ v
     reached_once v u a b =
         let e : b.rounds + a.rounds ≡ a.rounds + b.rounds = omega arith in
         sym (still u b a.rounds) ∙ ap (λ n. after_rounds d s base n base) e ∙ still v a b.rounds

@@ -1,4 +1,4 @@
--- The rounds of a well written machine reach a valuation, or each of the first `round_limit` rounds changes a bit.
+-- The rounds of a machine reach a valuation, or each of the first `round_limit` rounds changes a bit.
 use Rattle.std.proofs.Common.{◌≡◌, ◌≢◌, ℕ, zero, suc, ◌<◌, ◌⊎◌, Bool, true, false, not, refl, sym, ap, ◌∙◌, subst, inl, inr, arith}
 use Rattle.std.proofs.lemmas.Bool.{not-true, not_from_false, cases_order}
 use Rattle.std.specs.List.{list_any}
@@ -7,11 +7,11 @@ use Rattle.b4_core.specs.declared.bit.Bit4.TheVariants.{Zero, One, X, Z}
 use Rattle.row_machine.specs.Valuation.{Place, Valuation, Member, has, NoneWrites}
 use Rattle.row_machine.specs.Machine.{Process, Machine, Started}
 use Rattle.row_machine.specs.Settle.{same_bit, differs}
-use Rattle.row_machine.specs.Order.{WellWritten}
+use Rattle.row_machine.specs.Order.{WritesOwn}
 use Rattle.row_machine.specs.Rounds.{round, after_rounds, round_limit, Reaches, ChangesABit}
 use Rattle.row_machine.proofs.Basics.{true_or_false, clash, has-member, member-any, any-member}
 use Rattle.row_machine.proofs.Writes.{writer}
-use Rattle.row_machine.proofs.Told.{of_process, at_rest}
+use Rattle.row_machine.proofs.Told.{of_process, nobody_writes}
 
 same_bit-itself : (b : Bit4) → same_bit b b ≡ true
 same_bit-itself Zero = refl
@@ -40,10 +40,10 @@ same_bit-true Z X e = clash false e refl
 pub same_bit-false : (a b : Bit4) → same_bit a b ≡ false → a ≢ b
 same_bit-false a b e same = clash (same_bit a b) (ap (same_bit a) (sym same) ∙ same_bit-itself a) e
 
-module _ (d : Machine) (well : WellWritten d) (s : Started) (base : Valuation) where
+module _ (d : Machine) (own : (p : Process) → Member d.combs p → WritesOwn p) (s : Started) (base : Valuation) where
   rest_stays : (n : ℕ) (v : Valuation) (q : Place) → NoneWrites of_process d.combs q → v q ≡ base q → after_rounds d s base n v q ≡ base q
   rest_stays zero v q none e = e
-  rest_stays (suc n) v q none e = rest_stays n (round d s base v) q none (at_rest d well s v base q none)
+  rest_stays (suc n) v q none e = rest_stays n (round d s base v) q none (nobody_writes d own s v base q none)
 
   abbrev after : ℕ → Valuation
   after n = after_rounds d s base n base
@@ -70,7 +70,7 @@ module _ (d : Machine) (well : WellWritten d) (s : Started) (base : Valuation) w
       at q =
           elim (writer of_process d.combs q) [
             | inl w ↦ same_where_written n none w.0 w.1 q w.2
-            | inr r ↦ at_rest d well s (after n) base q r ∙ sym (rest_stays n base q r refl)
+            | inr r ↦ nobody_writes d own s (after n) base q r ∙ sym (rest_stays n base q r refl)
           ]
 
   changed_bit : (n : ℕ) → list_any (changes n) d.combs ≡ true → ChangesABit d s base n

@@ -9,7 +9,8 @@ use Rattle.row_machine.specs.Rounds.{round}
 use Rattle.row_machine.specs.Runs.{State, settle, settle_fully, row_state, trace_from, trace_of}
 use Rattle.row_machine.proofs.Basics.{true_or_false}
 use Rattle.row_machine.proofs.Open.{share, open_weight}
-use Rattle.row_machine.proofs.Settling.{unstarted, fewer_unstarted, settled_at}
+use Rattle.row_machine.proofs.Settling.{settled_at}
+use Rattle.row_machine.proofs.Waking.{unstarted, fewer_unstarted}
 use Rattle.row_machine.proofs.Orders.{run_settles}
 
 module _ (d : Machine) (sound : Sound d) (qs : List Process) (order : IsOrder d.combs qs) where
@@ -22,17 +23,17 @@ module _ (d : Machine) (sound : Sound d) (qs : List Process) (order : IsOrder d.
   abbrev Leads : Valuation → Started → State → Type 0
   Leads base s end = Settles d base s end.started end.now
 
-  settle_leads : (n : ℕ) (base : Valuation) (s : Started) → unstarted d sound base s ≤ n → Leads base s (settle d qs n base s)
+  settle_leads : (n : ℕ) (base : Valuation) (s : Started) → unstarted d s ≤ n → Leads base s (settle d qs n base s)
   settle_leads zero base s le =
       elim (true_or_false (adds d (run s qs base) s)) [
-        | inl more ↦ absurd (omega (arith, fewer_unstarted d sound base (run s qs base) s more, le))
+        | inl more ↦ absurd (omega (arith, fewer_unstarted d (run s qs base) s more, le))
         | inr over ↦ ends (one_run s base) over
       ]
   settle_leads (suc n) base s le =
       elim (true_or_false (adds d (run s qs base) s)) [
         | inl more ↦
             subst (λ b. Leads base s (if b then settle d qs n base (woken d (run s qs base) s) else record { started = s; now = run s qs base })) (sym more)
-            (goes_on (one_run s base) more (settle_leads n base (woken d (run s qs base) s) (omega (arith, fewer_unstarted d sound base (run s qs base) s more, le))))
+            (goes_on (one_run s base) more (settle_leads n base (woken d (run s qs base) s) (omega (arith, fewer_unstarted d (run s qs base) s more, le))))
         | inr over ↦
             subst (λ b. Leads base s (if b then settle d qs n base (woken d (run s qs base) s) else record { started = s; now = run s qs base })) (sym over)
             (ends (one_run s base) over)

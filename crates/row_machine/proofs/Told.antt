@@ -2,7 +2,7 @@
 use Rattle.std.proofs.Common.{◌≡◌, Bool, true, false, List, None, refl, inl, inr}
 use Rattle.row_machine.specs.Valuation.{Place, Valuation, Changes, Member, has, changed, only_if, put_each, NoneWrites}
 use Rattle.row_machine.specs.Machine.{Process, Machine, Started, told}
-use Rattle.row_machine.specs.Order.{WellWritten, follows}
+use Rattle.row_machine.specs.Order.{WritesOwn, WellWritten, follows}
 use Rattle.row_machine.proofs.Basics.{follows_writer}
 use Rattle.row_machine.proofs.Writes.{Within, unwritten, written, writer}
 
@@ -17,13 +17,20 @@ only_if-same false c c' q q' e = refl
 abbrev pub of_process : Process → List Place
 of_process p = p.writes
 
-module _ (d : Machine) (well : WellWritten d) (s : Started) where
-  pub told-within : (v : Valuation) → Within of_process (told s v) d.combs
-  told-within v p m q n = only_if-none (s p) (p.assigns v) q ((well.honest p m).within v q n)
+module _ (d : Machine) (own : (p : Process) → Member d.combs p → WritesOwn p) (s : Started) where
+  own-within : (v : Valuation) → Within of_process (told s v) d.combs
+  own-within v p m q n = only_if-none (s p) (p.assigns v) q (own p m v q n)
 
   -- a bit that nobody writes
+  pub nobody_writes : (v base : Valuation) (q : Place) → NoneWrites of_process d.combs q → put_each (told s v) d.combs base q ≡ base q
+  nobody_writes v base q n = unwritten of_process (told s v) d.combs (own-within v) base q n
+
+module _ (d : Machine) (well : WellWritten d) (s : Started) where
+  pub told-within : (v : Valuation) → Within of_process (told s v) d.combs
+  told-within = own-within d (λ p m. (well.honest p m).within) s
+
   pub at_rest : (v base : Valuation) (q : Place) → NoneWrites of_process d.combs q → put_each (told s v) d.combs base q ≡ base q
-  at_rest v base q n = unwritten of_process (told s v) d.combs (told-within v) base q n
+  at_rest = nobody_writes d (λ p m. (well.honest p m).within) s
 
   -- a bit that p writes
   pub at_writer : (v base : Valuation) (p : Process) → Member d.combs p → (q : Place) → has p.writes q ≡ true → put_each (told s v) d.combs base q ≡ changed (told s v p q) (base q)

@@ -16,6 +16,7 @@ pub record Map : Type 0 where
   -- whether a source bit is of a two-state type (IEEE 1800-2017 clause 6.11.2)
   pub two_state : Place → Bool
 
+-- the bit of the source, if there is one
 abbrev pub image_or : Option Place → Valuation → Bit4 → Bit4
 image_or (Some q) v b = v q
 image_or None v b = b
@@ -24,6 +25,7 @@ image_or None v b = b
 abbrev pub lifted : Map → Valuation → Valuation
 lifted m v q = image_or (m.origin q) v (m.extra v q)
 
+-- 0 or 1
 abbrev pub is_known : Bit4 → Bool
 is_known Zero = true
 is_known One = true

@@ -5,10 +5,11 @@ use Rattle.row_machine.specs.Valuation.{Valuation, Member, OneWriter}
 use Rattle.row_machine.specs.Machine.{Process, Machine, Started}
 use Rattle.row_machine.specs.Settle.{Settled, Settles}
 use Rattle.row_machine.specs.Trace.{HasTrace, OneTrace}
-use Rattle.row_machine.specs.Order.{WellWritten, Sound, Free, follows, IsOrder, run}
+use Rattle.row_machine.specs.Order.{WritesOwn, Sound, Free, follows, IsOrder, run}
 use Rattle.row_machine.specs.Stuck.{Stuck, IsOrderOfPlaces, at_places}
 use Rattle.row_machine.specs.Runs.{trace_of}
 use Rattle.row_machine.specs.Rounds.{round_limit, Reaches, ChangesABit, HasRoundTrace}
+use Rattle.row_machine.specs.Unsettled.{Unsettled}
 use Rattle.row_machine.specs.Alike.{Alike}
 use Rattle.row_machine.specs.Agreement.{Map, TypedMachine, Simulates, SameRow, TracesAgree}
 use Rattle.row_machine.specs.Dependence.{AddsNoDependence}
@@ -73,11 +74,24 @@ RoundTraceIsTrace = (d : Machine) (rows vs : List Valuation) → HasRoundTrace d
 abbrev pub OneRoundTrace : Type 0
 OneRoundTrace = (d : Machine) (rows vs us : List Valuation) → HasRoundTrace d rows vs → HasRoundTrace d rows us → us ≡ vs
 
--- the rounds of a well written machine, sound or not, reach a valuation, or each up to the limit changes a bit, and not both
+-- the rounds of any machine whose processes write their own bits reach a valuation, or each up to the limit changes a bit, and not both
 abbrev pub ReachedOrChanging : Type 0
-ReachedOrChanging = (d : Machine) → WellWritten d → (s : Started) (base : Valuation)
+ReachedOrChanging = (d : Machine) → ((p : Process) → Member d.combs p → WritesOwn p) → (s : Started) (base : Valuation)
     → (((v : Valuation) × Reaches d s base v) ⊎ ((n : ℕ) → n < round_limit d → ChangesABit d s base n))
     × ((v : Valuation) → Reaches d s base v → ((n : ℕ) → n < round_limit d → ChangesABit d s base n) → ⊥)
+
+-- so the rows of such a machine have a trace by rounds, or a settling that fails, and not both,
+-- and it is one settling
+abbrev pub TraceOrUnsettled : Type 0
+TraceOrUnsettled = (d : Machine) → ((p : Process) → Member d.combs p → WritesOwn p) → (rows : List Valuation)
+    → ((vs : List Valuation) × HasRoundTrace d rows vs) ⊎ ((k : ℕ) × (t : Started) × (base : Valuation) × Unsettled d rows k t base)
+
+abbrev pub TraceIsSettled : Type 0
+TraceIsSettled = (d : Machine) (rows vs : List Valuation) (k : ℕ) (t : Started) (base : Valuation) → HasRoundTrace d rows vs → Unsettled d rows k t base → ⊥
+
+abbrev pub OneUnsettled : Type 0
+OneUnsettled = (d : Machine) (rows : List Valuation) (k j : ℕ) (t u : Started) (base base' : Valuation)
+    → Unsettled d rows k t base → Unsettled d rows j u base' → (j ≡ k) × (u ≡ t) × (base' ≡ base)
 
 -- machines that are alike are equal
 abbrev pub AlikeAreEqual : Type 0

@@ -11,3 +11,4 @@ pub mod Dependence
 pub mod Translation
 pub mod Runs
 pub mod Stuck
+pub mod Unsettled

@@ -30,6 +30,7 @@ pub record EdgeProcess : Type 0 where
   -- its pending updates when it is run on a valuation (clause 10.4.2)
   pub updates : Valuation → Changes
 
+-- a design
 pub record Machine : Type 0 where
   -- the combinational processes
   pub combs : List Process

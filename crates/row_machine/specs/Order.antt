@@ -4,10 +4,14 @@ use Rattle.std.specs.List.{list_any}
 use Rattle.row_machine.specs.Valuation.{Place, Valuation, Member, has, put, OneWriter}
 use Rattle.row_machine.specs.Machine.{Process, EdgeProcess, Machine, Started, told}
 
--- the process hangs on the bits that it reads alone, and assigns only bits that it may write
+-- the process assigns only bits that it may write
+abbrev pub WritesOwn : Process → Type 0
+WritesOwn p = (v : Valuation) (q : Place) → has p.writes q ≡ false → p.assigns v q ≡ None
+
+-- and it hangs on the bits that it reads alone
 pub record Honest (p : Process) : Type 0 where
   pub by_reads : (v u : Valuation) → ((q : Place) → has p.reads q ≡ true → v q ≡ u q) → (q : Place) → p.assigns v q ≡ p.assigns u q
-  pub within : (v : Valuation) (q : Place) → has p.writes q ≡ false → p.assigns v q ≡ None
+  pub within : WritesOwn p
 
 -- whether the first process reads a bit that the second one writes
 abbrev pub follows : Process → Process → Bool
@@ -17,7 +21,8 @@ follows p q = list_any (has q.writes) p.reads
 pub data Free (ps : List Process) : Process → Type 0 where
   free : {p : Process} → ((q : Process) → Member ps q → follows p q ≡ true → Free ps q) → Free ps p
 
--- each process writes only its own bits, each combinational process hangs on its reads alone, and no bit has two writers
+-- each process writes only its own bits, each combinational process hangs on its reads alone, and no two combinational
+-- processes and no two edge processes write one bit
 pub record WellWritten (d : Machine) : Type 0 where
   pub honest : (p : Process) → Member d.combs p → Honest p
   pub one_writer : OneWriter (λ (p : Process). p.writes) d.combs

@@ -5,9 +5,11 @@ use Rattle.row_machine.specs.Valuation.{Place, Valuation, put_each}
 use Rattle.row_machine.specs.Machine.{Process, Machine, Started, at_zero, told}
 use Rattle.row_machine.specs.Trace.{TraceBy}
 
+-- one round
 abbrev pub round : Machine → Started → Valuation → Valuation → Valuation
 round d s base v = put_each (told s v) d.combs base
 
+-- n rounds from a valuation
 abbrev pub after_rounds : Machine → Started → Valuation → ℕ → Valuation → Valuation
 after_rounds d s base zero v = v
 after_rounds d s base (suc n) v = after_rounds d s base n (round d s base v)
@@ -17,6 +19,7 @@ abbrev pub written_bits : List Process → ℕ
 written_bits [] = 0
 written_bits (p ∷ ps) = length p.writes + written_bits ps
 
+-- how many rounds a settling may take, the last of which changes nothing
 abbrev pub round_limit : Machine → ℕ
 round_limit d = written_bits d.combs + 1
 

@@ -10,6 +10,7 @@ use Rattle.row_machine.specs.Machine.{Machine, Started, told}
 abbrev pub Settled : Machine → Started → Valuation → Valuation → Type 0
 Settled d s base v = v ≡ put_each (told s v) d.combs base
 
+-- whether two bits are one, x and z told apart
 abbrev pub same_bit : Bit4 → Bit4 → Bool
 same_bit Zero Zero = true
 same_bit One One = true
@@ -36,5 +37,6 @@ pub data SettlesBy (IsSettled : Started → Valuation → Valuation → Type 0) 
   ends : {s : Started} {v : Valuation} → IsSettled s base v → adds d v s ≡ false → SettlesBy IsSettled d base s s v
   goes_on : {s t : Started} {v w : Valuation} → IsSettled s base v → adds d v s ≡ true → SettlesBy IsSettled d base (woken d v s) t w → SettlesBy IsSettled d base s t w
 
+-- with the settled valuations of above
 abbrev pub Settles : Machine → Valuation → Started → Started → Valuation → Type 0
 Settles d = SettlesBy (Settled d) d

@@ -20,6 +20,7 @@ abbrev pub Distinct : List ℕ → Type 0
 Distinct [] = ⊤
 Distinct (k ∷ ks) = (Member ks k → ⊥) × Distinct ks
 
+-- the processes at these places, with d for a place past the end
 abbrev pub at_places : List Process → Process → List ℕ → List Process
 at_places ps d ks = map (λ k. slice_index_or ps k d) ks
 

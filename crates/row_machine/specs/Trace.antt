@@ -19,6 +19,7 @@ pub data TraceBy (IsSettled : Started → Valuation → Valuation → Type 0) (d
   done : {last held : Valuation} {s : Started} → TraceBy IsSettled d last held s [] []
   row : {r last held v : Valuation} {s t : Started} {rows vs : List Valuation} → RowStepBy IsSettled d r last held s t v → TraceBy IsSettled d v v t rows vs → TraceBy IsSettled d last held s (r ∷ rows) (v ∷ vs)
 
+-- with the settled valuations of the machine
 abbrev pub RowStep : Machine → Valuation → Valuation → Valuation → Started → Started → Valuation → Type 0
 RowStep d = RowStepBy (Settled d) d
 

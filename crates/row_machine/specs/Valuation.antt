@@ -20,6 +20,7 @@ abbrev pub Member : {A : Type 0} → List A → A → Type 0
 Member [] x = ⊥
 Member (y ∷ ys) x = (x ≡ y) ⊎ Member ys x
 
+-- whether two places are one
 abbrev pub is_place : Place → Place → Bool
 is_place p q = (p.signal == q.signal) && (p.bit == q.bit)
 

@@ -6,6 +6,9 @@
 #![tactic(auto)]
 
 ghost use Rattle.row_machine.specs.Laws.{
+  TraceOrUnsettled,
+  TraceIsSettled,
+  OneUnsettled,
   ReachedOrChanging,
   FreeOrStuck,
   LeftAreStuck,
@@ -99,10 +102,25 @@ pub fn one_round_trace()
     ensures { OneRoundTrace }
 {}
 
-/// The rounds of a well written machine, sound or not, reach a valuation, or each of the first `round_limit` rounds
-/// changes a bit, and not both.
+/// The rounds of any machine whose processes assign only bits that they may write reach a valuation, or each of the
+/// first `round_limit` rounds changes a bit, and not both.
 pub fn reached_or_changing()
     ensures { ReachedOrChanging }
+{}
+
+/// The rows of such a machine have a trace by rounds, or there is a settling in which the rounds don't come to rest.
+pub fn trace_or_unsettled()
+    ensures { TraceOrUnsettled }
+{}
+
+/// Rows that have a trace by rounds have no settling that fails.
+pub fn trace_is_settled()
+    ensures { TraceIsSettled }
+{}
+
+/// The row of the settling that fails, its started processes and its base are the only ones.
+pub fn one_unsettled()
+    ensures { OneUnsettled }
 {}
 
 /// Machines whose processes and values are alike at each point are equal.
