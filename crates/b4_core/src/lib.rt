@@ -2,8 +2,12 @@
 #![tactic(auto)]
 
 mod bit;
+mod bitwise;
+mod operators;
 
 pub use bit::{Bit4, Edge, Vec4};
+pub use bitwise::{both, either, merge, negate, two_state};
+pub use operators::{BinOp, EqOp, OrdOp, RedOp, ShiftOp, UnOp};
 pub use sqlite_items::Items;
 
 /// The values of a design's top-level inputs, in port order.
