@@ -1,5 +1,5 @@
 -- Binary operators on two vectors of one length (clauses 11.4.3 and 11.4.8).
-use Rattle.std.specs.Prelude.{List, length, ℤ, ◌+ℤ◌, ◌-ℤ◌, ◌*ℤ◌, int_div, int_rem, ◌==◌, Bool, ◌&&◌, if◌then◌else◌}
+use Rattle.std.specs.Prelude.{ℕ, ◌≤◌, List, length, ℤ, ◌+ℤ◌, ◌-ℤ◌, ◌*ℤ◌, int_div, int_rem, ◌==◌, Bool, ◌&&◌, if◌then◌else◌}
 use Rattle.b4_core.specs.declared.bit.Bit4.{Bit4}
 use Rattle.b4_core.specs.declared.operators.BinOp.{BinOp}
 use Rattle.b4_core.specs.declared.operators.BinOp.TheVariants.{And, Or, Xor, Xnor, Add, Sub, Mul, Div, Rem}
@@ -25,3 +25,15 @@ binary_value Sub signed a b = arithmetic (λ x y. x -ℤ y) signed a b
 binary_value Mul signed a b = arithmetic (λ x y. x *ℤ y) signed a b
 binary_value Div signed a b = division int_div signed a b
 binary_value Rem signed a b = division int_rem signed a b
+
+-- the lengths for which an operator is given: any, and for arithmetic at most 128 bits
+abbrev pub BinaryFitsWord : BinOp → ℕ → Type 0
+BinaryFitsWord And n = Unit {0}
+BinaryFitsWord Or n = Unit {0}
+BinaryFitsWord Xor n = Unit {0}
+BinaryFitsWord Xnor n = Unit {0}
+BinaryFitsWord Add n = n ≤ 128
+BinaryFitsWord Sub n = n ≤ 128
+BinaryFitsWord Mul n = n ≤ 128
+BinaryFitsWord Div n = n ≤ 128
+BinaryFitsWord Rem n = n ≤ 128

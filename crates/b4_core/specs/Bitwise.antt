@@ -1,5 +1,6 @@
 -- Operators on the bits of vectors that other operators share.
-use Rattle.std.specs.Prelude.{Bool, true, false, ◌&&◌, List, [], ◌∷◌, map}
+use Rattle.std.specs.Prelude.{Bool, List, map, fold, zip}
+use Rattle.std.specs.List.{list_all}
 use Rattle.b4_core.specs.declared.bit.Bit4.{Bit4}
 use Rattle.b4_core.specs.declared.bit.Bit4.TheVariants.{Zero, One, X, Z}
 use Rattle.b4_core.specs.declared.bit.Edge.{Edge}
@@ -8,29 +9,23 @@ use Rattle.b4_core.specs.Bits.{and4, or4, xor4, two_state4, same4}
 
 -- the & of all bits, 1 where there is none
 abbrev pub all4 : List Bit4 → Bit4
-all4 [] = One
-all4 (b ∷ v) = and4 b (all4 v)
+all4 v = fold and4 One v
 
 -- the | of all bits, 0 where there is none
 abbrev pub any4 : List Bit4 → Bit4
-any4 [] = Zero
-any4 (b ∷ v) = or4 b (any4 v)
+any4 v = fold or4 Zero v
 
 -- the ^ of all bits, 0 where there is none
 abbrev pub parity4 : List Bit4 → Bit4
-parity4 [] = Zero
-parity4 (b ∷ v) = xor4 b (parity4 v)
+parity4 v = fold xor4 Zero v
 
 -- the truth of a vector (clause 12.4): 1 where some bit is 1, 0 where all are 0, else x
 abbrev pub truth_of : List Bit4 → Bit4
 truth_of v = any4 v
 
--- exactly the same bits
+-- exactly the same bits, in two vectors of one length
 abbrev pub same_bits : List Bit4 → List Bit4 → Bool
-same_bits [] [] = true
-same_bits [] (q ∷ b) = false
-same_bits (p ∷ a) [] = false
-same_bits (p ∷ a) (q ∷ b) = same4 p q && same_bits a b
+same_bits a b = list_all (λ p. same4 p.0 p.1) (zip a b)
 
 -- a vector as it is stored in a two-state type
 abbrev pub two_state_of : List Bit4 → List Bit4

@@ -1,5 +1,6 @@
 pub mod Bits
 pub mod Vectors
+pub mod Integers
 pub mod Bitwise
 pub mod Unary
 pub mod Binary
