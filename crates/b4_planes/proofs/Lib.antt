@@ -1,0 +1,5 @@
+pub mod Aligned
+pub mod Swept
+pub mod Places
+pub mod PlaneBits
+pub mod Results
