@@ -1,5 +1,5 @@
 -- Four lists of one length.
-use Rattle.std.proofs.Common.{◌≡◌, ℕ, zero, suc, ◌+◌, ◌<◌, List, [], ◌∷◌, length, take, drop, get_or, refl, sym, ap, ◌∙◌, arith}
+use Rattle.std.proofs.Common.{◌≡◌, ℕ, zero, suc, ◌<◌, List, [], ◌∷◌, length, take, drop, get_or, refl, ap, ◌∙◌, arith}
 use Rattle.std.specs.Simd.Lanes.{zip2, chunk}
 use Rattle.b4_planes.specs.Words.{words4}
 

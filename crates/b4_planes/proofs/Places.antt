@@ -1,9 +1,9 @@
 -- Functions of words that go bit by bit.
-use Rattle.std.proofs.Common.{◌≡◌, ℕ, zero, suc, ◌+◌, ◌-◌, ◌*◌, ◌/◌, ◌%◌, ◌^◌, ◌<◌, ◌==◌, Bool, true, false, not, ◌&&◌, ◌||◌, ◌⊎◌, inl, inr, refl, sym, ap, ◌∙◌, arith}
+use Rattle.std.proofs.Common.{◌≡◌, ℕ, zero, suc, ◌/◌, ◌%◌, ◌<◌, ◌==◌, Bool, true, false, not, ◌&&◌, ◌||◌, refl, ap, ◌∙◌, arith}
 use Rattle.std.specs.Int.Bits.{bit_and, bit_or, bit_xor}
 use Rattle.std.proofs.lemmas.Nat.{and_mod, or_mod, xor_mod, and_shr, or_shr, xor_shr}
 use Rattle.b4_planes.specs.Planes.{odd}
-use Rattle.b4_planes.specs.Words.{and_value, and_unknown, or_value, or_unknown, xor_value, xor_unknown, merge_value, merge_unknown, one_of, either_one}
+use Rattle.b4_planes.specs.Words.{and_value, and_unknown, or_value, or_unknown, xor_value, xor_unknown, merge_value, merge_unknown, one_of}
 
 -- f goes bit by bit, and does t to each bit
 pub record Places (f : ℕ → ℕ → ℕ → ℕ → ℕ) (t : Bool → Bool → Bool → Bool → Bool) : Type 0 where
@@ -15,7 +15,7 @@ differ false q = q
 differ true q = not q
 
 -- what holds of 0 and 1 holds of the remainders by 2
-remainders : (P : ℕ → ℕ → Type 0) → P 0 0 → P 0 1 → P 1 0 → P 1 1 → (a b : ℕ) → P (a % 2) (b % 2)
+pub remainders : (P : ℕ → ℕ → Type 0) → P 0 0 → P 0 1 → P 1 0 → P 1 1 → (a b : ℕ) → P (a % 2) (b % 2)
 remainders P p q r s a b = by_size (a % 2) (b % 2) (omega arith) (omega arith)
   where
     by_size : (m n : ℕ) → m < 2 → n < 2 → P m n

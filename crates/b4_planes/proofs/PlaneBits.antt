@@ -1,8 +1,7 @@
 -- What kernels make of the bits of planes.
-use Rattle.std.proofs.Common.{◌≡◌, ℕ, zero, suc, ◌+◌, ◌-◌, ◌*◌, ◌/◌, ◌%◌, ◌<◌, ◌≤◌, Bool, true, false, List, [], ◌∷◌, ◌++◌, map, length, take, drop, replicate, refl, sym, ap, ◌∙◌, arith, length-append, length-take, length-drop}
-use Rattle.std.specs.Prelude.{zip}
+use Rattle.std.proofs.Common.{◌≡◌, ℕ, zero, suc, ◌-◌, ◌*◌, ◌/◌, Bool, List, [], ◌∷◌, ◌++◌, length, take, drop, replicate, refl, sym, ap, ◌∙◌, arith, length-append, length-take}
 use Rattle.b4_core.specs.declared.bit.Bit4.{Bit4}
-use Rattle.b4_core.specs.declared.bit.Bit4.TheVariants.{Zero, One, X, Z}
+use Rattle.b4_core.specs.declared.bit.Bit4.TheVariants.{Zero}
 use Rattle.b4_core.specs.Vectors.{bitwise}
 use Rattle.b4_planes.specs.Planes.{plane_bit, odd, word_bits, plane_bits, words_for, IsPlanes}
 use Rattle.b4_planes.specs.Words.{words4}

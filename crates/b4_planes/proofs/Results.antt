@@ -1,13 +1,13 @@
 -- What a kernel leaves of a vector, from what it does to each bit.
-use Rattle.std.proofs.Common.{◌≡◌, ℕ, ◌<◌, ◌≤◌, Bool, true, false, not, ◌&&◌, ◌||◌, List, length, refl, sym, ap, ◌∙◌, subst, arith}
+use Rattle.std.proofs.Common.{◌≡◌, ℕ, Bool, true, false, ◌&&◌, ◌||◌, List, length, refl, sym, ap, ◌∙◌, subst}
 use Rattle.std.specs.Prelude.{Vec}
 use Rattle.std.specs.Vec.{with_items}
 use Rattle.std.proofs.lemmas.List.{with_items_is}
 use Rattle.b4_core.specs.declared.bit.Bit4.{Bit4}
-use Rattle.b4_core.specs.declared.bit.Bit4.TheVariants.{Zero, One, X, Z}
+use Rattle.b4_core.specs.declared.bit.Bit4.TheVariants.{Zero}
 use Rattle.b4_core.specs.Bits.{and4, or4, xor4, merge4}
 use Rattle.b4_core.specs.Vectors.{bitwise}
-use Rattle.b4_planes.specs.Planes.{plane_bit, plane_bits, words_for, IsPlanes}
+use Rattle.b4_planes.specs.Planes.{plane_bit, words_for, IsPlanes}
 use Rattle.b4_planes.specs.Words.{words4, and_value, and_unknown, or_value, or_unknown, xor_value, xor_unknown, merge_value, merge_unknown}
 use Rattle.b4_planes.proofs.Aligned.{Aligned, aligned, length-words4}
 use Rattle.b4_planes.proofs.Places.{Places, differ, one_bit, places_and_value, places_and_unknown, places_or_value, places_or_unknown, places_xor_value, places_xor_unknown, places_merge_value, places_merge_unknown}
@@ -48,7 +48,7 @@ merge_bits = by_bits (λ p q r s. plane_bit ((p && r) || (differ p r || (q || s)
 -- ---- the vector after a kernel
 
 -- two vectors of one length have as many words
-same_len : (len m : ℕ) (la lu lb lv : List ℕ) (x y : List Bit4) → IsPlanes len la lu → IsPlanes m lb lv → vector_of len la lu ≡ x → vector_of m lb lv ≡ y → length x ≡ length y → m ≡ len
+pub same_len : (len m : ℕ) (la lu lb lv : List ℕ) (x y : List Bit4) → IsPlanes len la lu → IsPlanes m lb lv → vector_of len la lu ≡ x → vector_of m lb lv ≡ y → length x ≡ length y → m ≡ len
 same_len len m la lu lb lv x y i j ex ey long =
     sym (length-vector m lb lv j) ∙ ap length ey ∙ sym long ∙ sym (ap length ex) ∙ length-vector len la lu i
 

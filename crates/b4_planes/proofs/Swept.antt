@@ -1,12 +1,12 @@
 -- A list whose first words are already those of the result, and whose others are still as they were.
-use Rattle.std.proofs.Common.{◌≡◌, ℕ, zero, suc, ◌+◌, ◌-◌, ◌<◌, ◌≤◌, List, [], ◌∷◌, ◌++◌, length, take, drop, get_or, set, refl, sym, ap, ◌∙◌, arith, length-take, length-drop, length-set, length-append, append_assoc}
-use Rattle.std.proofs.lemmas.List.{take-append-drop, drop_at, drop-drop, take_all, get_or-drop, take_more_set, take_more, drop-set-lt, length-take-le, drop-append-le}
-use Rattle.std.proofs.lemmas.Simd.{length-put_chunk, put_chunk_is, take_more_put_chunk, length-chunk, chunk-drop}
+use Rattle.std.proofs.Common.{◌≡◌, ℕ, zero, suc, ◌+◌, ◌<◌, ◌≤◌, List, [], ◌∷◌, ◌++◌, length, take, drop, get_or, set, refl, sym, ap, ◌∙◌, arith, length-set, length-append, append_assoc}
+use Rattle.std.proofs.lemmas.List.{drop_at, drop-drop, take_all, get_or-drop, take_more_set, take_more, drop-set-lt, length-take-le}
+use Rattle.std.proofs.lemmas.Simd.{length-put_chunk, put_chunk_is, take_more_put_chunk, length-chunk}
 use Rattle.std.specs.Simd.Lanes.{chunk, put_chunk, zip2, fold_l}
 use Rattle.std.specs.Int.Bits.{bit_or, bit_xor, xor_self, xor_assoc, xor_zero_l, xor_zero_r}
 use Rattle.std.proofs.lemmas.Nat.{le_or_l, le_or_r}
 use Rattle.b4_planes.specs.Words.{words4}
-use Rattle.b4_planes.proofs.Aligned.{Aligned, length-words4, chunk-words4, get_or-words4, chunk_pairs, get_or_pairs}
+use Rattle.b4_planes.proofs.Aligned.{Aligned, chunk-words4, get_or-words4, chunk_pairs, get_or_pairs}
 
 pub record Swept (i : ℕ) (result before now : List ℕ) : Type 0 where
   pub done : take i now ≡ take i result

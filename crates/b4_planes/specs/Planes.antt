@@ -1,6 +1,6 @@
 -- Vectors as two planes of 64-bit words, the least significant word first. Bit i of a vector is told by bit i of the value
 -- plane and bit i of the unknown plane.
-use Rattle.std.specs.Prelude.{◌≡◌, ℕ, zero, suc, ◌+◌, ◌-◌, ◌*◌, ◌/◌, ◌%◌, ◌==◌, Bool, true, false, List, [], ◌∷◌, ◌++◌, length, take, drop, replicate}
+use Rattle.std.specs.Prelude.{◌≡◌, ℕ, zero, suc, ◌+◌, ◌-◌, ◌*◌, ◌/◌, ◌%◌, ◌==◌, Bool, true, false, List, [], ◌∷◌, ◌++◌, length, drop, replicate}
 use Rattle.b4_core.specs.declared.bit.Bit4.{Bit4}
 use Rattle.b4_core.specs.declared.bit.Bit4.TheVariants.{Zero, One, X, Z}
 
@@ -35,3 +35,23 @@ pub record IsPlanes (len : ℕ) (values unknowns : List ℕ) : Type 0 where
   pub value_words : length values ≡ words_for len
   pub unknown_words : length unknowns ≡ words_for len
   pub rest : drop len (plane_bits values unknowns) ≡ replicate (64 * words_for len - len) Zero
+
+-- what a bit writes into the value plane, and into the unknown plane
+abbrev pub value_digit : Bit4 → ℕ
+value_digit Zero = 0
+value_digit One = 1
+value_digit X = 1
+value_digit Z = 0
+
+abbrev pub unknown_digit : Bit4 → ℕ
+unknown_digit Zero = 0
+unknown_digit One = 0
+unknown_digit X = 1
+unknown_digit Z = 1
+
+-- x in place of z
+abbrev pub x_for_z : Bit4 → Bit4
+x_for_z Zero = Zero
+x_for_z One = One
+x_for_z X = X
+x_for_z Z = X

@@ -4,5 +4,6 @@
 mod kernels;
 mod planes;
 mod sweep;
+mod words;
 
 pub use planes::Planes;

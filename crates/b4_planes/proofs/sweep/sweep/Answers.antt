@@ -1,4 +1,4 @@
-use Rattle.std.proofs.Common.{◌≡◌, ◌+◌, ◌<◌, ◌≤◌, length, ◌∙◌, sym, arith}
+use Rattle.std.proofs.Common.{◌+◌, ◌<◌, ◌≤◌, length, ◌∙◌, sym, arith}
 use Rattle.b4_planes.proofs.Aligned.{aligned, length-words4}
 use Rattle.b4_planes.proofs.Swept.{swept_chunk, swept_word, swept_end, lanes_of, word_of}
 use Rattle.b4_planes.proofs.sweep.sweep.Goals as goal

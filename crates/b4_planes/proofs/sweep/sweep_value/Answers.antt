@@ -1,4 +1,4 @@
-use Rattle.std.proofs.Common.{◌≡◌, ◌+◌, ◌<◌, ◌≤◌, length, refl, arith}
+use Rattle.std.proofs.Common.{◌+◌, ◌<◌, ◌≤◌, length, refl, arith}
 use Rattle.b4_planes.proofs.Aligned.{aligned, length_pairs}
 use Rattle.b4_planes.proofs.Swept.{swept_chunk, swept_word, swept_end, lanes_of_pair, word_of_pair}
 use Rattle.b4_planes.proofs.sweep.sweep_value.Goals as goal

@@ -1,6 +1,6 @@
 use Rattle.std.proofs.Common.{refl, ◌∙◌, sym}
 use Rattle.std.specs.Simd.Lanes.{zip2}
-use Rattle.std.specs.Int.Bits.{bit_and, bit_or, bit_xor}
+use Rattle.std.specs.Int.Bits.{bit_and, bit_or}
 use Rattle.b4_planes.specs.Words.{and_value, and_unknown}
 use Rattle.b4_planes.proofs.Aligned.{aligned, by_places}
 use Rattle.b4_planes.proofs.kernels.AndKernel.lanes.Goals as goal

@@ -1,6 +1,6 @@
 use Rattle.std.proofs.Common.{refl, ◌∙◌, sym}
 use Rattle.std.specs.Simd.Lanes.{zip2}
-use Rattle.std.specs.Int.Bits.{bit_and, bit_or, bit_xor}
+use Rattle.std.specs.Int.Bits.{bit_or, bit_xor}
 use Rattle.b4_planes.specs.Words.{xor_value, xor_unknown}
 use Rattle.b4_planes.proofs.Aligned.{aligned, by_places}
 use Rattle.b4_planes.proofs.kernels.XorKernel.lanes.Goals as goal
