@@ -19,8 +19,8 @@ impl Kernel for And {
     }
 
     fn lanes(a: u64x8, u: u64x8, b: u64x8, v: u64x8) -> (u64x8, u64x8) {
-        let value = (a | u) & (b | v);
-        (value, value & (u | v))
+        let values = (a | u) & (b | v);
+        (values, values & (u | v))
     }
 }
 
@@ -40,8 +40,8 @@ impl Kernel for Or {
     }
 
     fn lanes(a: u64x8, u: u64x8, b: u64x8, v: u64x8) -> (u64x8, u64x8) {
-        let one = ((a | u) ^ u) | ((b | v) ^ v);
-        ((a | u) | (b | v), ((u | v) | one) ^ one)
+        let ones = ((a | u) ^ u) | ((b | v) ^ v);
+        ((a | u) | (b | v), ((u | v) | ones) ^ ones)
     }
 }
 
@@ -61,8 +61,8 @@ impl Kernel for Xor {
     }
 
     fn lanes(a: u64x8, u: u64x8, b: u64x8, v: u64x8) -> (u64x8, u64x8) {
-        let unknown = u | v;
-        ((a ^ b) | unknown, unknown)
+        let unknowns = u | v;
+        ((a ^ b) | unknowns, unknowns)
     }
 }
 
@@ -82,8 +82,8 @@ impl Kernel for Merge {
     }
 
     fn lanes(a: u64x8, u: u64x8, b: u64x8, v: u64x8) -> (u64x8, u64x8) {
-        let unknown = (a ^ b) | (u | v);
-        ((a & b) | unknown, unknown)
+        let unknowns = (a ^ b) | (u | v);
+        ((a & b) | unknowns, unknowns)
     }
 }
 
