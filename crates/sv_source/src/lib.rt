@@ -3,12 +3,23 @@
 #![tactic(auto)]
 
 mod files;
+mod memory_files;
+mod memory_sinks;
+mod message;
+mod pieces;
 mod refusal;
 mod sink;
 mod text;
 mod token;
 
 pub use files::{Entries, Entry, Files, Loaded};
+pub use memory_files::{MemoryFiles, SureFiles};
+pub use memory_sinks::{MemorySink, SureSink};
+pub use message::{
+    put_eval_usage, put_out_of_memory, put_read_fault, put_refusal, put_unsettled, put_usage,
+    put_write_fault,
+};
+pub use pieces::{PIECE, put_all, put_number, put_parts};
 pub use refusal::{Fail, FileNames, Refusal};
 pub use sink::{Put, Sink};
 pub use sqlite_items::{Boxed, Items, at};
