@@ -19,10 +19,10 @@ pub fn put_all<S: Sink>(sink: &mut S, bytes: &[u8]) -> Put
     let mut rest = bytes;
     while !rest.is_empty() {
         let (piece, after) = rest.split_at(rest.len().min(PIECE));
-        if sink.put(piece) == Put::Failed {
-            return Put::Failed;
+        match sink.put(piece) {
+            Put::Ok => rest = after,
+            Put::Failed => return Put::Failed,
         }
-        rest = after;
     }
     Put::Ok
 }
@@ -35,8 +35,9 @@ pub fn put_parts<S: Sink>(sink: &mut S, parts: &[&[u8]]) -> Put
     ensures room { length (flat_map (λ part. part.now) parts.now) ≤ S.spare sink.old → KeepsRoom (S.spare sink.old) (S.spare sink.new) (length (flat_map (λ part. part.now) parts.now)) result }
 {
     for part in parts {
-        if put_all(sink, part) == Put::Failed {
-            return Put::Failed;
+        match put_all(sink, part) {
+            Put::Ok => {}
+            Put::Failed => return Put::Failed,
         }
     }
     Put::Ok
