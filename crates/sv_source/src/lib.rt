@@ -7,6 +7,7 @@ mod memory_files;
 mod memory_sinks;
 mod message;
 mod pieces;
+mod real;
 mod refusal;
 mod sink;
 mod text;
@@ -20,6 +21,7 @@ pub use message::{
     put_write_fault,
 };
 pub use pieces::{PIECE, put_all, put_number, put_parts};
+pub use real::{RealFiles, RealSink};
 pub use refusal::{Fail, FileNames, Refusal};
 pub use sink::{Put, Sink};
 pub use sqlite_items::{Boxed, Items, at};
