@@ -56,10 +56,10 @@ module _ (before now : Option (List ℕ)) (faults faults_now spare spare_now : �
     gained = gained ∙ ap (λ w. appended w piece) s.gained ∙ appended-appended before s.front piece;
     level = level ∙ s.level;
     room = λ fits.
-      let fits_now : length piece ≤ spare_now = sent_fits fits in
-      let was : spare_now ≡ spare - length s.front = s.room fits in
-      let is : spare_after ≡ spare_now - length piece = room fits_now in
-      omega (arith, length-append s.front piece);
+        let fits_now : length piece ≤ spare_now = sent_fits fits in
+        let was : spare_now ≡ spare - length s.front = s.room fits in
+        let is : spare_after ≡ spare_now - length piece = room fits_now in
+        omega (arith, length-append s.front piece);
   }
 
   -- the next piece failed

@@ -4,9 +4,8 @@ ghost use Rattle.sv_source.specs.Loading.{LoadsWithin};
 
 use crate::{Files, Loaded, Put, Sink, Text};
 use std::alloc::Global;
-use std::fs;
 use std::io::{ErrorKind, Read, Write};
-use std::rt;
+use std::{fs, rt};
 
 // How many bytes one read asks for at most.
 const CHUNK: usize = 4096;
