@@ -1,9 +1,9 @@
 -- What fits into a sink's room is a front of the piece.
-use Rattle.std.proofs.Common.{◌≡◌, ℕ, ◌+◌, ◌<◌, ◌≤◌, List, ◌++◌, length, take, drop, refl, sym, ap, Some, arith}
+use Rattle.std.proofs.Common.{◌≡◌, ℕ, ◌<◌, List, ◌++◌, length, take, drop, ap, Some, arith}
 use Rattle.std.proofs.lemmas.Grind.{common_steps}
 use Rattle.sv_source.specs.declared.sink.Put.{Put}
 use Rattle.sv_source.specs.declared.sink.Put.TheVariants.{Ok, Failed}
-use Rattle.sv_source.specs.Putting.{appended, GainsFront, Gains}
+use Rattle.sv_source.specs.Putting.{GainsFront, Gains}
 use Rattle.sv_source.specs.Memory.{TakesWhatFits}
 
 pub front_taken : (before after piece : List ℕ) (n : ℕ) → after ≡ before ++ take n piece → GainsFront (Some before) (Some after) piece

@@ -2,9 +2,7 @@
 use Rattle.std.proofs.Common.{◌≡◌, ℕ, ◌+◌, ◌-◌, ◌<◌, ◌≤◌, List, [], ◌++◌, length, drop, get_or, add-one, drop-cons, Option, Some, None, refl, sym, ap, ◌∙◌, arith, append_assoc, length-append}
 use Rattle.std.proofs.lemmas.Grind.{common_steps}
 use Rattle.std.specs.List.{flat_map}
-use Rattle.sv_source.specs.declared.sink.Put.{Put}
-use Rattle.sv_source.specs.declared.sink.Put.TheVariants.{Ok, Failed}
-use Rattle.sv_source.specs.Putting.{appended, GainsFront, Gains, KeepsRoom}
+use Rattle.sv_source.specs.Putting.{appended, GainsFront}
 
 pub appended-appended : (written : Option (List ℕ)) (xs ys : List ℕ) → appended (appended written xs) ys ≡ appended written (xs ++ ys)
 appended-appended None xs ys = refl

@@ -1,5 +1,5 @@
 -- What a put of bytes on a sink may do.
-use Rattle.std.specs.Prelude.{◌≡◌, ℕ, ◌-◌, ◌≤◌, List, ◌++◌, length, Option, Some, None}
+use Rattle.std.specs.Prelude.{◌≡◌, ℕ, ◌-◌, List, ◌++◌, Option, Some, None}
 use Rattle.sv_source.specs.declared.sink.Put.{Put}
 use Rattle.sv_source.specs.declared.sink.Put.TheVariants.{Ok, Failed}
 use Rattle.sv_source.specs.Faults.{Rose}
@@ -20,6 +20,10 @@ pub record GainsFront (before after : Option (List ℕ)) (bytes : List ℕ) : Ty
 abbrev pub Gains : Option (List ℕ) → Option (List ℕ) → List ℕ → Put → Type 0
 Gains before after bytes Ok = after ≡ appended before bytes
 Gains before after bytes Failed = GainsFront before after bytes
+
+-- `Gains` where the bytes before are known
+abbrev pub GainsKnown : Option (List ℕ) → Option (List ℕ) → List ℕ → Put → Type 0
+GainsKnown before after bytes result = (known : List ℕ) → before ≡ Some known → Gains (Some known) after bytes result
 
 -- a fault is answered only where the count rose, and `Ok` leaves the count as it was
 abbrev pub PutCause : Put → ℕ → ℕ → Type 0

@@ -1,6 +1,8 @@
 // The files and streams of the system. They tell no content: what a real file or terminal held is not proved.
 ghost use Rattle.std.specs.Prelude.{◌≡◌, ◌^◌, ◌<◌, ◌≤◌, length, None};
-ghost use Rattle.sv_source.specs.Loading.{LoadsWithin};
+ghost use Rattle.std.specs.Str.{IsUtf8};
+ghost use Rattle.sv_source.specs.Loading.{LoadsTold, LoadsWithin, LoadCause};
+ghost use Rattle.sv_source.specs.Putting.{Gains, GainsKnown, PutCause, KeepsRoom};
 
 use crate::{Files, Loaded, Put, Sink, Text};
 use std::alloc::Global;
@@ -53,6 +55,7 @@ fn read_rest<F: Read>(alloc: Global, file: &mut F, limit: u64) -> Loaded
 fn load_file<R: rt::Files>(runtime: &R, alloc: Global, path: &[u8], limit: u64) -> Loaded
     requires { limit < 2 ^ 32 }
     ensures within { LoadsWithin limit result }
+    ensures no_text { ¬ (IsUtf8 path.now) → result ≡ Loaded.Absent }
 {
     let Ok(path) = str::from_utf8(path) else {
         return Loaded::Absent;
@@ -69,7 +72,15 @@ impl<'r, R: rt::Files> Files for RealFiles<'r, R> {
 
     ghost faults = { λ files. files.faults };
 
-    fn load(&mut self, alloc: Global, path: &[u8], limit: u64) -> Loaded {
+    fn load(&mut self, alloc: Global, path: &[u8], limit: u64) -> Loaded
+        requires { limit < 2 ^ 32 }
+        ensures answer { LoadsTold None path.now limit result }
+        ensures within { LoadsWithin limit result }
+        ensures later { self.old.faults ≤ self.new.faults }
+        ensures cause { LoadCause result self.old.faults self.new.faults }
+        // A path that isn't UTF-8 names no file.
+        ensures no_text { ¬ (IsUtf8 path.now) → result ≡ Loaded.Absent }
+    {
         let loaded = load_file(self.runtime, alloc, path, limit);
         if let Loaded::Failed = loaded {
             self.faults = self.faults.saturating_add(1);
@@ -101,7 +112,14 @@ impl<W: Write> Sink for RealSink<W> {
 
     ghost spare = { λ _. 0 };
 
-    fn put(&mut self, piece: &[u8]) -> Put {
+    fn put(&mut self, piece: &[u8]) -> Put
+        ensures bytes { Gains None None piece.now result }
+        ensures later { self.old.faults ≤ self.new.faults }
+        ensures cause { PutCause result self.old.faults self.new.faults }
+        ensures room { length piece.now ≤ 0 → KeepsRoom 0 0 (length piece.now) result }
+        // The bytes go to the stream, as far as the stream tells what it has.
+        ensures stream { GainsKnown (W.contents self.old.stream) (W.contents self.new.stream) piece.now result }
+    {
         let mut rest = piece;
         while !rest.is_empty() {
             match self.stream.write(rest) {

@@ -1,4 +1,4 @@
-use Rattle.std.proofs.Common.{◌≡◌, ◌++◌, sym, ap, arith}
+use Rattle.std.proofs.Common.{◌≡◌, ◌++◌, arith}
 use Rattle.std.proofs.lemmas.Grind.{common_steps}
 use Rattle.sv_source.proofs.Sending.{sent_more, sent_cut}
 use Rattle.sv_source.proofs.pieces.put_all.Goals as goal

@@ -1,4 +1,3 @@
-use Rattle.std.proofs.Common.{◌≡◌, ◌++◌}
 use Rattle.sv_source.proofs.Sending.{sent_more, sent_cut, flat_map-drop}
 use Rattle.sv_source.proofs.pieces.put_parts.Goals as goal
 
