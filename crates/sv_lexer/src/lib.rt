@@ -1,0 +1,8 @@
+//! The tokens of a file (IEEE 1800-2017 clause 5).
+#![tactic(auto)]
+
+mod bytes;
+mod spans;
+mod tables;
+
+pub use tables::{MARKS, RESERVED};
