@@ -1,26 +1,31 @@
 -- Based literals, fills and strings: how many bytes of each begin a text.
-use Rattle.std.specs.Prelude.{ℕ, ◌+◌, Bool, true, false, ◌==◌, ◌&&◌, ◌||◌, if◌then◌else◌, List, [], ◌∷◌, drop}
+use Rattle.std.specs.Prelude.{ℕ, ◌+◌, Bool, false, not, ◌==◌, ◌&&◌, ◌||◌, if◌then◌else◌, List, [], ◌∷◌, drop}
 use Rattle.sv_lexer.specs.Bytes.{is_blank, is_digit, is_decimal, is_unknown, is_binary, is_octal, is_hex}
 use Rattle.sv_lexer.specs.Spans.{run, one_more, behind}
 
--- a digit that passes the test, and then such digits and underscores
-abbrev pub digits_span : (ℕ → Bool) → List ℕ → ℕ
-digits_span test [] = 0
-digits_span test (c ∷ cs) = if test c then run (λ d. test d || d == 95) cs + 1 else 0
+-- a digit of the base with this letter: b, o, d or h in either case
+abbrev pub is_digit_of : ℕ → ℕ → Bool
+is_digit_of base c =
+    if base == 98 || base == 66 then is_binary c
+    else (if base == 111 || base == 79 then is_octal c
+    else (if base == 100 || base == 68 then is_digit c
+    else (if base == 104 || base == 72 then is_hex c
+    else false)))
 
--- decimal digits and underscores, or one x or z and underscores
-abbrev pub decimal_digits_span : List ℕ → ℕ
-decimal_digits_span [] = 0
-decimal_digits_span (c ∷ cs) = if is_unknown c then run (λ d. d == 95) cs + 1 else digits_span is_digit (c ∷ cs)
+-- a decimal base, and x or z as its only digit
+abbrev pub is_lone : ℕ → ℕ → Bool
+is_lone base c = (base == 100 || base == 68) && is_unknown c
 
--- the digits that may stand behind a base letter
+abbrev pub is_digit_or_underscore : ℕ → ℕ → Bool
+is_digit_or_underscore base c = is_digit_of base c || c == 95
+
+-- the digits behind a base letter: a digit and then digits and underscores, or a lone digit and underscores
 abbrev pub base_digits_span : ℕ → List ℕ → ℕ
-base_digits_span base bytes =
-    if base == 98 || base == 66 then digits_span is_binary bytes
-    else (if base == 111 || base == 79 then digits_span is_octal bytes
-    else (if base == 100 || base == 68 then decimal_digits_span bytes
-    else (if base == 104 || base == 72 then digits_span is_hex bytes
-    else 0)))
+base_digits_span base [] = 0
+base_digits_span base (c ∷ cs) =
+    if is_lone base c then run (λ d. d == 95) cs + 1
+    else (if is_digit_of base c then run (is_digit_or_underscore base) cs + 1
+    else 0)
 
 -- a base letter, spaces or tabs, and digits of the base
 abbrev pub base_span : List ℕ → ℕ
@@ -48,15 +53,14 @@ fill_digit_span (c ∷ cs) = if c == 48 || c == 49 || c == 120 || c == 88 || c =
 abbrev pub fill_span : List ℕ → ℕ
 fill_span bytes = behind 39 fill_digit_span bytes
 
--- the rest of a string behind its quote, with the quote that closes it on the same line; a backslash takes the next
--- byte with it, as the flag says
+-- the rest of a string behind its quote, with the quote that closes it on the same line; the flag says that the byte
+-- before was a backslash that takes this one with it
 abbrev pub string_rest : Bool → List ℕ → ℕ
 string_rest escaped [] = 0
 string_rest escaped (c ∷ cs) =
     if c == 10 then 0
-    else (if escaped then one_more (string_rest false cs)
-    else (if c == 34 then 1
-    else one_more (string_rest (c == 92) cs)))
+    else (if c == 34 && not escaped then 1
+    else one_more (string_rest (c == 92 && not escaped) cs))
 
 -- a quote to the next quote on the line
 abbrev pub string_span : List ℕ → ℕ

@@ -1,5 +1,5 @@
 -- How many bytes of each kind begin a text, and 0 where the text begins with none of the kind.
-use Rattle.std.specs.Prelude.{ℕ, ◌+◌, ◌<◌, Bool, true, false, not, ◌==◌, ◌&&◌, ◌||◌, nat_lt, if◌then◌else◌, List, [], ◌∷◌, length, take_while, codes}
+use Rattle.std.specs.Prelude.{ℕ, ◌+◌, ◌<◌, Bool, true, false, not, ◌==◌, ◌&&◌, ◌||◌, nat_lt, if◌then◌else◌, List, [], ◌∷◌, length, drop, take_while, codes}
 use Rattle.std.specs.List.{starts_with}
 use Rattle.std.specs.Prelude.{nat_eq}
 use Rattle.sv_lexer.specs.Bytes.{is_white, is_digit, is_letter, is_word, is_decimal}
@@ -53,9 +53,7 @@ closes_comment bytes = begins bytes (codes "*/")
 
 -- the bytes of a comment behind its `/*`, up to the first `*/`
 abbrev pub comment_body : List ℕ → ℕ
-comment_body [] = 0
-comment_body (c ∷ []) = 0
-comment_body (c ∷ d ∷ rest) = until closes_comment rest
+comment_body bytes = until closes_comment (drop 2 bytes)
 
 -- `/*` to the first `*/`, where there is one
 abbrev pub block_comment_span : List ℕ → ℕ

@@ -2,6 +2,8 @@
 #![tactic(auto)]
 
 mod bytes;
+mod comments;
+mod literals;
 mod spans;
 mod tables;
 

@@ -40,7 +40,7 @@ pub fn system_span(bytes: &[u8]) -> usize
     }
 }
 
-fn one_more(count: usize) -> usize
+pub fn one_more(count: usize) -> usize
     requires { count < 2 ^ 63 }
     ensures { result ≡ spec.one_more count }
 {
@@ -64,5 +64,52 @@ pub fn continued_span(bytes: &[u8]) -> usize
         3
     } else {
         0
+    }
+}
+
+pub fn directive_span(bytes: &[u8]) -> usize
+    ensures value { result ≡ spec.directive_span bytes.now }
+    ensures within { result ≤ length bytes.now }
+{
+    match bytes {
+        [b'`', rest @ ..] => one_more(name_span(rest)),
+        _ => 0,
+    }
+}
+
+pub fn paste_span(bytes: &[u8]) -> usize
+    ensures value { result ≡ spec.paste_span bytes.now }
+    ensures within { result ≤ length bytes.now }
+{
+    if bytes.starts_with(b"``") { 2 } else { 0 }
+}
+
+pub fn quote_span(bytes: &[u8]) -> usize
+    ensures value { result ≡ spec.quote_span bytes.now }
+    ensures within { result ≤ length bytes.now }
+{
+    if bytes.starts_with(b"`\"") {
+        2
+    } else if bytes.starts_with(b"`\\`\"") {
+        4
+    } else {
+        0
+    }
+}
+
+fn decimal_run(bytes: &[u8]) -> usize
+    ensures value { result ≡ spec.run bytes_spec.is_decimal bytes.now }
+    ensures within { result ≤ length bytes.now }
+{
+    bytes.iter().take_while(|byte| is_decimal(**byte)).count()
+}
+
+pub fn decimal_span(bytes: &[u8]) -> usize
+    ensures value { result ≡ spec.decimal_span bytes.now }
+    ensures within { result ≤ length bytes.now }
+{
+    match bytes {
+        [first, rest @ ..] if is_digit(*first) => decimal_run(rest) + 1,
+        _ => 0,
     }
 }
