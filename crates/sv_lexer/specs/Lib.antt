@@ -2,3 +2,5 @@ pub mod Bytes
 pub mod Spans
 pub mod Literals
 pub mod Tables
+pub mod Pieces
+pub mod Lexing

@@ -4,6 +4,7 @@
 mod bytes;
 mod comments;
 mod literals;
+mod piece;
 mod spans;
 mod tables;
 

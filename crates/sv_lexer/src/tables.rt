@@ -1,7 +1,8 @@
 // The tables of the lexer.
-ghost use Rattle.std.specs.Prelude.{◌≡◌, ◌==◌, map, IfOk};
-ghost use Rattle.std.specs.List.{slice_split};
-ghost use Rattle.sv_lexer.specs.Tables.{words_of};
+ghost use Rattle.std.specs.Prelude.{◌≡◌, ◌≤◌, map, length, IfOk};
+ghost use Rattle.std.specs.List.{list_any};
+ghost use Rattle.std.specs.Str.{bytes_eq};
+ghost use Rattle.sv_lexer.specs.Tables.{words_of, reserved_words, marks as marks_table, is_reserved, mark_span};
 
 use std::alloc::{AllocError, Global};
 
@@ -11,9 +12,57 @@ pub const RESERVED: &str = "accept_on alias always always_comb always_ff always_
 /// The operators and marks of punctuation, separated by one space.
 pub const MARKS: &str = "( ) [ ] { } ; , . : ? # @ ' = + - * / % & | ^ ~ ! < > :: .* (* *) (*) ** ++ -- && || == != === !== ==? !=? <= >= << >> <<< >>> ~& ~| ~^ ^~ += -= *= /= %= &= |= ^= <<= >>= <<<= >>>= +: -:";
 
+/// The words of both tables, cut apart.
+#[derive(Drop)]
+pub struct Tables {
+    reserved: Vec<&'static str>,
+    marks: Vec<&'static str>,
+    ghost all_reserved: { map (λ word. word.now) reserved.items ≡ reserved_words },
+    ghost all_marks: { map (λ mark. mark.now) marks.items ≡ marks_table },
+}
+
 // The words of a table.
 fn words(alloc: Global, table: &'static str) -> Result<Vec<&'static str>, AllocError>
     ensures { IfOk result (λ v. map (λ x. x.now) v.items ≡ words_of table.now) }
 {
     table.split(' ').collect(alloc)
+}
+
+fn is_among(words: &[&str], name: &[u8]) -> bool
+    ensures { result ≡ list_any (λ word. bytes_eq word.now name.now) words.now }
+{
+    words.iter().any(|word| word.as_bytes() == name)
+}
+
+impl Tables {
+    /// Both tables, or want of memory.
+    #[tactic(auto, unfolding(crate::specs::Tables::reserved_words, crate::specs::Tables::marks))]
+    pub fn new(alloc: Global) -> Result<Tables, AllocError> {
+        Ok(Tables {
+            reserved: words(alloc, RESERVED)?,
+            marks: words(alloc, MARKS)?,
+        })
+    }
+
+    /// Whether the name is a reserved word.
+    pub fn is_reserved(&self, name: &[u8]) -> bool
+        ensures { result ≡ is_reserved name.now }
+    {
+        is_among(&self.reserved, name)
+    }
+
+    /// The length of the longest mark at the front of a text, or 0.
+    pub fn mark_span(&self, bytes: &[u8]) -> usize
+        ensures value { result ≡ mark_span bytes.now }
+        ensures within { result ≤ length bytes.now }
+    {
+        let mut best = 0;
+        for mark in &self.marks {
+            let mark = mark.as_bytes();
+            if best < mark.len() && bytes.starts_with(mark) {
+                best = mark.len();
+            }
+        }
+        best
+    }
 }
