@@ -1,2 +1,4 @@
 pub mod Scans
 pub mod Words
+pub mod Skips
+pub mod Unclosed

@@ -3,9 +3,10 @@
 
 mod bytes;
 mod comments;
+mod lexing;
 mod literals;
 mod piece;
 mod spans;
 mod tables;
 
-pub use tables::{MARKS, RESERVED};
+pub use lexing::lex;

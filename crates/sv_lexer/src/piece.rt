@@ -1,10 +1,10 @@
 // The longest piece at the front of a text.
-ghost use Rattle.std.specs.Prelude.{◌≡◌, ◌<◌, ◌≤◌, ℕ, length, IsTrue};
+ghost use Rattle.std.specs.Prelude.{◌≡◌, ◌<◌, ◌≤◌, ℕ, length};
 ghost use Rattle.sv_lexer.specs.Literals.{string_span};
 ghost use Rattle.sv_lexer.specs.Pieces.{longest};
 
 use crate::comments::{block_comment_span, cut_span, line_comment_span};
-use crate::literals::{based_span, fill_span, string_span};
+use crate::literals::{based_span, fill_span};
 use crate::spans::{
     continued_span, decimal_span, directive_span, line_span, name_span, paste_span, quote_span,
     system_span, white_span,
@@ -51,16 +51,16 @@ impl Piece {
     }
 }
 
-/// The longest piece at the front of a text. Where it is known that no string begins there, `no_string` says so.
+/// The longest piece at the front of a text; `string` is the length of the string there, or 0.
 #[tactic(auto, unfolding(crate::specs::Pieces::longest))]
-pub fn longest(tables: &Tables, bytes: &[u8], no_string: bool) -> Piece
+pub fn longest(tables: &Tables, bytes: &[u8], string: usize) -> Piece
     requires some { 0 < length bytes.now }
-    requires string { IsTrue no_string → string_span bytes.now ≡ 0 }
+    requires string { string ≡ string_span bytes.now }
+    requires string_within { string ≤ length bytes.now }
     ensures value { result ≡ longest bytes.now }
     ensures some { 0 < result.len }
     ensures within { result.len ≤ length bytes.now }
 {
-    let string = if no_string { 0 } else { string_span(bytes) };
     Piece::gap(white_span(bytes))
         .longer(Piece::gap(line_comment_span(bytes)))
         .longer(Piece::gap(block_comment_span(bytes)))
