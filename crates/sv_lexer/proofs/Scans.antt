@@ -1,8 +1,7 @@
 -- Loops over the bytes of a text, a step at a time.
-use Rattle.std.proofs.Common.{◌≡◌, ℕ, zero, suc, ◌+◌, ◌<◌, ◌≤◌, Bool, true, false, cond, ◌==◌, ◌&&◌, not, List, [], ◌∷◌, length, drop, get_or, refl, sym, ap, ◌∙◌, arith, add-one, drop-cons}
-use Rattle.std.proofs.lemmas.Grind.{common_steps}
+use Rattle.std.proofs.Common.{◌≡◌, ℕ, zero, suc, ◌+◌, ◌<◌, Bool, true, false, cond, ◌==◌, ◌&&◌, not, List, [], ◌∷◌, length, drop, get_or, refl, arith, add-one, drop-cons}
 use Rattle.std.proofs.lemmas.Bool.Decides.{nat_tests}
-use Rattle.sv_lexer.specs.Spans.{until, one_more, begins, closes_comment}
+use Rattle.sv_lexer.specs.Spans.{until, one_more}
 use Rattle.sv_lexer.specs.Literals.{string_rest}
 
 -- the test fails here, so one byte more stands before the place

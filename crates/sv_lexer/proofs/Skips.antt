@@ -1,9 +1,7 @@
 -- Places and tokens behind a piece.
-use Rattle.std.proofs.Common.{◌≡◌, ℕ, zero, suc, ◌+◌, ◌-◌, ◌<◌, ◌≤◌, Bool, true, false, ◌==◌, List, [], ◌∷◌, ◌++◌, length, take, drop, get_or, refl, sym, ap, ◌∙◌, arith, add-one, drop-cons, append_assoc}
+use Rattle.std.proofs.Common.{◌≡◌, ℕ, ◌-◌, ◌<◌, List, [], ◌∷◌, ◌++◌, length, take, refl, sym, ap, ◌∙◌, arith}
 use Rattle.std.proofs.lemmas.Grind.{common_steps}
-use Rattle.std.proofs.lemmas.Bool.Decides.{nat_tests}
 use Rattle.sv_source.specs.declared.token.Place.{Place}
-use Rattle.sv_source.specs.declared.token.Token.{Token}
 use Rattle.sv_lexer.specs.declared.piece.Piece.{Piece}
 use Rattle.sv_lexer.specs.Pieces.{longest}
 use Rattle.sv_lexer.specs.Lexing.{behind_byte, behind_bytes, token_of, tokens_from}

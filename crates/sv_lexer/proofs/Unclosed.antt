@@ -1,6 +1,5 @@
 -- Once a quote on a line isn't closed, no later quote on the line is.
-use Rattle.std.proofs.Common.{◌≡◌, ℕ, zero, suc, ◌+◌, ◌<◌, ◌≤◌, Bool, true, false, not, ◌==◌, ◌&&◌, ◌||◌, IsTrue, List, [], ◌∷◌, ◌++◌, length, refl, sym, ap, subst, ◌∙◌, ◌⊎◌, inl, inr, cond, arith, codes}
-use Rattle.std.proofs.lemmas.Grind.{common_steps}
+use Rattle.std.proofs.Common.{◌≡◌, ℕ, ◌+◌, ◌≤◌, Bool, true, false, not, ◌==◌, ◌&&◌, ◌||◌, IsTrue, List, [], ◌∷◌, ◌++◌, refl, sym, ap, subst, ◌∙◌, ◌⊎◌, inl, inr, cond, arith, codes}
 use Rattle.std.proofs.lemmas.Bool.Decides.{nat_tests}
 use Rattle.sv_source.specs.declared.token.Place.{Place}
 use Rattle.sv_lexer.specs.Spans.{begins, one_more}
@@ -89,7 +88,7 @@ no_string-next place next rest text after no_string result string split is span 
     let cases = open-cases (next.line == place.line) no_string (string == 0 && begins rest (codes "\"")) (sym e ∙ h) in
     let same : next.line ≡ place.line = grind (arith, nat_tests, cases.0) in
     let here : NoString rest = elim cases.1 [
-      inl known_before ↦ known known_before
+      | inl known_before ↦ known known_before
       | inr opens ↦ no_string-quote rest (sym span ∙ grind (arith, nat_tests, opens)) (and-right _ _ opens)
     ] in
     no_string-behind place text after (ap (λ p. p.line) (sym is) ∙ same) (let P : List ℕ → Type 0 = NoString in subst P split here)

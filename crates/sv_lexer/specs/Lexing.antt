@@ -5,7 +5,6 @@ use Rattle.sv_source.specs.declared.token.Token.{Token}
 use Rattle.sv_source.specs.declared.token.Kind.{Kind}
 use Rattle.sv_source.specs.declared.token.Kind.TheVariants.{Name, Reserved}
 use Rattle.sv_lexer.specs.Tables.{is_reserved}
-use Rattle.sv_lexer.specs.declared.piece.Piece.{Piece}
 use Rattle.sv_lexer.specs.Pieces.{longest}
 
 -- the place behind a byte: a newline begins the next line

@@ -1,6 +1,6 @@
 -- Based literals, fills and strings: how many bytes of each begin a text.
 use Rattle.std.specs.Prelude.{ℕ, ◌+◌, Bool, false, not, ◌==◌, ◌&&◌, ◌||◌, if◌then◌else◌, List, [], ◌∷◌, drop}
-use Rattle.sv_lexer.specs.Bytes.{is_blank, is_digit, is_decimal, is_unknown, is_binary, is_octal, is_hex}
+use Rattle.sv_lexer.specs.Bytes.{is_blank, is_digit, is_unknown, is_binary, is_octal, is_hex}
 use Rattle.sv_lexer.specs.Spans.{run, one_more, behind}
 
 -- a digit of the base with this letter: b, o, d or h in either case

@@ -1,5 +1,5 @@
 -- The longest piece of each kind at the front of a text, and the longest of them.
-use Rattle.std.specs.Prelude.{ℕ, nat_lt, if◌then◌else◌, Option, Some, None, List, [], ◌∷◌, fold}
+use Rattle.std.specs.Prelude.{ℕ, nat_lt, if◌then◌else◌, Some, None, List, [], ◌∷◌, fold}
 use Rattle.sv_source.specs.declared.token.Kind.{Kind}
 use Rattle.sv_source.specs.declared.token.Kind.TheVariants.{Name, Decimal, Based, Fill, Mark, System, Str, Directive, Paste, Quote, Line, Continued, Cut, Bad}
 use Rattle.sv_lexer.specs.declared.piece.Piece.{Piece}

@@ -1,5 +1,5 @@
 -- The reserved words and the marks, as the code's tables list them.
-use Rattle.std.specs.Prelude.{ℕ, Bool, ◌==◌, ◌&&◌, nat_lt, if◌then◌else◌, List, [], ◌∷◌, length, fold}
+use Rattle.std.specs.Prelude.{ℕ, Bool, ◌==◌, ◌&&◌, nat_lt, if◌then◌else◌, List, [], ◌∷◌, length}
 use Rattle.std.specs.List.{slice_split, list_any}
 use Rattle.std.specs.Str.{bytes_eq}
 use Rattle.sv_lexer.specs.declared.tables.TheConstants as table

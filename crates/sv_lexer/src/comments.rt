@@ -26,7 +26,11 @@ pub fn line_comment_span(bytes: &[u8]) -> usize
     ensures value { result ≡ spec.line_comment_span bytes.now }
     ensures within { result ≤ length bytes.now }
 {
-    if bytes.starts_with(b"//") { line_rest(bytes) } else { 0 }
+    if bytes.starts_with(b"//") {
+        line_rest(bytes)
+    } else {
+        0
+    }
 }
 
 // How many bytes stand before the first `*/`, or before the end.

@@ -6,8 +6,8 @@ ghost use Rattle.sv_lexer.specs.Lexing.{behind_byte, behind_bytes, kind_of, toke
 use crate::literals::string_span;
 use crate::piece::longest;
 use crate::tables::Tables;
-use sv_source::{Kind, Place, Text, Token, Tokens};
 use std::alloc::{AllocError, Global};
+use sv_source::{Kind, Place, Text, Token, Tokens};
 
 fn behind_byte(place: Place, byte: u8) -> Place
     requires { (place.line < 2 ^ 32 - 1) × (place.col < 2 ^ 32 - 1) }

@@ -1,4 +1,4 @@
-use Rattle.std.proofs.Common.{◌≡◌, ◌+◌, ◌++◌, ◌∙◌, sym, ap, arith, append_assoc, length, cond}
+use Rattle.std.proofs.Common.{◌≡◌, ◌++◌, ◌∙◌, sym, arith, append_assoc}
 use Rattle.std.proofs.lemmas.Grind.{common_steps}
 use Rattle.sv_lexer.specs.Literals.{string_span}
 use Rattle.sv_lexer.specs.Lexing.{tokens_from, token_of, behind_bytes}
@@ -11,10 +11,10 @@ pub loop-rest-preserved : goal.loop-rest-preserved
 loop-rest-preserved c =
     let split : c.loop-rest.rest.now ≡ c.split_at.result.0.now ++ c.split_at.result.1.now = grind (arith, common_steps) in
     let string : c.if-no_string.string ≡ string_span c.loop-rest.rest.now =
-        elim c.if-no_string.branch [ then-no_string w ↦ w.string-is ∙ sym (no_string-span c.loop-rest.rest.now (c.loop-rest.invariant.no_string w.if-no_string.true)) | else-no_string w ↦ w.string-is ∙ w.string_span-string.ensures.value ] in
+    elim c.if-no_string.branch [ then-no_string w ↦ w.string-is ∙ sym (no_string-span c.loop-rest.rest.now (c.loop-rest.invariant.no_string w.if-no_string.true)) | else-no_string w ↦ w.string-is ∙ w.string_span-string.ensures.value ] in
     let next : tokens_from 0 c.loop-rest.place c.loop-rest.rest.now
-        ≡ token_of c.longest-piece.result.kind c.split_at.result.0.now c.loop-rest.place ++ tokens_from 0 (behind_bytes c.loop-rest.place c.split_at.result.0.now) c.split_at.result.1.now =
-        tokens_from-next c.loop-rest.place _ _ _ c.longest-piece.result split c.longest-piece.ensures.value c.longest-piece.ensures.some c.split_at.ensures.front_len in
+    ≡ token_of c.longest-piece.result.kind c.split_at.result.0.now c.loop-rest.place ++ tokens_from 0 (behind_bytes c.loop-rest.place c.split_at.result.0.now) c.split_at.result.1.now =
+    tokens_from-next c.loop-rest.place _ _ _ c.longest-piece.result split c.longest-piece.ensures.value c.longest-piece.ensures.some c.split_at.ensures.front_len in
     record {
       value = rw (c.in_ok-push_token.ensures, c.behind-next.ensures.value, append_assoc, ← next) c.loop-rest.invariant.value;
       line = omega arith;

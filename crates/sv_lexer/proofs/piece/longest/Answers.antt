@@ -1,4 +1,4 @@
-use Rattle.std.proofs.Common.{◌≡◌, ◌<◌, ◌≤◌, ℕ, length, arith}
+use Rattle.std.proofs.Common.{◌≤◌, ℕ, length, arith}
 use Rattle.sv_lexer.proofs.piece.longest.Goals as goal
 
 pub returns-clause-within : goal.returns-clause-within
