@@ -4,3 +4,4 @@ pub mod Literals
 pub mod Tables
 pub mod Pieces
 pub mod Lexing
+pub mod Facts

@@ -1,6 +1,7 @@
 // The tokens of a file.
-ghost use Rattle.std.specs.Prelude.{◌≡◌, ◌+◌, ◌-◌, ◌^◌, ◌<◌, ◌≤◌, ◌++◌, ◌==◌, ◌&&◌, ◌||◌, codes, length, IfOk, OnOk};
+ghost use Rattle.std.specs.Prelude.{◌≡◌, ◌+◌, ◌-◌, ◌^◌, ◌<◌, ◌≤◌, ◌++◌, ◌==◌, ◌&&◌, ◌||◌, codes, length, All, IfOk, OnOk};
 ghost use Rattle.sv_lexer.specs.Spans.{begins};
+ghost use Rattle.sv_lexer.specs.Facts.{IsRaw};
 ghost use Rattle.sv_lexer.specs.Lexing.{behind_byte, behind_bytes, kind_of, token_of, tokens_of};
 
 use crate::literals::string_span;
@@ -92,7 +93,10 @@ fn stays_open(no_string: bool, rest: &[u8], string: usize, same_line: bool) -> b
 /// to 5.9), or want of memory. White space and comments give none.
 pub fn lex(alloc: Global, file: u32, bytes: &[u8]) -> Result<Tokens, AllocError>
     requires { length bytes.now < 2 ^ 32 - 1 }
-    ensures { IfOk result (λ tokens. tokens ≡ tokens_of file bytes.now) }
+    ensures tokens { IfOk result (λ tokens. tokens ≡ tokens_of file bytes.now) }
+    // Two facts about every such list: it has no more tokens than bytes, and each has bytes and isn't the end.
+    ensures count { IfOk result (λ tokens. length tokens ≤ length bytes.now) }
+    ensures raw { IfOk result (All IsRaw) }
 {
     let tables = Tables::new(alloc)?;
     let mut tokens = Tokens::new(alloc);

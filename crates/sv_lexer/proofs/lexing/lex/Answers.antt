@@ -1,7 +1,10 @@
 use Rattle.std.proofs.Common.{◌≡◌, ◌++◌, ◌∙◌, sym, arith, append_assoc}
 use Rattle.std.proofs.lemmas.Grind.{common_steps}
 use Rattle.sv_lexer.specs.Literals.{string_span}
-use Rattle.sv_lexer.specs.Lexing.{tokens_from, token_of, behind_bytes}
+use Rattle.sv_lexer.specs.Lexing.{tokens_from, token_of, behind_bytes, tokens_of}
+use Rattle.sv_lexer.specs.Facts.{IsRaw}
+use Rattle.std.proofs.lemmas.List.Elements.{All-same}
+use Rattle.sv_lexer.proofs.Raw.{tokens_from-count, tokens_from-raw}
 use Rattle.sv_lexer.proofs.Skips.{tokens_from-next}
 use Rattle.sv_lexer.proofs.Unclosed.{no_string-span, no_string-next}
 use Rattle.sv_lexer.proofs.lexing.lex.Goals as goal
@@ -22,3 +25,13 @@ loop-rest-preserved c =
       col_least = omega arith;
       no_string = no_string-next c.loop-rest.place c.behind-next.result _ _ _ _ _ _ split c.behind-next.ensures.value string c.loop-rest.invariant.no_string c.stays_open-no_string.ensures;
     }
+
+pub returns-clause-count : goal.returns-clause-count
+returns-clause-count c =
+    let done : c.loop-rest.tokens ≡ tokens_of c.args.file c.args.bytes.now = grind (arith, common_steps) in
+    rw done (tokens_from-count 0 _ c.args.bytes.now)
+
+pub returns-clause-raw : goal.returns-clause-raw
+returns-clause-raw c =
+    let done : c.loop-rest.tokens ≡ tokens_of c.args.file c.args.bytes.now = grind (arith, common_steps) in
+    All-same IsRaw _ _ done (tokens_from-raw 0 _ c.args.bytes.now)
