@@ -1,0 +1,68 @@
+use Rattle.std.specs.Prelude.{◌≡◌, ◌≤◌, ◌<◌, ℕ, zero, suc, List, [], ◌∷◌, All, take, drop, map, length}
+use Rattle.ll_engine.specs.declared.table.Part.TheVariants.{Non}
+use Rattle.ll_engine.specs.declared.table.Row.{Row}
+use Rattle.ll_engine.specs.declared.tree.Tree.{Tree}
+use Rattle.ll_engine.specs.Grammar.{IsRowOf}
+use Rattle.ll_engine.specs.Reading.{Nested, at_nesting, Reads}
+
+abbrev pub symbol_of : Nested → ℕ
+symbol_of (at_nesting s n) = s
+
+abbrev pub nesting_of : Nested → ℕ
+nesting_of (at_nesting s n) = n
+
+-- the list is a text of the table, and `tree` its derivation: a text of the head of the first row
+pub record IsText (t : List Row) (w : List Nested) (tree : Tree) : Type 0 where
+  pub head : ℕ
+  pub row : Row
+  pub is_first : IsRowOf t head 0 row
+  pub to : ℕ
+  pub reads : Reads t suc 0 0 (Non head ∷ []) 0 w (tree ∷ []) to []
+
+-- the symbols have this derivation, with nesting at most `limit`
+pub record IsReading (t : List Row) (symbols : List ℕ) (limit : ℕ) (tree : Tree) : Type 0 where
+  pub text : List Nested
+  pub is_text : IsText t text tree
+  pub spells : map symbol_of text ≡ symbols
+  pub within : All (λ x. nesting_of x ≤ limit) text
+
+-- The first `n` tokens of the text are those of the symbols. The end counts as one token behind all others.
+abbrev pub Agrees : ℕ → List Nested → List ℕ → Type 0
+Agrees zero w symbols = Unit {0}
+Agrees (suc n) [] [] = Unit {0}
+Agrees (suc n) [] (a ∷ symbols) = ⊥
+Agrees (suc n) (at_nesting s d ∷ w) [] = ⊥
+Agrees (suc n) (at_nesting s d ∷ w) (a ∷ symbols) = (s ≡ a) × Agrees n w symbols
+
+-- some text begins with the first `n` tokens of the symbols, and passes the limit at none of them
+pub record Front (t : List Row) (symbols : List ℕ) (limit n : ℕ) : Type 0 where
+  pub text : List Nested
+  pub tree : Tree
+  pub is_text : IsText t text tree
+  pub agrees : Agrees n text symbols
+  pub within : All (λ x. nesting_of x ≤ limit) (take n text)
+
+-- The symbol `at`, or the end, is the failing token: a text begins with the tokens before it, none with it too.
+pub record FailsAt (t : List Row) (symbols : List ℕ) (limit at : ℕ) : Type 0 where
+  pub is_token : at ≤ length symbols
+  pub front : Front t symbols limit at
+  pub no_text : (w : List Nested) (tree : Tree) → IsText t w tree → Agrees (suc at) w symbols → ⊥
+
+-- the nesting of the text passes the limit at the symbol `at`, and at none before
+pub record PassesFirst (w : List Nested) (limit at : ℕ) : Type 0 where
+  pub before : All (λ x. nesting_of x ≤ limit) (take at w)
+  pub symbol : ℕ
+  pub nesting : ℕ
+  pub rest : List Nested
+  pub is_at : drop at w ≡ at_nesting symbol nesting ∷ rest
+  pub passes : limit < nesting
+
+-- Nesting first passes the limit at the symbol `at`: a text begins with the symbols up to it, and each such
+-- text passes the limit there and not before.
+pub record PassesAt (t : List Row) (symbols : List ℕ) (limit at : ℕ) : Type 0 where
+  pub is_symbol : at < length symbols
+  pub text : List Nested
+  pub tree : Tree
+  pub is_text : IsText t text tree
+  pub agrees : Agrees (suc at) text symbols
+  pub each : (w : List Nested) (x : Tree) → IsText t w x → Agrees (suc at) w symbols → PassesFirst w limit at
