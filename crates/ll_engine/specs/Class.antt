@@ -24,10 +24,11 @@ pub data Follows (t : List Row) : ℕ → Option ℕ → Type 0 where
       → IsRowOf t g i row → HasPart row.parts n p ps → named p ≡ Some h → IsBlank t ps
       → Follows t g x → Follows t h x
 
--- The token can come directly where the parts `ps` end a row of the head `h`, likewise.
-pub data ComesAt (t : List Row) (h : ℕ) (ps : List Part) : Option ℕ → Type 0 where
-  here : {a : ℕ} → Leads t ps a → ComesAt t h ps (Some a)
-  later : {x : Option ℕ} → IsBlank t ps → Follows t h x → ComesAt t h ps x
+-- The token can come directly where the parts `ps` are left of a row and the tokens of `After` can come
+-- behind the row, likewise.
+pub data ComesAt (t : List Row) (After : Option ℕ → Type 0) (ps : List Part) : Option ℕ → Type 0 where
+  here : {a : ℕ} → Leads t ps a → ComesAt t After ps (Some a)
+  later : {x : Option ℕ} → IsBlank t ps → After x → ComesAt t After ps x
 
 -- A part names the head, and each part before it may be left out.
 pub data StartsWith (t : List Row) : List Part → ℕ → Type 0 where
@@ -62,7 +63,7 @@ pub record Keeps (t : List Row) (row : Row) : Type 0 where
   -- a part may be left out, and the parts behind it are left out that may be: then no symbol that
   -- begins the part comes directly behind it
   pub decided : (n a : ℕ) (p : Part) (ps : List Part) → HasPart row.parts n p ps
-      → IsBlank t (p ∷ []) → Begins t (p ∷ []) a → ComesAt t row.head ps (Some a) → ⊥
+      → IsBlank t (p ∷ []) → Begins t (p ∷ []) a → ComesAt t (Follows t row.head) ps (Some a) → ⊥
 
 -- The class of tables that are read with one symbol of look-ahead.
 pub record IsFit (t : List Row) : Type 0 where

@@ -1,0 +1,5 @@
+pub mod Shapes
+pub mod Rows
+pub mod Moves
+pub mod GoOn
+pub mod Stack
