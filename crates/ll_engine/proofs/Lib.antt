@@ -3,3 +3,4 @@ pub mod Rows
 pub mod Moves
 pub mod GoOn
 pub mod Stack
+pub mod Falls

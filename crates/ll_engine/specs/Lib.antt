@@ -5,3 +5,4 @@ pub mod Knows
 pub mod Reading
 pub mod Machine
 pub mod Texts
+pub mod Weight
