@@ -4,3 +4,4 @@ pub mod Moves
 pub mod GoOn
 pub mod Stack
 pub mod Falls
+pub mod Parts

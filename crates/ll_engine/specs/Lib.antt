@@ -4,5 +4,6 @@ pub mod Grammar
 pub mod Knows
 pub mod Reading
 pub mod Machine
+pub mod Steps
 pub mod Texts
 pub mod Weight

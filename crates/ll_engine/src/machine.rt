@@ -1,3 +1,11 @@
+ghost use Rattle.std.specs.Prelude.{◌≡◌, ◌∷◌, [], ◌+◌, ◌-◌, ◌<◌, Some, None, pred, OnOk, IfOk, IsSome, MatchOption, length, slice_get};
+ghost use Rattle.ll_engine.specs.Grammar.{is_repeated, is_optional, named, terminal};
+ghost use Rattle.ll_engine.specs.Knows.{Knows, row_next, row_blank};
+ghost use Rattle.ll_engine.specs.Machine.{level_of, levels_of, parts_of, with_kid, entered, skipped, closed, took, fresh, room_in, IsStack};
+ghost use Rattle.ll_engine.specs.Reading.{level};
+ghost use Rattle.ll_engine.specs.declared.tree.Tree.TheVariants.{Node};
+ghost use Rattle.ll_engine.specs.Steps.{first_of, row_for, StepGives, SettleGives, IsReady};
+
 use crate::table::Part;
 use crate::tables::Tables;
 use crate::tree::{Kids, Tree};
@@ -21,4 +29,139 @@ pub struct Frame {
 pub struct Open {
     pub top: Frame,
     pub below: Vec<Frame>,
+}
+
+/// Why the reader stands still: the next part is the next symbol, nothing can be read, or the outermost row
+/// is read.
+#[derive(Clone, Copy, Debug)]
+pub enum Stop {
+    Ready,
+    Fails,
+    Ended,
+}
+
+#[derive(Clone, Copy, Debug)]
+pub enum Step {
+    Moved,
+    Stopped(Stop),
+}
+
+impl Part {
+    pub fn is_repeated(self) -> bool
+        ensures { result ≡ is_repeated self }
+    {
+        match self {
+            Part::Term(_) => false,
+            Part::Non(_) => false,
+            Part::Maybe(_) => false,
+            Part::Many(_) => true,
+            Part::Chain(_) => true,
+        }
+    }
+
+    /// The room in what the part opens next.
+    pub fn room(self, around: u64, turn: u64) -> u64
+        ensures { result ≡ level pred self around turn }
+    {
+        match self {
+            Part::Term(_) => around,
+            Part::Non(_) => around,
+            Part::Maybe(_) => around,
+            Part::Many(_) => around,
+            Part::Chain(_) => turn.saturating_sub(1),
+        }
+    }
+}
+
+impl Tables {
+    /// The next part of the row.
+    #[tactic(auto, using(crate::proofs::Parts::first_drop))]
+    fn next_part(&self, frame: &Frame) -> Option<Part>
+        ensures { result ≡ first_of (level_of self.now.rows frame.now).left }
+    {
+        let row = self.rows.get(frame.row as usize)?;
+        row.parts.get(frame.next).copied()
+    }
+
+    /// How many parts the row has.
+    fn part_count(&self, frame: &Frame) -> usize
+        ensures { result ≡ length (parts_of (slice_get self.now.rows frame.now.row)) }
+    {
+        match self.rows.get(frame.row as usize) {
+            None => 0,
+            Some(row) => row.parts.len(),
+        }
+    }
+
+    /// The room in a row that is opened at this room.
+    fn room_in(&self, row: u16, room: u64) -> u64
+        ensures { result ≡ room_in (slice_get self.now.rows row) room }
+    {
+        match self.rows.get(row as usize) {
+            None => room,
+            Some(row) => if row.deep { room.saturating_sub(1) } else { room },
+        }
+    }
+
+    /// The row by which the head is read where it is not optional.
+    fn row_for(&self, head: u16, token: Option<u16>) -> Option<u16>
+        ensures { result ≡ row_for self.now.heads head token }
+    {
+        match self.row_next(head, token) {
+            Some(row) => Some(row),
+            None => self.row_blank(head),
+        }
+    }
+
+    /// A row that nothing was read of yet.
+    fn fresh(&self, alloc: Global, row: u16, room: u64) -> Frame
+        ensures { level_of self.now.rows result ≡ fresh self.now.rows row room }
+    {
+        let room = self.room_in(row, room);
+        Frame { row, next: 0, room, turn: room, kids: Items::new(alloc) }
+    }
+
+    /// Goes on to the next part.
+    fn advance(&self, frame: &mut Frame)
+        requires { IsSome (first_of (level_of self.now.rows frame.old).left) }
+        ensures { frame.new ≡ record frame.old { next = frame.old.next + 1 } }
+    {
+        let _count = self.part_count(frame);
+        frame.next += 1;
+    }
+
+    /// Leaves the next part out.
+    #[tactic(auto, using(crate::proofs::Parts::drop_one))]
+    fn skip(&self, state: &mut Open)
+        requires { IsSome (first_of (level_of self.now.rows state.old.top).left) }
+        ensures { levels_of self.now.rows state.new ≡ skipped (levels_of self.now.rows state.old) }
+    {
+        self.advance(&mut state.top);
+        state.top.turn = state.top.room;
+    }
+
+    /// Opens the row for the next part.
+    fn enter(&self, alloc: Global, state: &mut Open, row: u16, part: Part) -> Result<(), AllocError>
+        requires { first_of (level_of self.now.rows state.old.top).left ≡ Some part }
+        ensures { OnOk result (levels_of self.now.rows state.new ≡ entered self.now.rows row part (levels_of self.now.rows state.old)) }
+    {
+        let room = part.room(state.top.room, state.top.turn);
+        if !part.is_repeated() {
+            self.advance(&mut state.top);
+        }
+        state.top.turn = room;
+        let outer = mem::replace(&mut state.top, self.fresh(alloc, row, room));
+        state.below.push(outer)?;
+        Ok(())
+    }
+
+    /// Ends the innermost row, which stands in another.
+    fn close(&self, state: &mut Open, outer: Frame) -> Result<(), AllocError>
+        ensures top { OnOk result (level_of self.now.rows state.new.top ≡ with_kid (level_of self.now.rows outer) (Node state.old.top.row state.old.top.kids)) }
+        ensures below { state.new.below ≡ state.old.below }
+    {
+        let inner = mem::replace(&mut state.top, outer);
+        let Frame { row, next: _, room: _, turn: _, kids } = inner;
+        state.top.kids.push(Tree::Node { row, kids })
+    }
 }
