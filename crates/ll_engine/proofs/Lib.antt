@@ -5,3 +5,4 @@ pub mod GoOn
 pub mod Stack
 pub mod Falls
 pub mod Parts
+pub mod Steps

@@ -1,9 +1,10 @@
-ghost use Rattle.std.specs.Prelude.{◌≡◌, ◌∷◌, [], ◌+◌, ◌-◌, ◌<◌, Some, None, pred, OnOk, IfOk, IsSome, MatchOption, length, slice_get};
+ghost use Rattle.std.specs.Prelude.{◌≡◌, true, Ok, ◌∷◌, [], ◌+◌, ◌-◌, ◌<◌, Some, None, pred, OnOk, IfOk, IsSome, MatchOption, length, slice_get};
 ghost use Rattle.ll_engine.specs.Grammar.{is_repeated, is_optional, named, terminal};
 ghost use Rattle.ll_engine.specs.Knows.{Knows, row_next, row_blank};
 ghost use Rattle.ll_engine.specs.Machine.{level_of, levels_of, parts_of, with_kid, entered, skipped, closed, took, fresh, room_in, IsStack};
 ghost use Rattle.ll_engine.specs.Reading.{level};
 ghost use Rattle.ll_engine.specs.declared.tree.Tree.TheVariants.{Node};
+ghost use Rattle.ll_engine.specs.declared.table.Part.TheVariants.{Term, Non};
 ghost use Rattle.ll_engine.specs.Steps.{first_of, row_for, StepGives, SettleGives, IsReady};
 
 use crate::table::Part;
@@ -163,5 +164,105 @@ impl Tables {
         let inner = mem::replace(&mut state.top, outer);
         let Frame { row, next: _, room: _, turn: _, kids } = inner;
         state.top.kids.push(Tree::Node { row, kids })
+    }
+}
+
+impl Tables {
+    /// One step where the next part is a head that is not optional.
+    fn step_head(&self, alloc: Global, state: &mut Open, head: u16, token: Option<u16>) -> Result<Step, AllocError>
+        requires knows { Knows self.now.rows self.now.heads }
+        requires stack { IsStack self.now.rows (levels_of self.now.rows state.old) }
+        requires next { first_of (level_of self.now.rows state.old.top).left ≡ Some (Non head) }
+        ensures { StepGives self.now.rows self.now.heads token (levels_of self.now.rows state.old) (levels_of self.now.rows state.new) result }
+    {
+        match self.row_for(head, token) {
+            None => Ok(Step::Stopped(Stop::Fails)),
+            Some(row) => {
+                self.enter(alloc, state, row, Part::Non(head))?;
+                Ok(Step::Moved)
+            }
+        }
+    }
+
+    /// One step where the next part is optional or repeated.
+    fn step_optional(&self, alloc: Global, state: &mut Open, part: Part, head: u16, token: Option<u16>) -> Result<Step, AllocError>
+        requires knows { Knows self.now.rows self.now.heads }
+        requires stack { IsStack self.now.rows (levels_of self.now.rows state.old) }
+        requires next { first_of (level_of self.now.rows state.old.top).left ≡ Some part }
+        requires head { named part ≡ Some head }
+        requires optional { is_optional part ≡ true }
+        ensures { StepGives self.now.rows self.now.heads token (levels_of self.now.rows state.old) (levels_of self.now.rows state.new) result }
+    {
+        match self.row_next(head, token) {
+            None => self.skip(state),
+            Some(row) => self.enter(alloc, state, row, part)?,
+        }
+        Ok(Step::Moved)
+    }
+
+    /// One step where no part is left.
+    fn step_end(&self, state: &mut Open, token: Option<u16>) -> Result<Step, AllocError>
+        requires knows { Knows self.now.rows self.now.heads }
+        requires next { first_of (level_of self.now.rows state.old.top).left ≡ None }
+        ensures { StepGives self.now.rows self.now.heads token (levels_of self.now.rows state.old) (levels_of self.now.rows state.new) result }
+    {
+        match state.below.pop() {
+            Some(outer) => {
+                self.close(state, outer)?;
+                Ok(Step::Moved)
+            }
+            None => match token {
+                Some(_) => Ok(Step::Stopped(Stop::Fails)),
+                None => Ok(Step::Stopped(Stop::Ended)),
+            },
+        }
+    }
+
+    /// One step where the next part is a symbol.
+    fn step_symbol(&self, state: &Open, symbol: u16, token: Option<u16>) -> Step
+        requires knows { Knows self.now.rows self.now.heads }
+        requires next { first_of (level_of self.now.rows state.now.top).left ≡ Some (Term symbol) }
+        ensures { StepGives self.now.rows self.now.heads token (levels_of self.now.rows state.now) (levels_of self.now.rows state.now) (Ok result) }
+    {
+        match token {
+            None => Step::Stopped(Stop::Fails),
+            Some(next) => {
+                if next == symbol {
+                    Step::Stopped(Stop::Ready)
+                } else {
+                    Step::Stopped(Stop::Fails)
+                }
+            }
+        }
+    }
+
+    /// One step of the reader.
+    fn step(&self, alloc: Global, state: &mut Open, token: Option<u16>) -> Result<Step, AllocError>
+        requires knows { Knows self.now.rows self.now.heads }
+        requires stack { IsStack self.now.rows (levels_of self.now.rows state.old) }
+        ensures { StepGives self.now.rows self.now.heads token (levels_of self.now.rows state.old) (levels_of self.now.rows state.new) result }
+    {
+        match self.next_part(&state.top) {
+            None => self.step_end(state, token),
+            Some(Part::Term(symbol)) => Ok(self.step_symbol(state, symbol, token)),
+            Some(Part::Non(head)) => self.step_head(alloc, state, head, token),
+            Some(Part::Maybe(head)) => self.step_optional(alloc, state, Part::Maybe(head), head, token),
+            Some(Part::Many(head)) => self.step_optional(alloc, state, Part::Many(head), head, token),
+            Some(Part::Chain(head)) => self.step_optional(alloc, state, Part::Chain(head), head, token),
+        }
+    }
+
+    /// Goes on to the next symbol that is read, as long as nothing else is to be done.
+    fn settle(&self, alloc: Global, state: &mut Open, token: Option<u16>) -> Result<Stop, AllocError>
+        requires knows { Knows self.now.rows self.now.heads }
+        requires stack { IsStack self.now.rows (levels_of self.now.rows state.old) }
+        ensures { SettleGives self.now.rows token (levels_of self.now.rows state.old) (levels_of self.now.rows state.new) result }
+    {
+        loop {
+            match self.step(alloc, state, token)? {
+                Step::Moved => {}
+                Step::Stopped(stop) => return Ok(stop),
+            }
+        }
     }
 }
