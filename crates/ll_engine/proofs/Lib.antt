@@ -6,3 +6,6 @@ pub mod Stack
 pub mod Falls
 pub mod Parts
 pub mod Steps
+pub mod Rooms
+pub mod Tokens
+pub mod Progress

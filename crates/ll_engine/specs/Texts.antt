@@ -1,4 +1,4 @@
-use Rattle.std.specs.Prelude.{◌≡◌, ◌≤◌, ◌<◌, ℕ, zero, suc, List, [], ◌∷◌, All, take, drop, map, length}
+use Rattle.std.specs.Prelude.{◌≡◌, ◌≤◌, ◌<◌, ℕ, zero, suc, List, [], ◌∷◌, take, drop, map, length}
 use Rattle.ll_engine.specs.declared.table.Part.TheVariants.{Non}
 use Rattle.ll_engine.specs.declared.table.Row.{Row}
 use Rattle.ll_engine.specs.declared.tree.Tree.{Tree}
@@ -8,8 +8,10 @@ use Rattle.ll_engine.specs.Reading.{Nested, at_nesting, Reads}
 abbrev pub symbol_of : Nested → ℕ
 symbol_of (at_nesting s n) = s
 
-abbrev pub nesting_of : Nested → ℕ
-nesting_of (at_nesting s n) = n
+-- the nesting passes the limit nowhere
+abbrev pub Within : ℕ → List Nested → Type 0
+Within limit [] = Unit {0}
+Within limit (at_nesting s n ∷ w) = (n ≤ limit) × Within limit w
 
 -- the list is a text of the table, and `tree` its derivation: a text of the head of the first row
 pub record IsText (t : List Row) (w : List Nested) (tree : Tree) : Type 0 where
@@ -24,7 +26,7 @@ pub record IsReading (t : List Row) (symbols : List ℕ) (limit : ℕ) (tree : T
   pub text : List Nested
   pub is_text : IsText t text tree
   pub spells : map symbol_of text ≡ symbols
-  pub within : All (λ x. nesting_of x ≤ limit) text
+  pub within : Within limit text
 
 -- The first `n` tokens of the text are those of the symbols. The end counts as one token behind all others.
 abbrev pub Agrees : ℕ → List Nested → List ℕ → Type 0
@@ -40,7 +42,7 @@ pub record Front (t : List Row) (symbols : List ℕ) (limit n : ℕ) : Type 0 wh
   pub tree : Tree
   pub is_text : IsText t text tree
   pub agrees : Agrees n text symbols
-  pub within : All (λ x. nesting_of x ≤ limit) (take n text)
+  pub within : Within limit (take n text)
 
 -- The symbol `at`, or the end, is the failing token: a text begins with the tokens before it, none with it too.
 pub record FailsAt (t : List Row) (symbols : List ℕ) (limit at : ℕ) : Type 0 where
@@ -50,7 +52,7 @@ pub record FailsAt (t : List Row) (symbols : List ℕ) (limit at : ℕ) : Type 0
 
 -- the nesting of the text passes the limit at the symbol `at`, and at none before
 pub record PassesFirst (w : List Nested) (limit at : ℕ) : Type 0 where
-  pub before : All (λ x. nesting_of x ≤ limit) (take at w)
+  pub before : Within limit (take at w)
   pub symbol : ℕ
   pub nesting : ℕ
   pub rest : List Nested
