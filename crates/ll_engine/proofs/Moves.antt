@@ -80,7 +80,7 @@ passed_left (Maybe a) ps l e = ap (drop 1) e
 passed_left (Many a) ps l e = e
 passed_left (Chain a) ps l e = e
 
-fresh_is : (t : List Row) (h i n : ℕ) (row : Row) → IsRowOf t h i row
+pub fresh_is : (t : List Row) (h i n : ℕ) (row : Row) → IsRowOf t h i row
   → fresh t i n ≡ record { row = i; room = inside pred row n; turn = inside pred row n; left = row.parts; kids = [] }
 fresh_is t h i n row r = rw r.is_there
 

@@ -26,7 +26,7 @@ first_none [] e = refl
 first_none (x ∷ xs) e = cc
 
 module _ (t : List Row) (heads : List Head) (k : Knows t heads) where
-  not_begun : (p : Part) (h : ℕ) (x : Option ℕ) → named p ≡ Some h → row_next heads h x ≡ None
+  pub not_begun : (p : Part) (h : ℕ) (x : Option ℕ) → named p ≡ Some h → row_next heads h x ≡ None
     → IsBegun t (p ∷ []) x → ⊥
   not_begun p h None f e b = b
   not_begun p h (Some a) f e (Begins.itself g) = Shapes.symbol_only p g f

@@ -1,5 +1,5 @@
 ghost use Rattle.std.specs.Prelude.{◌≡◌};
-ghost use Rattle.ll_engine.specs.declared.fails.NewFail.TheVariants.{Memory};
+
 
 use std::alloc::AllocError;
 
@@ -13,6 +13,8 @@ pub enum NewFail {
 }
 
 impl From<AllocError> for NewFail {
+    ghost use Rattle.ll_engine.specs.declared.fails.NewFail.TheVariants.{Memory};
+
     ghost from_gives = { λ _ r. r ≡ Memory };
 
     fn from(_error: AllocError) -> NewFail {
@@ -30,4 +32,14 @@ pub enum ParseFail {
     NoText { at: u32 },
     /// Nesting first passes the limit at the symbol `at`.
     Deep { at: u32 },
+}
+
+impl From<AllocError> for ParseFail {
+    ghost use Rattle.ll_engine.specs.declared.fails.ParseFail.TheVariants.{Memory};
+
+    ghost from_gives = { λ _ r. r ≡ Memory };
+
+    fn from(_error: AllocError) -> ParseFail {
+        ParseFail::Memory
+    }
 }

@@ -1,12 +1,14 @@
-ghost use Rattle.std.specs.Prelude.{◌≡◌, true, Ok, ◌∷◌, [], ◌+◌, ◌-◌, ◌<◌, Some, None, pred, OnOk, IfOk, IsSome, MatchOption, length, slice_get};
-ghost use Rattle.ll_engine.specs.Grammar.{is_repeated, is_optional, named, terminal};
+ghost use Rattle.std.specs.Prelude.{◌≡◌, ◌^◌, ℕ, true, Ok, ◌∷◌, [], ◌+◌, ◌-◌, ◌<◌, Some, None, pred, OnOk, IfOk, IsSome, MatchOption, length, slice_get};
+ghost use Rattle.ll_engine.specs.Grammar.{is_repeated, is_optional, named, terminal, IsRowOf};
 ghost use Rattle.ll_engine.specs.Knows.{Knows, row_next, row_blank};
 ghost use Rattle.ll_engine.specs.Machine.{level_of, levels_of, parts_of, with_kid, entered, skipped, closed, took, fresh, room_in, IsStack};
 ghost use Rattle.ll_engine.specs.Reading.{level};
 ghost use Rattle.ll_engine.specs.declared.tree.Tree.TheVariants.{Node};
 ghost use Rattle.ll_engine.specs.declared.table.Part.TheVariants.{Term, Non};
-ghost use Rattle.ll_engine.specs.Steps.{first_of, row_for, StepGives, SettleGives, IsReady};
+ghost use Rattle.ll_engine.specs.Steps.{first_of, row_for, StepGives, SettleGives, SymbolGives, EndGives, IsReady};
+ghost use Rattle.ll_engine.specs.Answers.{ParseGives};
 
+use crate::fails::ParseFail;
 use crate::table::Part;
 use crate::tables::Tables;
 use crate::tree::{Kids, Tree};
@@ -264,5 +266,94 @@ impl Tables {
                 Step::Stopped(stop) => return Ok(stop),
             }
         }
+    }
+}
+
+impl Tables {
+    /// Reads the symbol that comes next, numbered `at`.
+    #[tactic(auto, using(crate::proofs::Parts::drop_one))]
+    fn take(&self, state: &mut Open, at: u32) -> Result<(), AllocError>
+        requires { IsSome (first_of (level_of self.now.rows state.old.top).left) }
+        ensures { OnOk result (levels_of self.now.rows state.new ≡ took at (levels_of self.now.rows state.old)) }
+    {
+        self.advance(&mut state.top);
+        state.top.turn = state.top.room;
+        state.top.kids.push(Tree::Leaf(at))?;
+        Ok(())
+    }
+
+    /// The head of the first row.
+    fn source(&self) -> u16
+        requires { Knows self.now.rows self.now.heads }
+        ensures { (row : _) × IsRowOf self.now.rows result 0 row }
+    {
+        match self.rows.get(0) {
+            Some(row) => row.head,
+            None => unreachable!(),
+        }
+    }
+
+    /// The rows at the beginning of a text of the head, or `None` where none begins so.
+    fn start(&self, alloc: Global, head: u16, token: Option<u16>, room: u64) -> Option<Open>
+        ensures { MatchOption result (row_for self.now.heads head token ≡ None) (λ o. (i : ℕ) × (row_for self.now.heads head token ≡ Some i) × (levels_of self.now.rows o ≡ fresh self.now.rows i room ∷ [])) }
+    {
+        let row = self.row_for(head, token)?;
+        Some(Open {
+            top: self.fresh(alloc, row, room),
+            below: Vec::new(alloc),
+        })
+    }
+
+    /// Reads up to the next symbol, and that symbol.
+    fn read_symbol(&self, alloc: Global, state: &mut Open, at: u32, symbol: u16) -> Result<(), ParseFail>
+        requires knows { Knows self.now.rows self.now.heads }
+        requires stack { IsStack self.now.rows (levels_of self.now.rows state.old) }
+        ensures { SymbolGives self.now.rows (Some symbol) at (levels_of self.now.rows state.old) (levels_of self.now.rows state.new) result }
+    {
+        match self.settle(alloc, state, Some(symbol))? {
+            Stop::Ready => {}
+            Stop::Fails => return Err(ParseFail::NoText { at }),
+            Stop::Ended => return Err(ParseFail::NoText { at }),
+        }
+        if state.top.room == 0 {
+            return Err(ParseFail::Deep { at });
+        }
+        self.take(state, at)?;
+        Ok(())
+    }
+
+    /// Reads up to the end.
+    fn read_end(&self, alloc: Global, mut state: Open, at: u32) -> Result<Tree, ParseFail>
+        requires knows { Knows self.now.rows self.now.heads }
+        requires stack { IsStack self.now.rows (levels_of self.now.rows state) }
+        ensures { EndGives self.now.rows at (levels_of self.now.rows state) result }
+    {
+        match self.settle(alloc, &mut state, None)? {
+            Stop::Ended => {
+                let Open { top, below: _ } = state;
+                let Frame { row, next: _, room: _, turn: _, kids } = top;
+                Ok(Tree::Node { row, kids })
+            }
+            Stop::Ready => Err(ParseFail::NoText { at }),
+            Stop::Fails => Err(ParseFail::NoText { at }),
+        }
+    }
+
+    /// The tree of the symbols.
+    pub fn read(&self, alloc: Global, symbols: &[u16], limit: u32) -> Result<Tree, ParseFail>
+        requires knows { Knows self.now.rows self.now.heads }
+        requires count { length symbols.now < 2 ^ 32 - 1 }
+        ensures { ParseGives self.now.rows symbols.now limit result }
+    {
+        let head = self.source();
+        let room = u64::from(limit) + 1;
+        let first = symbols.first().copied();
+        let Some(mut state) = self.start(alloc, head, first, room) else {
+            return Err(ParseFail::NoText { at: 0 });
+        };
+        for (at, symbol) in symbols.iter().enumerate() {
+            self.read_symbol(alloc, &mut state, at as u32, *symbol)?;
+        }
+        self.read_end(alloc, state, symbols.len() as u32)
     }
 }
