@@ -9,3 +9,4 @@ pub mod Steps
 pub mod Rooms
 pub mod Tokens
 pub mod Progress
+pub mod Start

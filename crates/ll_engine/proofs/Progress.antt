@@ -69,7 +69,7 @@ is_text t h limit row w tree s u = record { head = h; row = row; is_first = s; t
 same_head : (t : List Row) (g h : ℕ) (r s : Row) → IsRowOf t g 0 r → IsRowOf t h 0 s → g ≡ h
 same_head t g h r s a b = let x = a.is_there in let y = b.is_there in let u = a.is_of in let v = b.is_of in let e : r ≡ s = cc in cc
 
-downward : (t : List Row) (h limit : ℕ) (row : Row) (w : List Nested) (tree : Tree) → IsRowOf t h 0 row
+pub downward : (t : List Row) (h limit : ℕ) (row : Row) (w : List Nested) (tree : Tree) → IsRowOf t h 0 row
   → IsText t w tree → Whole t h (suc limit) (rooms (room_left limit) w) tree
 downward t h limit row w tree s m =
   let r = to_rooms t (room_left limit) suc pred (down limit) m.reads in
@@ -81,7 +81,7 @@ downward t h limit row w tree s m =
 
 module _ (t : List Row) (heads : List Head) (k : Knows t heads) (h limit : ℕ) (ss : List ℕ) where
   -- some text begins with what was read
-  front_at : (row : Row) → IsRowOf t h 0 row → (at : ℕ) (b v : List Nested) (tree : Tree) → length b ≡ at
+  pub front_at : (row : Row) → IsRowOf t h 0 row → (at : ℕ) (b v : List Nested) (tree : Tree) → length b ≡ at
     → map symbol_of b ≡ take at ss → HasRoom b → Whole t h (suc limit) (b ++ v) tree → Front t ss limit at
   front_at row s at b v tree long spells room m =
     let u = upward t h limit (b ++ v) tree m in
