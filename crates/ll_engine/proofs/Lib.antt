@@ -10,3 +10,6 @@ pub mod Rooms
 pub mod Tokens
 pub mod Progress
 pub mod Start
+pub mod Gives
+pub mod One
+pub mod Laws

@@ -68,3 +68,21 @@ pub record PassesAt (t : List Row) (symbols : List ℕ) (limit at : ℕ) : Type 
   pub is_text : IsText t text tree
   pub agrees : Agrees (suc at) text symbols
   pub each : (w : List Nested) (x : Tree) → IsText t w x → Agrees (suc at) w symbols → PassesFirst w limit at
+
+-- A list of symbols has at most one text, with one derivation.
+abbrev pub OneText : List Row → Type 0
+OneText t = (w v : List Nested) (x y : Tree) → map symbol_of w ≡ map symbol_of v → IsText t w x → IsText t v y
+  → (w ≡ v) × (x ≡ y)
+
+-- The symbols have a reading, a failing token or a place where nesting first passes the limit, and no two of these.
+pub record OneAnswer (t : List Row) (symbols : List ℕ) (limit : ℕ) : Type 0 where
+  pub reading : (x y : Tree) → IsReading t symbols limit x → IsReading t symbols limit y → x ≡ y
+  pub reads_or_fails : (x : Tree) (i : ℕ) → IsReading t symbols limit x → FailsAt t symbols limit i → ⊥
+  pub reads_or_passes : (x : Tree) (i : ℕ) → IsReading t symbols limit x → PassesAt t symbols limit i → ⊥
+  pub fails : (i j : ℕ) → FailsAt t symbols limit i → FailsAt t symbols limit j → i ≡ j
+  pub passes : (i j : ℕ) → PassesAt t symbols limit i → PassesAt t symbols limit j → i ≡ j
+  pub fails_or_passes : (i j : ℕ) → FailsAt t symbols limit i → PassesAt t symbols limit j → ⊥
+
+-- What a text begins with goes on to a text, and so does each shorter beginning.
+abbrev pub FrontsBegin : List Row → Type 0
+FrontsBegin t = (symbols : List ℕ) (limit n m : ℕ) → n ≤ m → Front t symbols limit m → Front t symbols limit n
