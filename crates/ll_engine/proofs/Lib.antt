@@ -13,3 +13,4 @@ pub mod Start
 pub mod Gives
 pub mod One
 pub mod Laws
+pub mod Closing

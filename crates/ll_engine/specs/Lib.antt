@@ -2,6 +2,7 @@ pub mod Answers
 pub mod Class
 pub mod Grammar
 pub mod Knows
+pub mod Marks
 pub mod Reading
 pub mod Machine
 pub mod Steps

@@ -4,6 +4,7 @@
 mod fails;
 mod ll1;
 mod machine;
+mod rules;
 mod table;
 mod tables;
 mod tree;
