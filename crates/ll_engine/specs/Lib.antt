@@ -5,6 +5,7 @@ pub mod Knows
 pub mod Marks
 pub mod Reading
 pub mod Machine
+pub mod Rules
 pub mod Steps
 pub mod Texts
 pub mod Weight
