@@ -1,8 +1,8 @@
 -- What a pass over the rules does to the marks.
-use Rattle.std.proofs.Common.{◌≡◌, ◌<◌, ◌≤◌, ◌+◌, ◌⊎◌, inl, inr, ◌&&◌, ℕ, zero, suc, List, [], ◌∷◌, ◌++◌, Option, Some, None, Bool, true, false, refl, sym, ◌∙◌, ap, subst, slice_get, get_or, set, replicate, length, arith}
+use Rattle.std.proofs.Common.{◌≡◌, ◌<◌, ◌≤◌, ◌+◌, ◌⊎◌, inl, inr, ◌&&◌, ℕ, zero, suc, List, [], ◌∷◌, ◌++◌, max, Option, Some, None, Bool, true, false, refl, sym, ◌∙◌, ap, subst, slice_get, get_or, set, replicate, length, arith}
 use Rattle.std.proofs.lemmas.List.{get_or-set_same, get_or-set_other, length-set}
 use Rattle.ll_engine.specs.declared.rules.Rule.{Rule}
-use Rattle.ll_engine.specs.Marks.{marked, Has, Holds, Tells, AreMarks, AreWithin, all_marked, unmarked, AreSound, AreClosed, Passes}
+use Rattle.ll_engine.specs.Marks.{marked, Has, Holds, Tells, AreMarks, AreWithin, all_marked, unmarked, AreSound, AreClosed, Passes, rule_bound}
 
 pub has_at : {A : Type 0} (xs : List A) (n : ℕ) (d : A) → n < length xs → Has xs (get_or xs n d)
 has_at [] n d h = absurd (omega arith)
@@ -119,3 +119,25 @@ step_old rules n changed old now r a g f = record {
   where
   some_same : {q : Rule} → slice_get rules n ≡ Some r → slice_get rules n ≡ Some q → r ≡ q
   some_same x y = cc
+
+bound_grows : (rs : List Rule) (n : ℕ) → n ≤ rule_bound rs n
+bound_grows [] n = omega arith
+bound_grows (r ∷ rs) n = let h = bound_grows rs (max n (r.to + 1)) in omega (arith, h)
+
+within_bound : (rs : List Rule) (n : ℕ) (r : Rule) → Has rs r → r.to < rule_bound rs n
+within_bound [] n r h = absurd h
+within_bound (x ∷ rs) n r (inl e) =
+  let h = bound_grows rs (max n (x.to + 1)) in
+  let f : x.to ≡ r.to = ap (λ q. q.to) e in
+  omega (arith, h, f)
+within_bound (x ∷ rs) n r (inr h) = within_bound rs (max n (x.to + 1)) r h
+
+pub are_within : (rs : List Rule) → AreWithin (rule_bound rs 0) rs
+are_within rs r h = within_bound rs 0 r h
+
+pub each_push : {A : Type 0} (P : ℕ → A → Type 0) (xs : List A) (y : A) → ((i : ℕ) (x : A) → slice_get xs i ≡ Some x → P i x)
+  → P (length xs) y → (i : ℕ) (x : A) → slice_get (xs ++ y ∷ []) i ≡ Some x → P i x
+each_push P [] y f p zero x e = let h : y ≡ x = cc in subst (λ q. P 0 q) h p
+each_push P [] y f p (suc i) x e = cc
+each_push P (z ∷ xs) y f p zero x e = f 0 x e
+each_push P (z ∷ xs) y f p (suc i) x e = each_push (λ n q. P (suc n) q) xs y (λ n q h. f (suc n) q h) p i x e

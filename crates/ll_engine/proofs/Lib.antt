@@ -14,3 +14,7 @@ pub mod Gives
 pub mod One
 pub mod Laws
 pub mod Closing
+pub mod Members
+pub mod Ground
+pub mod Starts
+pub mod Leading

@@ -1,5 +1,6 @@
 pub mod Answers
 pub mod Class
+pub mod Facts
 pub mod Grammar
 pub mod Knows
 pub mod Marks

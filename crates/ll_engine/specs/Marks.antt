@@ -1,4 +1,4 @@
-use Rattle.std.specs.Prelude.{◌≡◌, ◌<◌, ◌++◌, ◌==◌, ◌||◌, ◌&&◌, ◌⊎◌, ℕ, suc, List, [], ◌∷◌, Option, Some, None, Bool, true, false, slice_get, slice_index_or, length, cond}
+use Rattle.std.specs.Prelude.{◌≡◌, ◌<◌, ◌++◌, ◌+◌, max, ◌==◌, ◌||◌, ◌&&◌, ◌⊎◌, ℕ, suc, List, [], ◌∷◌, Option, Some, None, Bool, true, false, slice_get, slice_index_or, length, cond}
 use Rattle.ll_engine.specs.declared.table.Part.{Part}
 use Rattle.ll_engine.specs.declared.table.Part.TheVariants.{Term, Non, Maybe, Many, Chain}
 use Rattle.ll_engine.specs.declared.table.Row.{Row}
@@ -56,3 +56,8 @@ pub record Passes (rules : List Rule) (changed : Bool) (old new : List Bool) : T
   pub fewer : changed ≡ true → unmarked new < unmarked old
   pub closed : changed ≡ false → AreClosed rules (length rules) new
   pub same : length new ≡ length old
+
+-- a number above all heads that the rules mark
+abbrev pub rule_bound : List Rule → ℕ → ℕ
+rule_bound [] n = n
+rule_bound (r ∷ rs) n = rule_bound rs (max n (r.to + 1))

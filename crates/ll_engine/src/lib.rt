@@ -2,6 +2,7 @@
 #![tactic(auto)]
 
 mod derive;
+mod facts;
 mod fails;
 mod ll1;
 mod machine;

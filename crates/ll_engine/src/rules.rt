@@ -1,5 +1,5 @@
 ghost use Rattle.std.specs.Prelude.{◌≡◌, ℕ, ◌<◌, length, false, IfOk};
-ghost use Rattle.ll_engine.specs.Marks.{all_marked, AreMarks, AreWithin, Passes};
+ghost use Rattle.ll_engine.specs.Marks.{all_marked, rule_bound, AreMarks, AreWithin, Passes};
 
 use sqlite_items::Items;
 use std::alloc::{AllocError, Global};
@@ -47,11 +47,21 @@ fn pass(rules: &[Rule], marks: &mut [bool]) -> bool
     changed
 }
 
-/// The heads that the rules mark, of `count` heads.
-pub fn marks_of(alloc: Global, count: usize, rules: &[Rule]) -> Result<Marks, AllocError>
-    requires { AreWithin count rules.now }
+fn bound_of(rules: &[Rule]) -> usize
+    ensures { result ≡ rule_bound rules.now 0 }
+{
+    let mut count = 0usize;
+    for rule in rules {
+        count = count.max(rule.to as usize + 1);
+    }
+    count
+}
+
+/// The heads that the rules mark.
+pub fn marks_of(alloc: Global, rules: &[Rule]) -> Result<Marks, AllocError>
     ensures { IfOk result (λ marks. AreMarks rules.now marks) }
 {
+    let count = bound_of(rules);
     let mut marks = vec![in alloc; false; count]?;
     while pass(rules, marks.as_mut_slice()) {}
     Ok(Items::from_vec(marks))
