@@ -18,3 +18,4 @@ pub mod Members
 pub mod Ground
 pub mod Starts
 pub mod Leading
+pub mod Tests

@@ -7,7 +7,7 @@ use Rattle.ll_engine.specs.declared.facts.Facts.{Facts}
 use Rattle.ll_engine.specs.declared.facts.SymbolFacts.{SymbolFacts}
 use Rattle.ll_engine.specs.declared.derive.Target.TheVariants.{Symbol, Head as HeadOf}
 use Rattle.ll_engine.specs.Class.{Leads}
-use Rattle.ll_engine.specs.Grammar.{is_repeated, IsRowOf}
+use Rattle.ll_engine.specs.Grammar.{named, is_repeated, IsRowOf}
 use Rattle.ll_engine.specs.Knows.{row_begun, row_blank}
 use Rattle.ll_engine.specs.Marks.{marked, AreMarks}
 use Rattle.ll_engine.specs.Rules.{may_skip, front, ground_rules, start_rules, lead_rules, follow_rules}
@@ -130,3 +130,20 @@ abbrev pub name_keeps : List Row → Facts → ℕ → Part → List Part → Op
 name_keeps t f h p ps None = true
 name_keeps t f h p ps (Some g) =
   has_row t g && (not (is_repeated p && marked f.blank g) && (not (may_skip f.blank p) || decided f.blank h p ps f.symbols 0))
+
+abbrev pub parts_keep : List Row → Facts → ℕ → List Part → Bool
+parts_keep t f h [] = true
+parts_keep t f h (p ∷ ps) = name_keeps t f h p ps (named p) && parts_keep t f h ps
+
+-- whether neither the row's head nor one of its parts breaks the class
+abbrev pub row_keeps : List Row → Facts → List Head → ℕ → Row → Bool
+row_keeps t f heads i row =
+  marked f.text row.head
+  && (not (marked (slice_index_or f.reaches i []) row.head)
+  && (apart f heads row.head t 0 && parts_keep t f row.head row.parts))
+
+-- the first of the rows that breaks the class, the rows being numbered from `n`
+abbrev pub first_break : List Row → Facts → List Head → List Row → ℕ → Option ℕ
+first_break t f heads [] n = None
+first_break t f heads (row ∷ rows) n =
+  cond (row_keeps t f heads n row) (first_break t f heads rows (n + 1)) (Some n)

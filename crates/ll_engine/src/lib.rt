@@ -1,6 +1,7 @@
 //! Reading lists of symbols by a table of rows, with one symbol of look-ahead.
 #![tactic(auto)]
 
+mod checks;
 mod derive;
 mod facts;
 mod fails;

@@ -1,9 +1,12 @@
 ghost use Rattle.std.specs.Prelude.{◌≡◌, ◌<◌, ◌≤◌, ◌-◌, ◌^◌, length};
-ghost use Rattle.ll_engine.specs.Answers.{ParseGives};
+ghost use Rattle.ll_engine.specs.Answers.{NewGives, ParseGives};
 ghost use Rattle.ll_engine.specs.Class.{IsFit};
 ghost use Rattle.ll_engine.specs.Texts.{OneText, OneAnswer, FrontsBegin};
 
-use crate::fails::ParseFail;
+use crate::checks::{first_break, make_heads};
+use crate::facts::make_facts;
+use crate::fails::{NewFail, ParseFail};
+use crate::table::Table;
 use crate::tables::Tables;
 use crate::tree::Tree;
 use std::alloc::Global;
@@ -29,6 +32,26 @@ impl Model for Ll1 {
 }
 
 impl Ll1 {
+    /// A reader of the table, or `Unfit { row }` where the table isn't of the class: the first row whose head,
+    /// or one of whose parts, breaks the class, and 0 for a table without rows.
+    pub fn new(alloc: Global, rows: Table) -> Result<Ll1, NewFail>
+        requires { length rows ≤ 65536 }
+        ensures { NewGives rows result }
+    {
+        if rows.is_empty() {
+            return Err(NewFail::Unfit { row: 0 });
+        }
+        let facts = make_facts(alloc, rows.as_slice())?;
+        let heads = make_heads(alloc, rows.as_slice(), &facts)?;
+        if let Some(row) = first_break(rows.as_slice(), &facts, heads.as_slice()) {
+            return Err(NewFail::Unfit { row });
+        }
+        Ok(Ll1 {
+            alloc,
+            tables: Tables { rows, heads },
+        })
+    }
+
     /// The tree of the symbols by the table, with nesting at most `limit` at each symbol. A `Leaf` has the
     /// number of its symbol, from 0, and a `Node` that of its row. `NoText { at }` where no text begins with
     /// the symbols up to and with `at`, while one begins with those before, the end counted as a symbol behind
