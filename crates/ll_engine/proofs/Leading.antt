@@ -64,7 +64,7 @@ module _ (t : List Row) (b : List Bool) (exact : (h : ℕ) → Tells (marked b h
     go (inl x) rec = Leads.behind (skip_blank t b exact p x.0) (rec x.1)
     go (inr x) rec = lead_more p ps a (subst (λ y. Leads t (y ∷ []) a) (sym x.1) l)
 
-  not_blank : (m : ℕ) → may_skip b (Non m) ≡ false → IsBlank t (Non m ∷ []) → ⊥
+  pub not_blank : (m : ℕ) → may_skip b (Non m) ≡ false → IsBlank t (Non m ∷ []) → ⊥
   not_blank m e n = let f = blank_skip t b exact (Non m) n in cc (e, f)
 
   -- the first part that is not left out, as it leads with the symbol

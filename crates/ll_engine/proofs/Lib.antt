@@ -19,3 +19,5 @@ pub mod Ground
 pub mod Starts
 pub mod Leading
 pub mod Tests
+pub mod Known
+pub mod Sound

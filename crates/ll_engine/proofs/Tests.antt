@@ -2,19 +2,19 @@
 use Rattle.std.proofs.Common.{◌≡◌, ◌+◌, ◌<◌, ◌≤◌, ◌&&◌, ◌||◌, ◌⊎◌, inl, inr, not, ℕ, zero, suc, List, [], ◌∷◌, Option, Some, None, Bool, true, false, cond, refl, sym, ◌∙◌, ap, subst, slice_get, length, arith}
 use Rattle.ll_engine.specs.Marks.{Tells}
 
-pub tells_and : {P Q : Type 0} (b c : Bool) → Tells b P → Tells c Q → Tells (b && c) (P × Q)
-tells_and true true p q = (p, q)
-tells_and true false p q = λ m. q m.1
-tells_and false c p q = λ m. p m.0
+pub tells_and : (P Q : Type 0) (b c : Bool) → Tells b P → Tells c Q → Tells (b && c) (P × Q)
+tells_and P Q true true p q = (p, q)
+tells_and P Q true false p q = λ m. q m.1
+tells_and P Q false c p q = λ m. p m.0
 
-pub tells_or : {P Q : Type 0} (b c : Bool) → Tells b P → Tells c Q → Tells (b || c) (P ⊎ Q)
-tells_or true c p q = inl p
-tells_or false true p q = inr q
-tells_or false false p q = λ m. elim m [ inl x ↦ p x | inr y ↦ q y ]
+pub tells_or : (P Q : Type 0) (b c : Bool) → Tells b P → Tells c Q → Tells (b || c) (P ⊎ Q)
+tells_or P Q true c p q = inl p
+tells_or P Q false true p q = inr q
+tells_or P Q false false p q = λ m. elim m [ inl x ↦ p x | inr y ↦ q y ]
 
-pub tells_none : {P : Type 0} (b : Bool) → Tells b P → Tells (not b) (P → ⊥)
-tells_none true p = λ f. f p
-tells_none false p = p
+pub tells_none : (P : Type 0) (b : Bool) → Tells b P → Tells (not b) (P → ⊥)
+tells_none P true p = λ f. f p
+tells_none P false p = p
 
 -- a test that computes tells its own truth
 pub tells_self : (b : Bool) → Tells b (b ≡ true)

@@ -48,6 +48,7 @@ pub record AreFacts (t : List Row) (f : Facts) : Type 0 where
   pub blank : AreMarks (ground_rules false t) f.blank
   pub long : length f.symbols ≡ width t 0
   pub symbols : (a : ℕ) (s : SymbolFacts) → slice_get f.symbols a ≡ Some s → AreSymbolFacts t f.blank a s
+  pub reached : length f.reaches ≡ length t
   pub reaches : (i : ℕ) (row : Row) → slice_get t i ≡ Some row
     → AreMarks (start_rules f.blank (HeadOf row.head) t) (slice_index_or f.reaches i [])
 

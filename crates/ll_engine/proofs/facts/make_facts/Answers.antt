@@ -16,6 +16,7 @@ returns c =
     blank = subst (λ q. AreMarks q c.in_ok-blank.blank) (c.as_slice-2.ensures ∙ c.in_ok-rules-2.ensures) c.in_ok-blank.ensures;
     long = c.in_ok-symbols.ensures.long ∙ c.width.ensures.same;
     symbols = λ a s e. subst (λ q. AreSymbolFacts t q a s) c.as_slice-3.ensures (c.in_ok-symbols.ensures.each a s e);
+    reached = long;
     reaches = λ i row e.
       let short = slice_get_short t i row e in
       subst (λ q. AreMarks (start_rules q (Head row.head) t) (get_or c.in_ok-reaches.reaches i [])) c.as_slice-4.ensures
