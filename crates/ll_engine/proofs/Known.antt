@@ -48,7 +48,7 @@ part_below (Maybe x ∷ ps) n p a (inr h) e = part_below ps n p a h e
 part_below (Many x ∷ ps) n p a (inr h) e = part_below ps n p a h e
 part_below (Chain x ∷ ps) n p a (inr h) e = part_below ps n p a h e
 
-row_below : (t : List Row) (n i : ℕ) (row : Row) (p : Part) (a : ℕ) → slice_get t i ≡ Some row → Has row.parts p
+pub row_below : (t : List Row) (n i : ℕ) (row : Row) (p : Part) (a : ℕ) → slice_get t i ≡ Some row → Has row.parts p
   → terminal p ≡ Some a → a < width t n
 row_below [] n i row p a e h f = cc
 row_below (r ∷ t) n zero row p a e h f =
