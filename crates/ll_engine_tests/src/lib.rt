@@ -7,22 +7,58 @@ mod tests {
     use std::alloc::{AllocError, Global};
     use std::test::Fail;
 
-    /// A table of rows by head, parts and whether the row is deep.
-    fn table(alloc: Global, rows: &[(u16, &[Part], bool)]) -> Result<Table, AllocError> {
+    /// A row of `parts`, one letter a part: a small one is a symbol, a capital one a head, and `?`, `*` and `+`
+    /// before it make it optional, repeated and a chain. `!` makes the row deep.
+    fn row(alloc: Global, head: u8, parts: &[u8]) -> Result<Row, AllocError> {
+        let mut row = Row {
+            head: u16::from(head),
+            parts: Items::new(alloc),
+            deep: false,
+        };
+        let mut mark = b' ';
+        for letter in parts {
+            match *letter {
+                b'!' => row.deep = true,
+                b'?' => mark = b'?',
+                b'*' => mark = b'*',
+                b'+' => mark = b'+',
+                name => {
+                    row.parts.push(part(mark, name))?;
+                    mark = b' ';
+                }
+            }
+        }
+        Ok(row)
+    }
+
+    fn part(mark: u8, name: u8) -> Part {
+        let number = u16::from(name);
+        if name >= b'a' {
+            return Part::Term(number);
+        }
+        match mark {
+            b'?' => Part::Maybe(number),
+            b'*' => Part::Many(number),
+            b'+' => Part::Chain(number),
+            _ => Part::Non(number),
+        }
+    }
+
+    /// A table of rows such as `S=x?A`, with spaces between them.
+    fn table(alloc: Global, text: &str) -> Result<Table, AllocError> {
         let mut table = Items::new(alloc);
-        for (head, parts, deep) in rows {
-            table.push(Row {
-                head: *head,
-                parts: Items::from_slice(alloc, parts)?,
-                deep: *deep,
-            })?;
+        for word in text.split(' ') {
+            match word.as_bytes() {
+                [head, b'=', parts @ ..] => table.push(row(alloc, *head, parts)?)?,
+                _ => {}
+            }
         }
         Ok(table)
     }
 
     /// The answer of `new`: `fit`, or the number of the row that breaks the class.
-    fn verdict(alloc: Global, rows: &[(u16, &[Part], bool)]) -> Result<String, AllocError> {
-        let table = table(alloc, rows)?;
+    fn verdict(alloc: Global, text: &str) -> Result<String, AllocError> {
+        let table = table(alloc, text)?;
         if table.len() > 65536 {
             return String::from_str(alloc, "too long");
         }
@@ -35,39 +71,38 @@ mod tests {
 
     #[test]
     fn the_first_row_that_breaks_the_class(rt: HostRuntime) -> Result<(), Fail> {
-        use Part::{Chain, Many, Maybe, Non, Term};
-        let cases: [(&[(u16, &[Part], bool)], &str); 21] = [
-            (&[], "unfit 0"),
-            (&[(0, &[], false)], "fit"),
-            (&[(0, &[Term(0)], false)], "fit"),
+        let cases = [
+            ("", "unfit 0"),
+            ("S=", "fit"),
+            ("S=x", "fit"),
             // two alternatives that begin with one symbol
-            (&[(0, &[Term(1)], false), (0, &[Term(1), Term(2)], false)], "unfit 0"),
-            (&[(0, &[Non(1)], false), (1, &[Term(1)], false), (1, &[Maybe(2), Term(1)], false), (2, &[Term(3)], false)], "unfit 1"),
-            (&[(0, &[Non(1)], false), (1, &[Term(1)], false), (1, &[Maybe(2), Term(4)], false), (2, &[Term(3)], false)], "fit"),
+            ("S=x S=xy", "unfit 0"),
+            ("S=A A=x A=?Bx B=y", "unfit 1"),
+            ("S=A A=x A=?Bz B=y", "fit"),
             // two alternatives that can be empty
-            (&[(0, &[Term(7), Non(1)], false), (1, &[], false), (1, &[Maybe(2)], false), (2, &[Term(3)], false)], "unfit 1"),
+            ("S=xA A= A=?B B=y", "unfit 1"),
             // a repeated part that can be empty
-            (&[(0, &[Many(1)], false), (1, &[Maybe(2)], false), (2, &[Term(3)], false)], "unfit 0"),
-            (&[(0, &[Term(9), Chain(1)], false), (1, &[Many(2)], false), (2, &[Term(3)], false)], "unfit 0"),
-            (&[(0, &[Term(9), Maybe(1)], false), (1, &[Many(2)], false), (2, &[Term(3)], false)], "fit"),
+            ("S=*A A=?B B=y", "unfit 0"),
+            ("S=x+A A=*B B=y", "unfit 0"),
+            ("S=x?A A=*B B=y", "fit"),
             // left recursion, also behind a part that can be empty
-            (&[(0, &[Non(1)], false), (1, &[Non(1), Term(1)], false), (1, &[Term(2)], false)], "unfit 1"),
-            (&[(0, &[Non(1)], false), (1, &[Maybe(2), Non(0), Term(4)], false), (1, &[Term(5)], false), (2, &[Term(3)], false)], "unfit 0"),
-            (&[(0, &[Non(1)], false), (1, &[Term(3), Non(0), Term(4)], false), (1, &[Term(5)], false)], "fit"),
+            ("S=A A=Ax A=y", "unfit 1"),
+            ("S=A A=?BSz A=w B=y", "unfit 0"),
+            ("S=A A=xSz A=w", "fit"),
             // a head with no finite text, and one with no row
-            (&[(0, &[Maybe(1)], false), (1, &[Term(3), Non(1)], false)], "unfit 1"),
-            (&[(0, &[Term(1)], false), (1, &[Term(3), Maybe(2)], false)], "unfit 1"),
+            ("S=?A A=xA", "unfit 1"),
+            ("S=x A=y?B", "unfit 1"),
             // a part whose symbol comes behind it
-            (&[(0, &[Maybe(1), Term(2)], false), (1, &[Term(2)], false)], "unfit 0"),
-            (&[(0, &[Non(1), Term(2)], false), (1, &[Maybe(2), Maybe(3)], false), (2, &[Term(2)], false), (3, &[Term(4)], false)], "unfit 0"),
-            (&[(0, &[Non(1), Term(2)], false), (1, &[Term(5), Maybe(2)], false), (2, &[Term(2)], false)], "unfit 1"),
-            (&[(0, &[Maybe(1), Maybe(1), Term(2)], false), (1, &[Term(3)], false)], "fit"),
+            ("S=?Ax A=x", "unfit 0"),
+            ("S=Ax A=?B?C B=x C=y", "unfit 0"),
+            ("S=Ax A=y?B B=x", "unfit 1"),
+            ("S=?A?Ay A=x", "fit"),
             // the `else` that belongs to the nearest condition
-            (&[(0, &[Term(1), Non(0), Maybe(1)], false), (0, &[Term(2)], false), (1, &[Term(3), Non(0)], false)], "fit"),
-            (&[(0, &[Term(1), Non(0), Many(1), Term(3)], false), (0, &[Term(2)], false), (1, &[Term(3), Non(0)], false)], "unfit 0"),
+            ("S=xS?E S=y E=zS", "fit"),
+            ("S=xS*Ez S=y E=zS", "unfit 0"),
         ];
-        for (rows, wanted) in &cases {
-            assert_eq!(rt; verdict(rt.alloc(), rows)?.as_str(), *wanted);
+        for (text, wanted) in &cases {
+            assert_eq!(rt; verdict(rt.alloc(), text)?.as_str(), *wanted, "{text}");
         }
         Ok(())
     }
@@ -89,11 +124,15 @@ mod tests {
         Ok(())
     }
 
-    fn answer(alloc: Global, reader: &Ll1, symbols: &[u16], limit: u32) -> Result<String, AllocError> {
+    fn answer(alloc: Global, reader: &Ll1, text: &str, limit: u32) -> Result<String, AllocError> {
+        let mut symbols = Vec::new(alloc);
+        for letter in text.as_bytes() {
+            symbols.push(u16::from(*letter))?;
+        }
         if symbols.len() >= 4_294_967_295 {
             return String::from_str(alloc, "too long");
         }
-        match reader.parse(symbols, limit) {
+        match reader.parse(symbols.as_slice(), limit) {
             Ok(tree) => {
                 let mut out = String::new(alloc);
                 show(&mut out, &tree)?;
@@ -105,91 +144,66 @@ mod tests {
         }
     }
 
-    const ADD: u16 = 10;
-    const NEG: u16 = 11;
-    const OPEN: u16 = 12;
-    const CLOSE: u16 = 13;
-    const NAME: u16 = 14;
-    const LIST: u16 = 15;
-
-    /// Sums of negations: `sum = neg { + neg }` as a chain, `neg = - neg | prim`, `prim = ( sum ) | name [ , ]`,
-    /// with nesting in sums, negations and turns of a chain.
-    fn sums(alloc: Global) -> Result<Table, AllocError> {
-        use Part::{Chain, Maybe, Non, Term};
-        table(alloc, &[
-            (0, &[Non(1)], false),
-            (1, &[Non(3), Chain(2)], true),
-            (2, &[Term(ADD), Non(3)], false),
-            (3, &[Term(NEG), Non(3)], true),
-            (3, &[Non(4)], false),
-            (4, &[Term(OPEN), Non(1), Term(CLOSE)], false),
-            (4, &[Term(NAME), Maybe(5)], false),
-            (5, &[Term(LIST)], false),
-        ])
-    }
+    /// A sum is a chain of negations with `p` between them, a negation begins with `m`, and `x` is a name, with
+    /// an `l` behind it or not; `b` and `e` are brackets. Nesting counts sums, negations and turns of a chain.
+    const SUMS: &str = "S=E E=!N+T T=pN N=!mN N=P P=bEe P=x?L L=l";
 
     #[test]
     fn sums_and_their_trees(rt: HostRuntime) -> Result<(), Fail> {
-        let table = sums(rt.alloc())?;
+        let table = table(rt.alloc(), SUMS)?;
         assert!(rt; table.len() <= 65536);
         let Ok(reader) = Ll1::new(rt.alloc(), table) else {
             return Err(Fail::from("the table isn't fit"));
         };
-        let cases: [(&[u16], u32, &str); 18] = [
-            (&[NAME], 1, "r0( r1( r4( r6( 0 ) ) ) ) "),
-            (&[NAME, LIST], 1, "r0( r1( r4( r6( 0 r7( 1 ) ) ) ) ) "),
-            (&[NEG, NAME], 2, "r0( r1( r3( 0 r4( r6( 1 ) ) ) ) ) "),
-            (&[NAME, ADD, NAME, ADD, NAME], 3, "r0( r1( r4( r6( 0 ) ) r2( 1 r4( r6( 2 ) ) ) r2( 3 r4( r6( 4 ) ) ) ) ) "),
-            (&[OPEN, NAME, CLOSE], 2, "r0( r1( r4( r5( 0 r1( r4( r6( 1 ) ) ) 2 ) ) ) ) "),
+        let cases = [
+            ("x", 1, "r0( r1( r4( r6( 0 ) ) ) ) "),
+            ("xl", 1, "r0( r1( r4( r6( 0 r7( 1 ) ) ) ) ) "),
+            ("mx", 2, "r0( r1( r3( 0 r4( r6( 1 ) ) ) ) ) "),
+            ("xpxpx", 3, "r0( r1( r4( r6( 0 ) ) r2( 1 r4( r6( 2 ) ) ) r2( 3 r4( r6( 4 ) ) ) ) ) "),
+            ("bxe", 2, "r0( r1( r4( r5( 0 r1( r4( r6( 1 ) ) ) 2 ) ) ) ) "),
             // the end, a symbol that cannot come, and a first symbol that cannot
-            (&[], 1, "no text at 0"),
-            (&[ADD], 1, "no text at 0"),
-            (&[NAME, NAME], 1, "no text at 1"),
-            (&[NAME, ADD], 9, "no text at 2"),
-            (&[OPEN, NAME], 9, "no text at 2"),
-            (&[OPEN, NAME, LIST, LIST, CLOSE], 9, "no text at 3"),
-            (&[NAME, 99], 9, "no text at 1"),
+            ("", 1, "no text at 0"),
+            ("p", 1, "no text at 0"),
+            ("xx", 1, "no text at 1"),
+            ("xp", 9, "no text at 2"),
+            ("bx", 9, "no text at 2"),
+            ("bxlle", 9, "no text at 3"),
+            ("x~", 9, "no text at 1"),
             // nesting passes the limit at the name, at the second turn, and nowhere behind the bracket
-            (&[NAME], 0, "deep at 0"),
-            (&[NAME, ADD, NAME, ADD, NAME], 2, "deep at 3"),
-            (&[OPEN, NAME, CLOSE, ADD, NAME], 2, "r0( r1( r4( r5( 0 r1( r4( r6( 1 ) ) ) 2 ) ) r2( 3 r4( r6( 4 ) ) ) ) ) "),
-            // a symbol that cannot come is no text, also where nesting would pass the limit behind it
-            (&[OPEN, OPEN, ADD], 2, "no text at 2"),
-            (&[OPEN, OPEN, NEG, ADD], 2, "deep at 2"),
-            (&[OPEN, OPEN, NEG, ADD], 4, "no text at 3"),
+            ("x", 0, "deep at 0"),
+            ("xpxpx", 2, "deep at 3"),
+            ("bxepx", 2, "r0( r1( r4( r5( 0 r1( r4( r6( 1 ) ) ) 2 ) ) r2( 3 r4( r6( 4 ) ) ) ) ) "),
+            // a symbol that cannot come is no text, also where nesting would pass the limit there
+            ("bbp", 2, "no text at 2"),
+            ("bbmp", 2, "deep at 2"),
+            ("bbmp", 4, "no text at 3"),
         ];
-        for (symbols, limit, wanted) in &cases {
-            assert_eq!(rt; answer(rt.alloc(), &reader, symbols, *limit)?.as_str(), *wanted);
+        for (text, limit, wanted) in &cases {
+            assert_eq!(rt; answer(rt.alloc(), &reader, text, *limit)?.as_str(), *wanted, "{text}");
         }
         Ok(())
     }
 
-    /// A flat sum of a million symbols, and one of brackets as deep as the limit allows.
+    /// A flat sum of a million symbols: at, below and above the limit, and with a symbol missing at the end.
     #[test]
     fn a_million_symbols(rt: HostRuntime) -> Result<(), Fail> {
-        let table = sums(rt.alloc())?;
+        let table = table(rt.alloc(), SUMS)?;
         assert!(rt; table.len() <= 65536);
         let Ok(reader) = Ll1::new(rt.alloc(), table) else {
             return Err(Fail::from("the table isn't fit"));
         };
-        let mut flat: Vec<u16> = vec![in rt.alloc(); NAME]?;
+        let mut flat: Vec<u16> = vec![in rt.alloc(); 120]?;
         for _ in 0..500_000 {
-            flat.push(ADD)?;
-            flat.push(NAME)?;
+            flat.push(112)?;
+            flat.push(120)?;
         }
         assert!(rt; flat.len() == 1_000_001);
         let Ok(tree) = reader.parse(flat.as_slice(), 500_001) else {
             return Err(Fail::from("no tree"));
         };
-        match &tree {
-            Tree::Leaf(_) => return Err(Fail::from("a leaf")),
-            Tree::Node { row, kids } => {
-                assert_eq!(rt; *row, 0);
-                assert_eq!(rt; kids.len(), 1);
-            }
-        }
+        assert!(rt; matches!(&tree, Tree::Node { row: 0, kids: _ }));
         assert!(rt; matches!(reader.parse(flat.as_slice(), 500_000), Err(ParseFail::Deep { at: 999_999 })));
-        flat.push(ADD)?;
+        flat.push(112)?;
         assert!(rt; flat.len() == 1_000_002);
         assert!(rt; matches!(reader.parse(flat.as_slice(), 600_000), Err(ParseFail::NoText { at: 1_000_002 })));
         Ok(())
