@@ -1,16 +1,15 @@
 -- Vectors are lists of bits, least first. A number has the bits of its binary digits, in two's complement where it is
 -- negative (IEEE 1800-2017, clauses 6.9, 11.3.3 and 11.8.4).
-use Rattle.std.specs.Prelude.{ℕ, zero, suc, ◌+◌, ◌-◌, ◌*◌, ◌/◌, ◌%◌, ◌^◌, ◌==◌, ℤ, pos, ◌-ℤ◌, unsigned_abs, Bool, true, false, ◌&&◌, if◌then◌else◌, List, [], ◌∷◌, ◌++◌, length, take, replicate, slice_index_or}
+use Rattle.std.specs.Prelude.{ℕ, zero, suc, ◌+◌, ◌-◌, ◌*◌, ◌/◌, ◌%◌, ◌^◌, ◌==◌, ℤ, pos, ◌-ℤ◌, unsigned_abs, Bool, true, false, if◌then◌else◌, List, [], ◌∷◌, ◌++◌, length, take, replicate, slice_index_or, map, zip}
 use Rattle.std.specs.Int.{int_rem_euclid}
-use Rattle.std.specs.Simd.Lanes.{zip2}
+use Rattle.std.specs.List.{list_all}
 use Rattle.b4_core.specs.declared.bit.Bit4.{Bit4}
 use Rattle.b4_core.specs.declared.bit.Bit4.TheVariants.{Zero, One, X, Z}
 use Rattle.b4_core.specs.Bits.{known4, is_one, bit_of}
 
 -- no bit is x or z
 abbrev pub known : List Bit4 → Bool
-known [] = true
-known (b ∷ v) = known4 b && known v
+known v = list_all known4 v
 
 -- w bits that are all x
 abbrev pub unknown : ℕ → List Bit4
@@ -22,7 +21,7 @@ top_bit v = slice_index_or v (length v - 1) Zero
 
 -- an operator on bits, applied place by place to two vectors
 abbrev pub bitwise : (Bit4 → Bit4 → Bit4) → List Bit4 → List Bit4 → List Bit4
-bitwise f a b = zip2 f a b
+bitwise f a b = map (λ p. f p.0 p.1) (zip a b)
 
 -- 1 for the bit 1, else 0
 abbrev pub digit : Bit4 → ℕ

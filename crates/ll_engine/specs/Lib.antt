@@ -1,0 +1,12 @@
+pub mod Answers
+pub mod Class
+pub mod Facts
+pub mod Grammar
+pub mod Knows
+pub mod Marks
+pub mod Reading
+pub mod Machine
+pub mod Rules
+pub mod Steps
+pub mod Texts
+pub mod Weight

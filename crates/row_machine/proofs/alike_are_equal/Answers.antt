@@ -1,0 +1,5 @@
+use Rattle.row_machine.proofs.Laws as Laws
+use Rattle.row_machine.proofs.alike_are_equal.Goals as goal
+
+pub returns : goal.returns
+returns c = Laws.alike_are_equal

@@ -1,0 +1,14 @@
+pub mod Valuation
+pub mod Machine
+pub mod Settle
+pub mod Trace
+pub mod Order
+pub mod Rounds
+pub mod Laws
+pub mod Agreement
+pub mod Alike
+pub mod Dependence
+pub mod Translation
+pub mod Runs
+pub mod Stuck
+pub mod Unsettled
