@@ -7,3 +7,4 @@ pub mod Lookup
 pub mod Outputs
 pub mod Sound
 pub mod Built
+pub mod Layouts

@@ -98,14 +98,14 @@ total_bits ports = sum (map (λ (p : Declared). range_width p.range) ports)
 abbrev pub is_built : Module → List ℕ → Bool
 is_built m top =
     first_is_directed m.ports
-      && bytes_eq m.name.word top
-      && distinct (port_names m)
-      && no_helper_names m
-      && ranges_are_plain m.ports
-      && nat_le (total_bits (declared m)) (2 ^ 22)
-      && list_all (λ (a : Assign). expr_is_plain a.value) m.assigns
-      && all_among (outputs (declared m)) (targets m.assigns)
-      && distinct (targets m.assigns)
-      && read_ports (port_names m) m.assigns
-      && read_rest (targets m.assigns) m.assigns
-      && all_among (targets m.assigns) (outputs (declared m))
+    && bytes_eq m.name.word top
+    && distinct (port_names m)
+    && no_helper_names m
+    && ranges_are_plain m.ports
+    && nat_le (total_bits (declared m)) (2 ^ 22)
+    && list_all (λ (a : Assign). expr_is_plain a.value) m.assigns
+    && all_among (outputs (declared m)) (targets m.assigns)
+    && distinct (targets m.assigns)
+    && read_ports (port_names m) m.assigns
+    && read_rest (targets m.assigns) m.assigns
+    && all_among (targets m.assigns) (outputs (declared m))

@@ -87,7 +87,7 @@ abbrev pub range_layout : Option ℕ → List Piece
 range_layout None = []
 range_layout (Some left) =
     token (mark (codes "[")) ∷ token (Token.decimal left) ∷ token (mark (codes ":")) ∷ token (Token.decimal 0)
-      ∷ token (mark (codes "]")) ∷ space ∷ []
+    ∷ token (mark (codes "]")) ∷ space ∷ []
 
 abbrev pub port_layout : List ℕ → Option ℕ → List ℕ → List Piece
 port_layout keyword range n =
@@ -96,7 +96,7 @@ port_layout keyword range n =
 abbrev pub assign_layout : List ℕ → VExpr → List Piece
 assign_layout target value =
     space ∷ space ∷ token (word (codes "assign")) ∷ space ∷ token (name target) ∷ space ∷ token (mark (codes "=")) ∷ space
-      ∷ (expr_layout value ++ token (mark (codes ";")) ∷ newline ∷ [])
+    ∷ (expr_layout value ++ token (mark (codes ";")) ∷ newline ∷ [])
 
 abbrev pub item_layout : VItem → List Piece
 item_layout (Input range n) = port_layout (codes "input") range n
@@ -114,21 +114,16 @@ ports_layout [] = []
 ports_layout (n ∷ ns) = space ∷ token (mark (codes "(")) ∷ token (name n) ∷ (further_ports ns ++ token (mark (codes ")")) ∷ [])
 
 abbrev pub items_layout : List VItem → List Piece
-items_layout [] = []
-items_layout (i ∷ is) = item_layout i ++ items_layout is
+items_layout items = flat_map item_layout items
 
 abbrev pub module_layout : VModule → List Piece
 module_layout m =
     token (word (codes "module")) ∷ space ∷ token (name m.name)
-      ∷ (ports_layout m.ports ++ token (mark (codes ";")) ∷ newline
-        ∷ (items_layout m.items ++ token (word (codes "endmodule")) ∷ newline ∷ []))
-
-abbrev pub modules_layout : List VModule → List Piece
-modules_layout [] = []
-modules_layout (m ∷ ms) = module_layout m ++ modules_layout ms
+    ∷ (ports_layout m.ports ++ token (mark (codes ";")) ∷ newline
+    ∷ (items_layout m.items ++ token (word (codes "endmodule")) ∷ newline ∷ []))
 
 abbrev pub text_layout : VDesign → List Piece
-text_layout d = modules_layout d.modules
+text_layout d = flat_map module_layout d.modules
 
 -- the text of a design
 abbrev pub text_of : VDesign → List ℕ

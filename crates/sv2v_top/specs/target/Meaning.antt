@@ -32,15 +32,15 @@ nothing = record { names = []; numbers = []; decimals = []; operators = []; prim
 -- the first parts and then the second
 abbrev pub followed : Parts → Parts → Parts
 followed a b = record {
-    names = a.names ++ b.names;
-    numbers = a.numbers ++ b.numbers;
-    decimals = a.decimals ++ b.decimals;
-    operators = a.operators ++ b.operators;
-    prims = a.prims ++ b.prims;
-    exprs = a.exprs ++ b.exprs;
-    items = a.items ++ b.items;
-    modules = a.modules ++ b.modules
-  }
+  names = a.names ++ b.names;
+  numbers = a.numbers ++ b.numbers;
+  decimals = a.decimals ++ b.decimals;
+  operators = a.operators ++ b.operators;
+  prims = a.prims ++ b.prims;
+  exprs = a.exprs ++ b.exprs;
+  items = a.items ++ b.items;
+  modules = a.modules ++ b.modules;
+}
 
 abbrev pub joined : List Parts → Parts
 joined [] = nothing
@@ -116,12 +116,12 @@ name_of p = a_prim (Name (first_name p))
 -- in the order of the table's rows
 abbrev pub row_meanings : List (Parts → Parts)
 row_meanings =
-      same                            -- text
+    same  -- text
     ∷ module_of
-    ∷ same ∷ same                     -- the port list
+    ∷ same ∷ same  -- the port list
     ∷ input_of ∷ output_of ∷ assign_of
-    ∷ same ∷ same ∷ same              -- a range and its left bound
-    ∷ same                            -- a target
+    ∷ same ∷ same ∷ same  -- a range and its left bound
+    ∷ same  -- a target
     ∷ binary_of ∷ unary_of
     ∷ operand_of And ∷ operand_of Or ∷ operand_of Xor
     ∷ number_of ∷ paren_of ∷ name_of

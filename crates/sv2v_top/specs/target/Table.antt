@@ -55,7 +55,7 @@ nested head parts = record { head = head; parts = parts; deep = true }
 
 abbrev pub table : List Row
 table =
-      plain text (Many module_head ∷ [])
+    plain text (Many module_head ∷ [])
     ∷ plain module_head (Term symbol.module_word ∷ Term symbol.name ∷ Maybe ports ∷ Term symbol.semicolon ∷ Many item ∷ Term symbol.endmodule ∷ [])
     ∷ plain ports (Term symbol.left_paren ∷ Term symbol.name ∷ Many next_port ∷ Term symbol.right_paren ∷ [])
     ∷ plain next_port (Term symbol.comma ∷ Term symbol.name ∷ [])

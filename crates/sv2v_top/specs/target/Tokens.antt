@@ -129,9 +129,9 @@ abbrev pub tokens_from : ℕ → List ℕ → List Token
 tokens_from further [] = []
 tokens_from (suc further) (c ∷ text) = tokens_from further text
 tokens_from zero (c ∷ text) = elim (first_cut c text) [
-      gap further ↦ tokens_from further text
-    | cut token further ↦ token ∷ tokens_from further text
-    ]
+  | gap further ↦ tokens_from further text
+  | cut token further ↦ token ∷ tokens_from further text
+]
 
 -- the tokens of a text
 abbrev pub tokens : List ℕ → List Token
