@@ -8,3 +8,4 @@ pub mod Outputs
 pub mod Sound
 pub mod Built
 pub mod Layouts
+pub mod Spelled

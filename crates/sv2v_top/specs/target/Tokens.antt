@@ -72,7 +72,7 @@ word_cut c text = let n = prefix_len is_word text in cut (named (c ∷ take n te
 -- behind n digits that give `size`: a size from 1 to 128, `'b` and exactly so many bits, or else a decimal number
 abbrev pub sized_cut : ℕ → ℕ → List ℕ → Cut
 sized_cut n size text =
-    if nat_le 1 size && nat_le size 128 && begins (codes "'b") text && nat_le size (prefix_len is_bit (drop 2 text))
+    if begins (codes "'b") text && nat_le 1 size && nat_le size 128 && nat_le size (prefix_len is_bit (drop 2 text))
     then cut (number (reverse (map bit_of (take size (drop 2 text))))) (n + (2 + size))
     else cut (decimal size) n
 
