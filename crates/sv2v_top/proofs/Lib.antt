@@ -9,3 +9,4 @@ pub mod Sound
 pub mod Built
 pub mod Layouts
 pub mod Spelled
+pub mod Written

@@ -23,7 +23,7 @@ abbrev pub told : Cut → List ℕ → List Token
 told (gap n) text = tokens_from n text
 told (cut t n) text = t ∷ tokens_from n text
 
-is-told : (k : Cut) (text : List ℕ) → elim k [ gap n ↦ tokens_from n text | cut t n ↦ t ∷ tokens_from n text ] ≡ told k text
+pub is-told : (k : Cut) (text : List ℕ) → elim k [ gap n ↦ tokens_from n text | cut t n ↦ t ∷ tokens_from n text ] ≡ told k text
 is-told (gap n) text = refl
 is-told (cut t n) text = refl
 
@@ -78,13 +78,13 @@ name-read (c ∷ n) rest e ends =
     cut-step c n rest (Token.name (c ∷ n)) (prefix_len is_word (n ++ rest)) (pick_true (is_letter c) _ _ first.0 ∙ whole) run
 
 -- the digits of a positive number
-all-digits : (ds : List ℕ) → all_ascii_digits ds ≡ true → list_all is_digit ds ≡ true
+pub all-digits : (ds : List ℕ) → all_ascii_digits ds ≡ true → list_all is_digit ds ≡ true
 all-digits [] e = refl
 all-digits (c ∷ ds) e =
     let parts = and_parts (is_ascii_digit c) (all_ascii_digits ds) e in
     (λ i. parts.0 i && all-digits ds parts.1 i)
 
-own : IsNumeralModel (λ ds. all_ascii_digits ds ≡ true) (digits_value 10)
+pub own : IsNumeralModel (λ ds. all_ascii_digits ds ≡ true) (digits_value 10)
 own = numerals_by_value (λ ds. all_ascii_digits ds ≡ true) tells_all_ascii_digits
 
 -- a digit is no letter
@@ -121,7 +121,7 @@ digits-read n d ds word rest behind b t k pos small e begin stop h l =
       ∙ cut-step d (ds ++ word) rest t k
           (ap (first_cut d) (append_assoc ds word rest) ∙ digit-cut n d ds (word ++ rest) behind b pos small e begin stop ∙ h) l
 
-split : (xs : List ℕ) → 0 < length xs → (x : ℕ) × (ys : List ℕ) × (xs ≡ x ∷ ys)
+pub split : (xs : List ℕ) → 0 < length xs → (x : ℕ) × (ys : List ℕ) × (xs ≡ x ∷ ys)
 split [] h = absurd (omega arith)
 split (x ∷ xs) h = (x, xs, refl)
 
