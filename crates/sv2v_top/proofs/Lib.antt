@@ -10,3 +10,6 @@ pub mod Built
 pub mod Layouts
 pub mod Spelled
 pub mod Written
+pub mod engine
+pub mod Phrases
+pub mod Derived
