@@ -138,3 +138,105 @@ module _ (all : List Token) (signals : List Signal) where
           (negated-read q around around (Term symbol.right_paren ∷ []) (mark_of (codes ")") ∷ []) (front us after) nothing low
             (symbol-read all (mark_of (codes ")")) refl (omega arith) (ended all around around (front us after))))) h
   operand-read false q around turn ps us after m low h = primary-read q around turn ps us after m (omega arith) h
+
+  -- the operator of a binary expression and its right operand
+  rest-read : (op : BinOp) (inverted : Bool) (q : Primary) (around turn : ℕ) (after : Option ℕ) → IsPrintableOperator op → suc around ≤ nesting_limit
+      → Phrase all around turn (Maybe T.rest ∷ []) (mark_of (binary_mark op) ∷ operand_tokens inverted q) after
+          (record nothing { operators = op ∷ []; prims = parenthesized inverted (lowered_primary signals q) ∷ [] })
+  rest-read op inverted q around turn after k low = by_operator op k
+    where
+    right : (d : ℕ) → d ≡ around → Phrase all d d (Non T.prim ∷ []) (operand_tokens inverted q) after (a_prim (parenthesized inverted (lowered_primary signals q)))
+    right d e =
+        tokens-are all (append-nil (operand_tokens inverted q))
+          (operand-read inverted q d d [] [] after nothing (subst (λ n. suc n ≤ nesting_limit) (sym e) low) (ended all d d after))
+    by_operator : (o : BinOp) → IsPrintableOperator o
+        → Phrase all around turn (Maybe T.rest ∷ []) (mark_of (binary_mark o) ∷ operand_tokens inverted q) after
+            (record nothing { operators = o ∷ []; prims = parenthesized inverted (lowered_primary signals q) ∷ [] })
+    by_operator B.And k = tokens-are all (append-nil (mark_of (codes "&") ∷ operand_tokens inverted q))
+      (row-read all refl row_and (Begins.itself refl) (symbol-read all (mark_of (codes "&")) refl (omega arith) (right around refl)) (ended all around around after))
+    by_operator B.Or k = tokens-are all (append-nil (mark_of (codes "|") ∷ operand_tokens inverted q))
+      (row-read all refl row_or (Begins.itself refl) (symbol-read all (mark_of (codes "|")) refl (omega arith) (right around refl)) (ended all around around after))
+    by_operator B.Xor k = tokens-are all (append-nil (mark_of (codes "^") ∷ operand_tokens inverted q))
+      (row-read all refl row_xor (Begins.itself refl) (symbol-read all (mark_of (codes "^")) refl (omega arith) (right around refl)) (ended all around around after))
+    by_operator B.Xnor k = absurd k
+    by_operator B.Add k = absurd k
+    by_operator B.Sub k = absurd k
+    by_operator B.Mul k = absurd k
+    by_operator B.Div k = absurd k
+    by_operator B.Rem k = absurd k
+
+  alone-read : (inverted : Bool) (q : Primary) (around turn : ℕ) (ps : List Part) (us : List Token) (after : Option ℕ) (m : Parts) → suc around ≤ nesting_limit
+      → (IsBegun table (Maybe T.rest ∷ []) (front us after) → ⊥) → Phrase all around around ps us after m
+      → Phrase all around turn (Non T.expr ∷ ps) (elim inverted [ true ↦ mark_of (codes "~") ∷ primary_token q ∷ [] | false ↦ primary_token q ∷ [] ] ++ us) after
+          (followed (an_expr (alone inverted (lowered_primary signals q))) m)
+  alone-read true q around turn ps us after m low stops h = negated-read q around turn ps us after m low h
+  alone-read false q around turn ps us after m low stops h =
+      row-read all refl row_binary (primary-begins q (Maybe T.rest ∷ []) [] (front us after))
+        (primary-read q (suc around) (suc around) (Maybe T.rest ∷ []) [] (front us after) nothing low
+          (left-out all refl stops (ended all (suc around) (suc around) (front us after)))) h
+
+  -- an expression, in front of a token that is no binary operator
+  expr-read : (x : Expr) (around turn : ℕ) (ps : List Part) (us : List Token) (after : Option ℕ) (m : Parts) → suc (suc around) ≤ nesting_limit
+      → IsPrintableExpr x → (IsBegun table (Maybe T.rest ∷ []) (front us after) → ⊥) → Phrase all around around ps us after m
+      → Phrase all around turn (Non T.expr ∷ ps) (expr_tokens x ++ us) after (followed (an_expr (lowered_expr signals x)) m)
+  expr-read (D.Single a) around turn ps us after m low k stops h = alone-read a.inverted a.primary around turn ps us after m (omega arith) stops h
+  expr-read (D.Binary op a b) around turn ps us after m low k stops h =
+      row-read all refl row_binary
+        (operand-begins a.inverted a.primary (Maybe T.rest ∷ []) (mark_of (binary_mark op) ∷ operand_tokens b.inverted b.primary) (front us after))
+        (operand-read a.inverted a.primary (suc around) (suc around) (Maybe T.rest ∷ []) (mark_of (binary_mark op) ∷ operand_tokens b.inverted b.primary) (front us after)
+          (record nothing { operators = op ∷ []; prims = lowered_operand signals b ∷ [] }) low
+          (rest-read op b.inverted b.primary (suc around) (suc around) (front us after) k.0 low)) h
+
+row_input : IsRowOf table T.item 4 (plain T.item (Term symbol.input ∷ Maybe T.range ∷ Term symbol.name ∷ Term symbol.semicolon ∷ []))
+row_input = record { is_there = refl; is_of = refl }
+
+row_output : IsRowOf table T.item 5 (plain T.item (Term symbol.output ∷ Maybe T.range ∷ Term symbol.name ∷ Term symbol.semicolon ∷ []))
+row_output = record { is_there = refl; is_of = refl }
+
+row_assign : IsRowOf table T.item 6 (plain T.item (Term symbol.assign ∷ Non T.lval ∷ Term symbol.equals ∷ Non T.expr ∷ Term symbol.semicolon ∷ []))
+row_assign = record { is_there = refl; is_of = refl }
+
+row_next : IsRowOf table T.next_port 3 (plain T.next_port (Term symbol.comma ∷ Term symbol.name ∷ []))
+row_next = record { is_there = refl; is_of = refl }
+
+row_ports : IsRowOf table T.ports 2 (plain T.ports (Term symbol.left_paren ∷ Term symbol.name ∷ Many T.next_port ∷ Term symbol.right_paren ∷ []))
+row_ports = record { is_there = refl; is_of = refl }
+
+row_module : IsRowOf table T.module_head 1 (plain T.module_head (Term symbol.module_word ∷ Term symbol.name ∷ Maybe T.ports ∷ Term symbol.semicolon ∷ Many T.item ∷ Term symbol.endmodule ∷ []))
+row_module = record { is_there = refl; is_of = refl }
+
+-- a range is given by a positive left bound
+abbrev pub IsPositive : Option ℕ → Type 0
+IsPositive None = Unit {0}
+IsPositive (Some left) = 0 < left
+
+abbrev pub range_tokens : Option ℕ → List Token
+range_tokens None = []
+range_tokens (Some left) = mark_of (codes "[") ∷ Token.decimal left ∷ mark_of (codes ":") ∷ Token.decimal 0 ∷ mark_of (codes "]") ∷ []
+
+no-nought : (n : ℕ) → 0 < n → (n == 0) ≡ false
+no-nought n h = grind (arith, nat_tests)
+
+abbrev pub range_decimals : Option ℕ → List ℕ
+range_decimals None = []
+range_decimals (Some left) = left ∷ 0 ∷ []
+
+module _ (all : List Token) where
+  -- `[left:0] a;`, or `a;`
+  declared-read : (range : Option ℕ) (n : List ℕ) (turn : ℕ) (after : Option ℕ) → IsPositive range
+      → Phrase all 0 turn (Maybe T.range ∷ Term symbol.name ∷ Term symbol.semicolon ∷ []) (range_tokens range ++ (Token.name n ∷ mark_of (codes ";") ∷ [])) after
+          (record nothing { names = n ∷ []; decimals = range_decimals range })
+  declared-read None n turn after k =
+      left-out all refl (never (Maybe T.range ∷ []) 1 refl)
+        (symbol-read all (Token.name n) refl (omega arith) (symbol-read all (mark_of (codes ";")) refl (omega arith) (ended all 0 0 after)))
+  declared-read (Some left) n turn after k =
+      let is_decimal : symbol.symbol (Token.decimal left) ≡ 3 = pick_false (left == 0) 4 3 (no-nought left k) in
+      row-read all refl row_range (Begins.itself refl)
+        (symbol-read all (mark_of (codes "[")) refl (omega arith)
+          (row-read all {us = mark_of (codes ":") ∷ Token.decimal 0 ∷ mark_of (codes "]") ∷ []} refl row_bound
+            (subst (λ a. Begins table (Term symbol.decimal ∷ []) a) (sym is_decimal) (Begins.itself refl))
+            (symbol-read all (Token.decimal left) (ap Some (sym is_decimal)) (omega arith) (ended all 0 0 (Some symbol.colon)))
+            (symbol-read all (mark_of (codes ":")) refl (omega arith)
+              (symbol-read all (Token.decimal 0) refl (omega arith)
+                (symbol-read all (mark_of (codes "]")) refl (omega arith) (ended all 0 0 (Some symbol.name)))))))
+        (symbol-read all (Token.name n) refl (omega arith) (symbol-read all (mark_of (codes ";")) refl (omega arith) (ended all 0 0 after)))
