@@ -1,5 +1,5 @@
 -- Derivations of what is written.
-use Rattle.std.proofs.Common.{◌≡◌, ℕ, zero, suc, ◌+◌, ◌<◌, ◌≤◌, ◌==◌, Bool, true, false, List, [], ◌∷◌, ◌++◌, map, codes, get_or, Option, Some, None, refl, sym, ap, subst, ◌∙◌, inl, inr, arith}
+use Rattle.std.proofs.Common.{◌≡◌, ℕ, zero, suc, ◌+◌, ◌<◌, ◌≤◌, ◌==◌, Bool, true, false, List, [], ◌∷◌, ◌++◌, map, codes, get_or, Option, Some, None, refl, sym, ap, subst, ◌∙◌, inl, inr, append_assoc, arith}
 use Rattle.std.specs.List.{list_all}
 use Rattle.std.proofs.lemmas.Bool.{false≢true}
 use Rattle.std.proofs.lemmas.Bool.Decides.{nat_tests}
@@ -22,16 +22,19 @@ use Rattle.sv2v_top.specs.declared.v_tree.VExpr.{VExpr}
 use Rattle.sv2v_top.specs.declared.v_tree.VExpr.TheVariants.{Unary}
 use Rattle.sv2v_top.specs.declared.v_tree.VItem.{VItem}
 use Rattle.sv2v_top.specs.declared.v_tree.VItem.TheVariants.{Input, Output, Assign}
+use Rattle.sv2v_top.specs.declared.v_tree.VModule.{VModule}
 use Rattle.sv2v_top.specs.Lowering.{name_of, parenthesized, alone, lowered_primary, lowered_operand, lowered_expr}
 use Rattle.sv2v_top.specs.Printable.{IsPrintableOperator, IsPrintableExpr}
 use Rattle.sv2v_top.specs.target.Tokens.{Token}
 use Rattle.sv2v_top.specs.target.Symbols as symbol
 use Rattle.sv2v_top.specs.target.Table as T
 use Rattle.sv2v_top.specs.target.Table.{table, plain, nested}
-use Rattle.sv2v_top.specs.target.Meaning.{Parts, nothing, followed, a_prim, an_expr, an_item}
-use Rattle.sv2v_top.specs.target.Layout.{binary_mark}
+use Rattle.sv2v_top.specs.target.Meaning.{Parts, nothing, followed, first_of, a_prim, an_expr, an_item}
+use Rattle.sv2v_top.specs.target.Layout.{Piece, token, space, newline, tokens_of, binary_mark, prim_layout, expr_layout, port_layout, item_layout, items_layout, further_ports, ports_layout, module_layout}
 use Rattle.sv2v_top.specs.target.Reading.{nesting_limit}
 use Rattle.sv2v_top.proofs.Names.{pick_false, append-nil}
+use Rattle.sv2v_top.proofs.Layouts.{number-layout, name-layout, paren-layout, prim-layout, unary-layout, binary-layout}
+use Rattle.sv2v_top.proofs.Written.{tokens-append}
 use Rattle.sv2v_top.proofs.engine.Firsts as Firsts
 use Rattle.sv2v_top.proofs.Phrases.{Phrase, front, ended, symbol-read, row-read, left-out, meaning-is, tokens-are}
 
@@ -221,6 +224,53 @@ abbrev pub range_decimals : Option ℕ → List ℕ
 range_decimals None = []
 range_decimals (Some left) = left ∷ 0 ∷ []
 
+primary-tokens : (signals : List Signal) (q : Primary) → tokens_of (prim_layout (lowered_primary signals q)) ≡ primary_token [] signals q ∷ []
+primary-tokens signals (P.Signal n) = ap tokens_of (name-layout (name_of signals n))
+primary-tokens signals (P.Literal bits) = ap tokens_of (number-layout bits)
+
+negated-tokens : (signals : List Signal) (q : Primary) → tokens_of (expr_layout (Unary Not (lowered_primary signals q))) ≡ mark_of (codes "~") ∷ primary_token [] signals q ∷ []
+negated-tokens signals q = ap tokens_of (unary-layout Not (lowered_primary signals q)) ∙ ap (λ ts. mark_of (codes "~") ∷ ts) (primary-tokens signals q)
+
+operand-layout : (signals : List Signal) (inverted : Bool) (q : Primary)
+    → tokens_of (prim_layout (parenthesized inverted (lowered_primary signals q))) ≡ operand_tokens [] signals inverted q
+operand-layout signals true q =
+    ap tokens_of (paren-layout (Unary Not (lowered_primary signals q)))
+      ∙ ap (λ ts. mark_of (codes "(") ∷ ts) (tokens-append (expr_layout (Unary Not (lowered_primary signals q))) (token (mark_of (codes ")")) ∷ []))
+      ∙ ap (λ ts. mark_of (codes "(") ∷ (ts ++ (mark_of (codes ")") ∷ []))) (negated-tokens signals q)
+operand-layout signals false q = primary-tokens signals q
+
+alone-layout : (signals : List Signal) (inverted : Bool) (q : Primary)
+    → tokens_of (expr_layout (alone inverted (lowered_primary signals q)))
+      ≡ elim inverted [ true ↦ mark_of (codes "~") ∷ primary_token [] signals q ∷ [] | false ↦ primary_token [] signals q ∷ [] ]
+alone-layout signals true q = negated-tokens signals q
+alone-layout signals false q = ap tokens_of (prim-layout (lowered_primary signals q)) ∙ primary-tokens signals q
+
+expr-layout : (signals : List Signal) (x : Expr) → tokens_of (expr_layout (lowered_expr signals x)) ≡ expr_tokens [] signals x
+expr-layout signals (D.Single a) = alone-layout signals a.inverted a.primary
+expr-layout signals (D.Binary op a b) =
+    let left = prim_layout (lowered_operand signals a) in
+    let right = prim_layout (lowered_operand signals b) in
+    ap tokens_of (binary-layout op (lowered_operand signals a) (lowered_operand signals b))
+      ∙ tokens-append left (space ∷ token (mark_of (binary_mark op)) ∷ space ∷ right)
+      ∙ (λ i. operand-layout signals a.inverted a.primary i ++ (mark_of (binary_mark op) ∷ operand-layout signals b.inverted b.primary i))
+
+assign-tokens : (signals : List Signal) (n : List ℕ) (x : Expr)
+    → Token.word (codes "assign") ∷ Token.name n ∷ mark_of (codes "=") ∷ (expr_tokens [] signals x ++ (mark_of (codes ";") ∷ []))
+      ≡ tokens_of (item_layout (Assign n (lowered_expr signals x)))
+assign-tokens signals n x =
+    ap (λ ts. Token.word (codes "assign") ∷ Token.name n ∷ mark_of (codes "=") ∷ ts)
+      (ap (λ ts. ts ++ (mark_of (codes ";") ∷ [])) (sym (expr-layout signals x))
+        ∙ sym (tokens-append (expr_layout (lowered_expr signals x)) (token (mark_of (codes ";")) ∷ newline ∷ [])))
+
+module-tokens : (v : VModule)
+    → Token.word (codes "module") ∷ Token.name v.name
+        ∷ (tokens_of (ports_layout v.ports) ++ (mark_of (codes ";") ∷ (tokens_of (items_layout v.items) ++ (Token.word (codes "endmodule") ∷ []))))
+      ≡ tokens_of (module_layout v)
+module-tokens v =
+    ap (λ ts. Token.word (codes "module") ∷ Token.name v.name ∷ ts)
+      (ap (λ ts. tokens_of (ports_layout v.ports) ++ (mark_of (codes ";") ∷ ts)) (sym (tokens-append (items_layout v.items) _))
+        ∙ sym (tokens-append (ports_layout v.ports) _))
+
 module _ (all : List Token) where
   -- `[left:0] a;`, or `a;`
   declared-read : (range : Option ℕ) (n : List ℕ) (turn : ℕ) (after : Option ℕ) → IsPositive range
@@ -240,3 +290,96 @@ module _ (all : List Token) where
               (symbol-read all (Token.decimal 0) refl (omega arith)
                 (symbol-read all (mark_of (codes "]")) refl (omega arith) (ended all 0 0 (Some symbol.name)))))))
         (symbol-read all (Token.name n) refl (omega arith) (symbol-read all (mark_of (codes ";")) refl (omega arith) (ended all 0 0 after)))
+
+  -- one item in front of others
+  abbrev pub ItemReads : VItem → Type 0
+  ItemReads i = (turn : ℕ) (us : List Token) (after : Option ℕ) (m : Parts) → Phrase all 0 0 (Many T.item ∷ Term symbol.endmodule ∷ []) us after m
+      → Phrase all 0 turn (Many T.item ∷ Term symbol.endmodule ∷ []) (tokens_of (item_layout i) ++ us) after (followed (an_item i) m)
+
+  port-tokens : (keyword : List ℕ) (range : Option ℕ) (n : List ℕ)
+      → Token.word keyword ∷ (range_tokens range ++ (Token.name n ∷ mark_of (codes ";") ∷ [])) ≡ tokens_of (port_layout keyword range n)
+  port-tokens keyword None n = refl
+  port-tokens keyword (Some left) n = refl
+
+  first-decimal : (range : Option ℕ) → first_of (range_decimals range) ≡ range
+  first-decimal None = refl
+  first-decimal (Some left) = refl
+
+  pub input-read : (range : Option ℕ) (n : List ℕ) → IsPositive range → ItemReads (Input range n)
+  input-read range n k turn us after m h =
+      tokens-are all (ap (λ ts. ts ++ us) (port-tokens (codes "input") range n))
+        (meaning-is all (ap (λ r. followed (an_item (Input r n)) m) (first-decimal range))
+          (row-read all refl row_input (Begins.itself refl)
+            (symbol-read all (Token.word (codes "input")) refl (omega arith) (declared-read range n 0 (front us after) k)) h))
+
+  pub output-read : (range : Option ℕ) (n : List ℕ) → IsPositive range → ItemReads (Output range n)
+  output-read range n k turn us after m h =
+      tokens-are all (ap (λ ts. ts ++ us) (port-tokens (codes "output") range n))
+        (meaning-is all (ap (λ r. followed (an_item (Output r n)) m) (first-decimal range))
+          (row-read all refl row_output (Begins.itself refl)
+            (symbol-read all (Token.word (codes "output")) refl (omega arith) (declared-read range n 0 (front us after) k)) h))
+
+  pub assign-read : (signals : List Signal) (n : List ℕ) (x : Expr) → IsPrintableExpr x → ItemReads (Assign n (lowered_expr signals x))
+  assign-read signals n x k turn us after m h =
+      tokens-are all (ap (λ ts. ts ++ us) (assign-tokens signals n x))
+        (row-read all refl row_assign (Begins.itself refl)
+          (symbol-read all (Token.word (codes "assign")) refl (omega arith)
+            (row-read all {us = mark_of (codes "=") ∷ (expr_tokens all signals x ++ (mark_of (codes ";") ∷ []))} refl row_lval (Begins.itself refl)
+              (symbol-read all (Token.name n) refl (omega arith) (ended all 0 0 (Some symbol.equals)))
+              (symbol-read all (mark_of (codes "=")) refl (omega arith)
+                (expr-read all signals x 0 0 (Term symbol.semicolon ∷ []) (mark_of (codes ";") ∷ []) (front us after) nothing (omega arith) k
+                  (never (Maybe T.rest ∷ []) 13 refl)
+                  (symbol-read all (mark_of (codes ";")) refl (omega arith) (ended all 0 0 (front us after))))))) h)
+
+  items-read : (items : List VItem) (turn : ℕ) (after : Option ℕ) → ((i : VItem) → Member items i → ItemReads i)
+      → Phrase all 0 turn (Many T.item ∷ Term symbol.endmodule ∷ []) (tokens_of (items_layout items) ++ (Token.word (codes "endmodule") ∷ [])) after
+          (record nothing { items = items })
+  items-read [] turn after each =
+      left-out all refl (never (Many T.item ∷ []) 6 refl) (symbol-read all (Token.word (codes "endmodule")) refl (omega arith) (ended all 0 0 after))
+  items-read (i ∷ items) turn after each =
+      tokens-are all
+        (sym (append_assoc (tokens_of (item_layout i)) (tokens_of (items_layout items)) (Token.word (codes "endmodule") ∷ []))
+          ∙ ap (λ ts. ts ++ (Token.word (codes "endmodule") ∷ [])) (sym (tokens-append (item_layout i) (items_layout items))))
+        (each i (inl refl) turn (tokens_of (items_layout items) ++ (Token.word (codes "endmodule") ∷ [])) after (record nothing { items = items })
+          (items-read items 0 after (λ j k. each j (inr k))))
+
+  further-read : (ns : List (List ℕ)) (turn : ℕ) (after : Option ℕ)
+      → Phrase all 0 turn (Many T.next_port ∷ Term symbol.right_paren ∷ []) (tokens_of (further_ports ns) ++ (mark_of (codes ")") ∷ [])) after
+          (record nothing { names = ns })
+  further-read [] turn after =
+      left-out all refl (never (Many T.next_port ∷ []) 11 refl) (symbol-read all (mark_of (codes ")")) refl (omega arith) (ended all 0 0 after))
+  further-read (n ∷ ns) turn after =
+      row-read all {us = tokens_of (further_ports ns) ++ (mark_of (codes ")") ∷ [])} refl row_next (Begins.itself refl)
+        (symbol-read all (mark_of (codes ",")) refl (omega arith)
+          (symbol-read all (Token.name n) refl (omega arith) (ended all 0 0 (front (tokens_of (further_ports ns) ++ (mark_of (codes ")") ∷ [])) after))))
+        (further-read ns 0 after)
+
+  -- the rest of a module behind its port list
+  abbrev pub behind_ports : List Part
+  behind_ports = Term symbol.semicolon ∷ Many T.item ∷ Term symbol.endmodule ∷ []
+
+  ports-read : (ports : List (List ℕ)) (turn : ℕ) (us : List Token) (after : Option ℕ) (m : Parts)
+      → Phrase all 0 0 behind_ports (mark_of (codes ";") ∷ us) after m
+      → Phrase all 0 turn (Maybe T.ports ∷ behind_ports) (tokens_of (ports_layout ports) ++ (mark_of (codes ";") ∷ us)) after
+          (followed (record nothing { names = ports }) m)
+  ports-read [] turn us after m h = left-out all refl (never (Maybe T.ports ∷ []) 13 refl) h
+  ports-read (n ∷ ns) turn us after m h =
+      tokens-are all
+        (ap (λ ts. (mark_of (codes "(") ∷ Token.name n ∷ ts) ++ (mark_of (codes ";") ∷ us)) (sym (tokens-append (further_ports ns) (token (mark_of (codes ")")) ∷ []))))
+        (row-read all refl row_ports (Begins.itself refl)
+          (symbol-read all (mark_of (codes "(")) refl (omega arith)
+            (symbol-read all (Token.name n) refl (omega arith) (further-read ns 0 (Some symbol.semicolon)))) h)
+
+  pub module-read : (v : VModule) → ((i : VItem) → Member v.items i → ItemReads i)
+      → Phrase all 0 0 (Many T.module_head ∷ []) (tokens_of (module_layout v)) None (record nothing { modules = v ∷ [] })
+  module-read v each =
+      let body : List Token = tokens_of (items_layout v.items) ++ (Token.word (codes "endmodule") ∷ []) in
+      tokens-are all (append-nil _ ∙ module-tokens v)
+        (meaning-is all
+          (ap (λ (ns : List (List ℕ)). record nothing { modules = record { name = v.name; ports = ns; items = v.items } ∷ [] }) (append-nil v.ports))
+          (row-read all refl row_module (Begins.itself refl)
+            (symbol-read all (Token.word (codes "module")) refl (omega arith)
+              (symbol-read all (Token.name v.name) refl (omega arith)
+                (ports-read v.ports 0 body None (record nothing { items = v.items })
+                  (symbol-read all (mark_of (codes ";")) refl (omega arith) (items-read v.items 0 None each)))))
+            (left-out all refl (λ b. b) (ended all 0 0 None))))
