@@ -57,7 +57,7 @@ never ps a e b = false≢true (sym e ∙ Firsts.begins-sound table first blank f
 abbrev mark_of : List ℕ → Token
 mark_of bytes = Token.mark bytes
 
-row_text : IsRowOf table T.text 0 (plain T.text (Many T.module_head ∷ []))
+pub row_text : IsRowOf table T.text 0 (plain T.text (Many T.module_head ∷ []))
 row_text = record { is_there = refl; is_of = refl }
 
 row_bound : IsRowOf table T.bound 8 (plain T.bound (Term symbol.decimal ∷ []))
@@ -205,7 +205,7 @@ row_next = record { is_there = refl; is_of = refl }
 row_ports : IsRowOf table T.ports 2 (plain T.ports (Term symbol.left_paren ∷ Term symbol.name ∷ Many T.next_port ∷ Term symbol.right_paren ∷ []))
 row_ports = record { is_there = refl; is_of = refl }
 
-row_module : IsRowOf table T.module_head 1 (plain T.module_head (Term symbol.module_word ∷ Term symbol.name ∷ Maybe T.ports ∷ Term symbol.semicolon ∷ Many T.item ∷ Term symbol.endmodule ∷ []))
+pub row_module : IsRowOf table T.module_head 1 (plain T.module_head (Term symbol.module_word ∷ Term symbol.name ∷ Maybe T.ports ∷ Term symbol.semicolon ∷ Many T.item ∷ Term symbol.endmodule ∷ []))
 row_module = record { is_there = refl; is_of = refl }
 
 -- a range is given by a positive left bound

@@ -13,3 +13,4 @@ pub mod Written
 pub mod engine
 pub mod Phrases
 pub mod Derived
+pub mod ReadsBack

@@ -18,7 +18,7 @@ abbrev pub front : List Token → Option ℕ → Option ℕ
 front [] after = after
 front (t ∷ ts) after = Some (symbol t)
 
-next-front : (text rest : List Nested) (ts : List Token) (after : Option ℕ) → map symbol_of text ≡ map symbol ts → next rest ≡ after
+pub next-front : (text rest : List Nested) (ts : List Token) (after : Option ℕ) → map symbol_of text ≡ map symbol ts → next rest ≡ after
     → next (text ++ rest) ≡ front ts after
 next-front [] rest [] after e h = h
 next-front [] rest (t ∷ ts) after e h = cc

@@ -121,7 +121,7 @@ some-range-on left ps r low high h =
         ∙ decimal-read left ((decimal 0 ++ (93 ∷ 32 ∷ bytes_of ps)) ++ r) low high
         ∙ ap (λ ts. Token.decimal left ∷ Token.mark (codes ":") ∷ ts) (range-digits ps r h))
 
-more-than-one : (w : ℕ) → 1 ≤ w → (w == 1) ≡ false → 0 < w - 1
+pub more-than-one : (w : ℕ) → 1 ≤ w → (w == 1) ≡ false → 0 < w - 1
 more-than-one w low e = grind (arith, nat_tests)
 
 range-on : (w : ℕ) (ps : List Piece) (r : List ℕ) → 1 ≤ w → w ≤ 65536 → ReadsOn ps r → ReadsOn (range_layout (range_of w) ++ ps) r
