@@ -14,3 +14,4 @@ pub mod engine
 pub mod Phrases
 pub mod Derived
 pub mod ReadsBack
+pub mod OneReading
