@@ -6,8 +6,8 @@ use Rattle.sv2v_top.proofs.Names.{true_or_false, pick_true, pick_false}
 pub digit_grows : (n c : ℕ) → n ≤ with_digit n c
 digit_grows n c =
     elim (true_or_false (c == 95)) [
-      inl e ↦ (let same = pick_true (c == 95) n (10 * n + (c - 48)) e in omega arith)
-    | inr e ↦ (let same = pick_false (c == 95) n (10 * n + (c - 48)) e in omega arith)
+      | inl e ↦ (let same = pick_true (c == 95) n (10 * n + (c - 48)) e in omega arith)
+      | inr e ↦ (let same = pick_false (c == 95) n (10 * n + (c - 48)) e in omega arith)
     ]
 
 pub decimal_grows : (text : List ℕ) (n : ℕ) → n ≤ decimal_from n text

@@ -13,3 +13,11 @@ pub mod Building
 pub mod Checks
 pub mod Sound
 pub mod Built
+pub mod Layouts
+pub mod Spelled
+pub mod Written
+pub mod engine
+pub mod Phrases
+pub mod Derived
+pub mod ReadsBack
+pub mod OneReading

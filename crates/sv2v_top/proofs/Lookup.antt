@@ -27,8 +27,8 @@ pub position-kept : (ns : List (List ℕ)) (w q : List ℕ) → among ns q ≡ t
 position-kept [] w q e = absurd (false≢true e)
 position-kept (n ∷ ns) w q e =
     elim (true_or_false (bytes_eq n q)) [
-      inl h ↦ pick_true _ _ _ h ∙ sym (pick_true _ _ _ h)
-    | inr h ↦ pick_false _ _ _ h ∙ ap suc (position-kept ns w q (rest (or_cases _ _ e) h)) ∙ sym (pick_false _ _ _ h)
+      | inl h ↦ pick_true _ _ _ h ∙ sym (pick_true _ _ _ h)
+      | inr h ↦ pick_false _ _ _ h ∙ ap suc (position-kept ns w q (rest (or_cases _ _ e) h)) ∙ sym (pick_false _ _ _ h)
     ]
   where
     rest : (bytes_eq n q ≡ true) ⊎ (among ns q ≡ true) → bytes_eq n q ≡ false → among ns q ≡ true
@@ -43,6 +43,7 @@ position-last (n ∷ ns) w q e h =
     first : (a b : Bool) → (a || b) ≡ false → a ≡ false
     first true b e = absurd (false≢true (sym e))
     first false b e = refl
+
     second : (a b : Bool) → (a || b) ≡ false → b ≡ false
     second true b e = absurd (false≢true (sym e))
     second false b e = e
@@ -51,14 +52,15 @@ position-last (n ∷ ns) w q e h =
 pub number-new : (ns : List (List ℕ)) (w q : List ℕ) → among ns w ≡ false → first_number (ns ++ w ∷ []) q ≡ cond (bytes_eq w q) (Some (length ns)) (first_number ns q)
 number-new ns w q fresh =
     elim (true_or_false (bytes_eq w q)) [
-      inl h ↦ (let old : among ns q ≡ false = subst (λ x. among ns x ≡ false) (bytes_same w q h) fresh in
-        pick_true _ _ _ (among-more ns w q ∙ or_right (among ns q) _ h) ∙ ap Some (position-last ns w q old h) ∙ ap (λ b. cond b (Some (length ns)) (first_number ns q)) (sym h))
-    | inr h ↦ by_old h (true_or_false (among ns q)) ∙ ap (λ b. cond b (Some (length ns)) (first_number ns q)) (sym h)
+      | inl h ↦ (let old : among ns q ≡ false = subst (λ x. among ns x ≡ false) (bytes_same w q h) fresh in
+          pick_true _ _ _ (among-more ns w q ∙ or_right (among ns q) _ h) ∙ ap Some (position-last ns w q old h) ∙ ap (λ b. cond b (Some (length ns)) (first_number ns q)) (sym h))
+      | inr h ↦ by_old h (true_or_false (among ns q)) ∙ ap (λ b. cond b (Some (length ns)) (first_number ns q)) (sym h)
     ]
   where
     neither : (a b : Bool) → a ≡ false → b ≡ false → (a || b) ≡ false
     neither true b e f = absurd (false≢true (sym e))
     neither false b e f = f
+
     by_old : bytes_eq w q ≡ false → (among ns q ≡ true) ⊎ (among ns q ≡ false) → first_number (ns ++ w ∷ []) q ≡ first_number ns q
     by_old h (inl e) = pick_true _ _ _ (among-more ns w q ∙ or_left _ _ e) ∙ ap Some (position-kept ns w q e) ∙ sym (pick_true _ _ _ e)
     by_old h (inr e) = pick_false _ _ _ (among-more ns w q ∙ neither _ _ e h) ∙ sym (pick_false _ _ _ e)
@@ -67,18 +69,19 @@ number-new ns w q fresh =
 pub number-old : (ns : List (List ℕ)) (w q : List ℕ) → among ns w ≡ true → first_number (ns ++ w ∷ []) q ≡ first_number ns q
 number-old ns w q old =
     elim (true_or_false (among ns q)) [
-      inl e ↦ pick_true _ _ _ (among-more ns w q ∙ or_left _ _ e) ∙ ap Some (position-kept ns w q e) ∙ sym (pick_true _ _ _ e)
-    | inr e ↦ pick_false _ _ _ (among-more ns w q ∙ neither _ _ e (other e)) ∙ sym (pick_false _ _ _ e)
+      | inl e ↦ pick_true _ _ _ (among-more ns w q ∙ or_left _ _ e) ∙ ap Some (position-kept ns w q e) ∙ sym (pick_true _ _ _ e)
+      | inr e ↦ pick_false _ _ _ (among-more ns w q ∙ neither _ _ e (other e)) ∙ sym (pick_false _ _ _ e)
     ]
   where
     neither : (a b : Bool) → a ≡ false → b ≡ false → (a || b) ≡ false
     neither true b e f = absurd (false≢true (sym e))
     neither false b e f = f
+
     other : among ns q ≡ false → bytes_eq w q ≡ false
     other e =
         elim (true_or_false (bytes_eq w q)) [
-          inr h ↦ h
-        | inl h ↦ absurd (false≢true (sym (subst (λ x. among ns x ≡ false) (sym (bytes_same w q h)) e) ∙ old))
+          | inr h ↦ h
+          | inl h ↦ absurd (false≢true (sym (subst (λ x. among ns x ≡ false) (sym (bytes_same w q h)) e) ∙ old))
         ]
 
 -- whether the table has a name
@@ -123,7 +126,7 @@ pub distinct-new : (ns : List (List ℕ)) (w : List ℕ) → among ns w ≡ fals
 distinct-new [] w e = refl
 distinct-new (n ∷ ns) w e =
     (λ i. not (among-more ns w n i) && distinct-new ns w (or-false-right _ _ e) i)
-      ∙ ap (λ b. not b && distinct ns) (apart (among ns n) (bytes_eq w n) (bytes_eq-swap w n ∙ or-false-left _ _ e))
+    ∙ ap (λ b. not b && distinct ns) (apart (among ns n) (bytes_eq w n) (bytes_eq-swap w n ∙ or-false-left _ _ e))
   where
     apart : (a b : Bool) → b ≡ false → (a || b) ≡ a
     apart true b e = refl
@@ -133,8 +136,8 @@ pub distinct-old : (ns : List (List ℕ)) (w : List ℕ) → among ns w ≡ true
 distinct-old [] w e = absurd (false≢true e)
 distinct-old (n ∷ ns) w e =
     elim (or_cases (bytes_eq n w) (among ns w) e) [
-      inl h ↦ ap (λ b. not b && distinct (ns ++ w ∷ [])) (among-more ns w n ∙ or_right (among ns n) _ (bytes_eq-swap w n ∙ h))
-    | inr h ↦ ap (λ b. not (among (ns ++ w ∷ []) n) && b) (distinct-old ns w h) ∙ never (not (among (ns ++ w ∷ []) n))
+      | inl h ↦ ap (λ b. not b && distinct (ns ++ w ∷ [])) (among-more ns w n ∙ or_right (among ns n) _ (bytes_eq-swap w n ∙ h))
+      | inr h ↦ ap (λ b. not (among (ns ++ w ∷ []) n) && b) (distinct-old ns w h) ∙ never (not (among (ns ++ w ∷ []) n))
     ]
   where
     never : (b : Bool) → (b && false) ≡ false

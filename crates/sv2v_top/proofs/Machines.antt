@@ -89,9 +89,9 @@ kind-found d t kind n is =
       number = ap (number_of (map (net_of is_input) d.signals)) named ∙ number-found is_input d.signals t.names n is.signal is.is_there;
       width =
           ap (width_named (map (net_of is_input) d.signals)) named
-            ∙ width-found is_input d.signals t.names n is.signal is.is_there
-            ∙ range_keeps is.signal.width (t.widths is.signal (member-at d.signals n is.signal is.is_there))
-            ∙ sym wide
+          ∙ width-found is_input d.signals t.names n is.signal is.is_there
+          ∙ range_keeps is.signal.width (t.widths is.signal (member-at d.signals n is.signal is.is_there))
+          ∙ sym wide;
     }
 
 module _ (signals : List Signal) (ns : List Net) where
@@ -128,17 +128,17 @@ module _ (signals : List Signal) (ns : List Net) where
 
   pub expr-same : (x : Expr) → AllFound (expr_signals x) → SameExpr x
   expr-same (Single a) f = record {
-      reads = reads-found a.primary f;
-      width = width-kept a.primary f;
-      value = λ v w. ap (inverted_if a.inverted) (value-kept v w a.primary f)
-    }
+    reads = reads-found a.primary f;
+    width = width-kept a.primary f;
+    value = λ v w. ap (inverted_if a.inverted) (value-kept v w a.primary f);
+  }
   expr-same (Binary op a b) f =
       let fa : AllFound (primary_signals a.primary) = λ n m. f n (member-left _ _ n m) in
       let fb : AllFound (primary_signals b.primary) = λ n m. f n (member-right (primary_signals a.primary) _ n m) in
       record {
         reads = places-append _ _ ∙ (λ i. reads-found a.primary fa i ++ reads-found b.primary fb i);
         width = λ i. max (width-kept a.primary fa i) (width-kept b.primary fb i);
-        value = λ v w. λ i. binary_value op false (inverted_if a.inverted (value-kept v w a.primary fa i)) (inverted_if b.inverted (value-kept v w b.primary fb i))
+        value = λ v w. λ i. binary_value op false (inverted_if a.inverted (value-kept v w a.primary fa i)) (inverted_if b.inverted (value-kept v w b.primary fb i));
       }
 
   pub process-same : (p : Process) → Found signals ns p.target → AllFound (expr_signals p.value) → Target.process_of ns (driver_of signals p) ≡ Source.process_of signals p
@@ -154,7 +154,7 @@ module _ (signals : List Signal) (ns : List Net) where
         waits_for = [];
         reads = without (own i) (reads i);
         writes = own i;
-        assigns = λ v. assigned (t.number i) (t.width i) (ext (t.width i) false (value v (max (t.width i) (wide i)) i))
+        assigns = λ v. assigned (t.number i) (t.width i) (ext (t.width i) false (value v (max (t.width i) (wide i)) i));
       }
 
 -- the inputs are the same
@@ -166,7 +166,7 @@ inputs-same n (s ∷ signals) wide =
   where
     one : (n : ℕ) (path : List ℕ) (width : ℕ) (kind : SignalKind) → 1 ≤ width →
         (let s : Signal = record { path = path; width = width; kind = kind } in
-          cond (is_input s) (places_of n (net_of is_input s).width) [] ≡ Source.input_places n s)
+        cond (is_input s) (places_of n (net_of is_input s).width) [] ≡ Source.input_places n s)
     one n path width InputNet h = ap (places_of n) (range_keeps width h)
     one n path width OutputVar h = refl
 
@@ -182,27 +182,29 @@ unfolding has
 output-at n [] wide q e = absurd (false≢true e)
 output-at n (s ∷ signals) wide q e =
     elim (or_cases _ _ (sym (has-append (others_of s) (Target.others_from (suc n) (map (net_of is_input) signals)) q) ∙ e)) [
-      inl h ↦ here s.path s.width s.kind (wide s (inl refl)) h
-    | inr h ↦ behind (output-at (suc n) signals (λ x m. wide x (inr m)) q h)
+      | inl h ↦ here s.path s.width s.kind (wide s (inl refl)) h
+      | inr h ↦ behind (output-at (suc n) signals (λ x m. wide x (inr m)) q h)
     ]
   where
     others_of : Signal → List Place
     others_of s = cond (is_input s) [] (places_of n (net_of is_input s).width)
+
     here : (path : List ℕ) (width : ℕ) (kind : SignalKind) → 1 ≤ width →
         (let s : Signal = record { path = path; width = width; kind = kind } in
-          has (cond (is_input s) [] (places_of n (net_of is_input s).width)) q ≡ true → OutputAt (s ∷ signals) n q)
+        has (cond (is_input s) [] (places_of n (net_of is_input s).width)) q ≡ true → OutputAt (s ∷ signals) n q)
     here path width InputNet w h = absurd (false≢true h)
     here path width OutputVar w h = record {
-        number = 0;
-        is_output = record { signal = record { path = path; width = width; kind = OutputVar }; is_there = refl; is_kind = refl };
-        is_at = subst (λ k. has (places_of k width) q ≡ true) (omega arith) (ap (λ k. has (places_of n k) q) (sym (range_keeps width w)) ∙ h)
-      }
+      number = 0;
+      is_output = record { signal = record { path = path; width = width; kind = OutputVar }; is_there = refl; is_kind = refl };
+      is_at = subst (λ k. has (places_of k width) q ≡ true) (omega arith) (ap (λ k. has (places_of n k) q) (sym (range_keeps width w)) ∙ h);
+    }
+
     behind : OutputAt signals (suc n) q → OutputAt (s ∷ signals) n q
     behind o = record {
-        number = suc o.number;
-        is_output = record { signal = o.is_output.signal; is_there = o.is_output.is_there; is_kind = o.is_output.is_kind };
-        is_at = subst (λ k. has (places_of k (Source.width_of signals o.number)) q ≡ true) (omega arith) o.is_at
-      }
+      number = suc o.number;
+      is_output = record { signal = o.is_output.signal; is_there = o.is_output.is_there; is_kind = o.is_output.is_kind };
+      is_at = subst (λ k. has (places_of k (Source.width_of signals o.number)) q ≡ true) (omega arith) o.is_at;
+    }
 
 module _ (d : Design) (t : Translatable d) where
   abbrev pub ns : List Net
@@ -223,7 +225,7 @@ module _ (d : Design) (t : Translatable d) where
   pub written-by : (q : Place) (p : Process) → Member d.processes p → has (places_of p.target (Source.width_of d.signals p.target)) q ≡ true → written q ≡ true
   written-by q p m h =
       member-any _ (map (driver_of d.signals) d.processes) (driver_of d.signals p) (member-map (driver_of d.signals) d.processes p m)
-        (ap (λ ps. has ps q) (places-found d.signals ns p.target (target-found p m)) ∙ h)
+      (ap (λ ps. has ps q) (places-found d.signals ns p.target (target-found p m)) ∙ h)
 
   pub output-written : (n : ℕ) (q : Place) → has (places_of n (Source.width_of d.signals n)) q ≡ true → Member as_targets n → written q ≡ true
   output-written n q h m =
@@ -238,10 +240,10 @@ module _ (d : Design) (t : Translatable d) where
   pub rest-same : (q : Place) → Target.rest_of ns (map (driver_of d.signals) d.processes) q ≡ X
   rest-same q =
       elim (true_or_false (has (Target.others_from 0 ns) q)) [
-        inr h ↦ ap (λ b. cond (b && not (written q)) Z X) h
-      | inl h ↦ (let o = output-at 0 d.signals t.widths q h in
-          let w : written q ≡ true = output-written o.number q (subst (λ k. has (places_of k (Source.width_of d.signals o.number)) q ≡ true) (omega arith) o.is_at) (t.driven o.number o.is_output) in
-          ap (λ b. cond (has (Target.others_from 0 ns) q && not b) Z X) w ∙ never_z (has (Target.others_from 0 ns) q))
+        | inr h ↦ ap (λ b. cond (b && not (written q)) Z X) h
+        | inl h ↦ (let o = output-at 0 d.signals t.widths q h in
+            let w : written q ≡ true = output-written o.number q (subst (λ k. has (places_of k (Source.width_of d.signals o.number)) q ≡ true) (omega arith) o.is_at) (t.driven o.number o.is_output) in
+            ap (λ b. cond (has (Target.others_from 0 ns) q && not b) Z X) w ∙ never_z (has (Target.others_from 0 ns) q))
       ]
 
   pub combs-same : (ps : List Process) → ((p : Process) → Member ps p → Member d.processes p)
@@ -249,22 +251,22 @@ module _ (d : Design) (t : Translatable d) where
   combs-same [] among = refl
   combs-same (p ∷ ps) among =
       λ i. process-same d.signals ns p (target-found p (among p (inl refl))) (operands-found p (among p (inl refl))) i
-        ∷ combs-same ps (λ x m. among x (inr m)) i
+      ∷ combs-same ps (λ x m. among x (inr m)) i
 
   pub machines-same : Target.machine_of ns (map (driver_of d.signals) d.processes) ≡ Source.machine d
   machines-same = λ i. record {
-      combs = combs-same d.processes (λ p m. m) i;
-      edges = [];
-      inputs = inputs-same 0 d.signals t.widths i;
-      registers = [];
-      initial = λ q. X;
-      start = λ q. X;
-      rest = λ q. rest-same q i
-    }
+    combs = combs-same d.processes (λ p m. m) i;
+    edges = [];
+    inputs = inputs-same 0 d.signals t.widths i;
+    registers = [];
+    initial = λ q. X;
+    start = λ q. X;
+    rest = λ q. rest-same q i;
+  }
 
   -- the target design of a design has the design's machine
   pub target-machine : Target.machine (lowered d) d.top ≡ Source.machine d
   target-machine =
       ap (λ items. Target.machine_of (nets items) (drivers items)) (pick_true (bytes_eq d.top d.top) _ _ (same_bytes d.top))
-        ∙ (λ i. Target.machine_of (nets-of d.signals d.signals d.processes i) (drivers-of d.signals d.signals d.processes i))
-        ∙ machines-same
+      ∙ (λ i. Target.machine_of (nets-of d.signals d.signals d.processes i) (drivers-of d.signals d.signals d.processes i))
+      ∙ machines-same

@@ -49,19 +49,19 @@ module _ (signals : List Signal) where
   -- what an operand means by its names
   abbrev pub operand_meaning : Bool → Primary → Meaning
   operand_meaning inverted p = record {
-      width = λ widths. primary_width (λ n. widths (name n)) p;
-      names = map name (primary_signals p);
-      value = λ held w. inverted_if inverted (primary_value (λ n. held (name n)) w p)
-    }
+    width = λ widths. primary_width (λ n. widths (name n)) p;
+    names = map name (primary_signals p);
+    value = λ held w. inverted_if inverted (primary_value (λ n. held (name n)) w p);
+  }
 
   -- what an expression means by its names
   abbrev pub named_meaning : Expr → Meaning
   named_meaning (D.Single a) = operand_meaning a.inverted a.primary
   named_meaning (D.Binary op a b) = record {
-      width = λ widths. max (primary_width (λ n. widths (name n)) a.primary) (primary_width (λ n. widths (name n)) b.primary);
-      names = map name (primary_signals a.primary) ++ map name (primary_signals b.primary);
-      value = λ held w. binary_value op false (operand_value (λ n. held (name n)) w a) (operand_value (λ n. held (name n)) w b)
-    }
+    width = λ widths. max (primary_width (λ n. widths (name n)) a.primary) (primary_width (λ n. widths (name n)) b.primary);
+    names = map name (primary_signals a.primary) ++ map name (primary_signals b.primary);
+    value = λ held w. binary_value op false (operand_value (λ n. held (name n)) w a) (operand_value (λ n. held (name n)) w b);
+  }
 
   pub primary-means : (p : Primary) → prim_means (lowered_primary signals p) ≡ operand_meaning false p
   primary-means (P.Signal n) = name-means (name n)
@@ -79,5 +79,5 @@ module _ (signals : List Signal) where
   lowered-means (D.Single a) = alone-means a.inverted a.primary
   lowered-means (D.Binary op a b) =
       binary-means op _ _
-        ∙ ap (λ m. expr_meaning (VExpr-F.Binary op m (prim_means (lowered_operand signals b)))) (operand-means a.inverted a.primary)
-        ∙ ap (λ m. expr_meaning (VExpr-F.Binary op (operand_meaning a.inverted a.primary) m)) (operand-means b.inverted b.primary)
+      ∙ ap (λ m. expr_meaning (VExpr-F.Binary op m (prim_means (lowered_operand signals b)))) (operand-means a.inverted a.primary)
+      ∙ ap (λ m. expr_meaning (VExpr-F.Binary op (operand_meaning a.inverted a.primary) m)) (operand-means b.inverted b.primary)

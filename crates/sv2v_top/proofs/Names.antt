@@ -66,8 +66,8 @@ pick_false false x y e = refl
 pub first_differs : (n : List ℕ) (names : List (List ℕ)) (name : List ℕ) → not (among names n) ≡ true → Member names name → bytes_eq n name ≡ false
 first_differs n names name fresh m =
     elim (true_or_false (bytes_eq n name)) [
-      inr h ↦ h
-    | inl h ↦ absurd (false≢true (sym (not_true _ fresh) ∙ among-member names n (subst (λ x. Member names x) (sym (bytes_same n name h)) m)))
+      | inr h ↦ h
+      | inl h ↦ absurd (false≢true (sym (not_true _ fresh) ∙ among-member names n (subst (λ x. Member names x) (sym (bytes_same n name h)) m)))
     ]
 
 -- the look-up finds each signal by its name, where the names are distinct
@@ -80,7 +80,7 @@ number-found input (t ∷ ts) d zero s e =
 number-found input (t ∷ ts) d (suc n) s e =
     let parts = and_parts _ _ d in
     pick_false (bytes_eq t.path s.path) 0 _ (first_differs t.path (map path ts) s.path parts.0 (member-map path ts s (member-at ts n s e)))
-      ∙ ap suc (number-found input ts parts.1 n s e)
+    ∙ ap suc (number-found input ts parts.1 n s e)
 
 pub width-found : (input : Signal → Bool) (signals : List Signal) → distinct (map path signals) ≡ true
     → (n : ℕ) (s : Signal) → slice_get signals n ≡ Some s → width_named (map (net_of input) signals) s.path ≡ bits_of_range (range_of s.width)
@@ -88,18 +88,18 @@ width-found input [] d n s e = cc
 width-found input (t ∷ ts) d zero s e =
     let same : t ≡ s = cc in
     pick_true (bytes_eq t.path s.path) _ _ (subst (λ x. bytes_eq t.path x ≡ true) (ap path same) (same_bytes t.path))
-      ∙ ap (λ (x : Signal). bits_of_range (range_of x.width)) same
+    ∙ ap (λ (x : Signal). bits_of_range (range_of x.width)) same
 width-found input (t ∷ ts) d (suc n) s e =
     let parts = and_parts _ _ d in
     pick_false (bytes_eq t.path s.path) _ _ (first_differs t.path (map path ts) s.path parts.0 (member-map path ts s (member-at ts n s e)))
-      ∙ width-found input ts parts.1 n s e
+    ∙ width-found input ts parts.1 n s e
 
 -- a declared range gives back the width
 pub range_keeps : (w : ℕ) → 1 ≤ w → bits_of_range (range_of w) ≡ w
 range_keeps w h = elim (true_or_false (w == 1)) [
-      inl e ↦ ap bits_of_range (pick_true (w == 1) _ _ e) ∙ sym (eqb-true w 1 e)
-    | inr e ↦ ap bits_of_range (pick_false (w == 1) _ _ e) ∙ omega arith
-    ]
+  | inl e ↦ ap bits_of_range (pick_true (w == 1) _ _ e) ∙ sym (eqb-true w 1 e)
+  | inr e ↦ ap bits_of_range (pick_false (w == 1) _ _ e) ∙ omega arith
+]
 
 pub append-nil : {A : Type 0} (xs : List A) → xs ++ [] ≡ xs
 append-nil [] = refl

@@ -24,8 +24,8 @@ unfolding has
 has-signal n k zero q e = absurd (false≢true e)
 has-signal n k (suc w) q e =
     elim (or_cases (is_place (record { signal = n; bit = k }) q) (has (places_from n (suc k) w) q) e) [
-      inl h ↦ sym (eqb-true n q.signal (and_parts _ _ h).0)
-    | inr h ↦ has-signal n (suc k) w q h
+      | inl h ↦ sym (eqb-true n q.signal (and_parts _ _ h).0)
+      | inr h ↦ has-signal n (suc k) w q h
     ]
 
 -- and each of its bits is among them
@@ -34,8 +34,8 @@ unfolding has
 has-place n k zero q s low high = absurd (omega arith)
 has-place n k (suc w) q s low high =
     elim (true_or_false (k == q.bit)) [
-      inl h ↦ or_left _ _ (λ i. eq-eqb n q.signal (sym s) i && h i)
-    | inr h ↦ or_right (is_place (record { signal = n; bit = k }) q) _ (has-place n (suc k) w q s (below h) (omega arith))
+      | inl h ↦ or_left _ _ (λ i. eq-eqb n q.signal (sym s) i && h i)
+      | inr h ↦ or_right (is_place (record { signal = n; bit = k }) q) _ (has-place n (suc k) w q s (below h) (omega arith))
     ]
   where
     below : (k == q.bit) ≡ false → suc k ≤ q.bit
@@ -45,10 +45,10 @@ has-place n k (suc w) q s low high =
 pub assigned-within : (n w : ℕ) (bits : List Bit4) (q : Place) → has (places_of n w) q ≡ false → assigned n w bits q ≡ None
 assigned-within n w bits q e =
     elim (true_or_false ((q.signal == n) && nat_lt q.bit w)) [
-      inr h ↦ pick_false _ _ _ h
-    | inl h ↦ (let parts = and_parts _ _ h in
-        let at : has (places_of n w) q ≡ true = has-place n 0 w q (eqb-true q.signal n parts.0) (omega arith) (inside (ltb-true q.bit w parts.1)) in
-        absurd (false≢true (sym e ∙ at)))
+      | inr h ↦ pick_false _ _ _ h
+      | inl h ↦ (let parts = and_parts _ _ h in
+          let at : has (places_of n w) q ≡ true = has-place n 0 w q (eqb-true q.signal n parts.0) (omega arith) (inside (ltb-true q.bit w parts.1)) in
+          absurd (false≢true (sym e ∙ at)))
     ]
   where
     inside : q.bit < w → q.bit < 0 + w
@@ -60,20 +60,21 @@ unfolding has
 vectors-same v u n k zero same = refl
 vectors-same v u n k (suc w) same =
     λ i. same (record { signal = n; bit = k }) (or_left _ _ (λ j. eq-eqb n n refl j && eq-eqb k k refl j)) i
-      ∷ vectors-same v u n (suc k) w (λ q h. same q (or_right (is_place (record { signal = n; bit = k }) q) _ h)) i
+    ∷ vectors-same v u n (suc k) w (λ q h. same q (or_right (is_place (record { signal = n; bit = k }) q) _ h)) i
 
 pub has-without : (own places : List Place) (q : Place) → has places q ≡ true → has own q ≡ false → has (without own places) q ≡ true
 unfolding has
 has-without own [] q e f = e
 has-without own (p ∷ ps) q e f =
     elim (or_cases (is_place p q) (has ps q) e) [
-      inl h ↦ kept (has own p) (without own ps) (ap (has own) (is_place-true p q h) ∙ f) h
-    | inr h ↦ later (has own p) (without own ps) (has-without own ps q h f)
+      | inl h ↦ kept (has own p) (without own ps) (ap (has own) (is_place-true p q h) ∙ f) h
+      | inr h ↦ later (has own p) (without own ps) (has-without own ps q h f)
     ]
   where
     kept : (b : Bool) (rest : List Place) → b ≡ false → is_place p q ≡ true → has (cond (not b) (p ∷ rest) rest) q ≡ true
     kept true rest b h = absurd (false≢true (sym b))
     kept false rest b h = or_left _ _ h
+
     later : (b : Bool) (rest : List Place) → has rest q ≡ true → has (cond (not b) (p ∷ rest) rest) q ≡ true
     later true rest h = h
     later false rest h = or_right (is_place p q) _ h
@@ -87,6 +88,6 @@ has-without-only own (p ∷ ps) q e = pick (λ h. has-without-only own ps q h) (
     pick more true h = or_right (is_place p q) _ (more h)
     pick more false h =
         elim (or_cases (is_place p q) (has (without own ps) q) h) [
-          inl k ↦ or_left _ _ k
-        | inr k ↦ or_right (is_place p q) _ (more k)
+          | inl k ↦ or_left _ _ k
+          | inr k ↦ or_right (is_place p q) _ (more k)
         ]

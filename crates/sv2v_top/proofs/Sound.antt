@@ -33,6 +33,7 @@ one-kind signals n i o =
   where
     differ : InputNet ≡ OutputVar → ⊥
     differ e = cc
+
     some-same : (a b : Signal) → Some a ≡ Some b → a ≡ b
     some-same a b e = cc
 
@@ -46,8 +47,8 @@ pub expr-read : (signals : List Signal) (x : Expr) (q : Place) → has (Source.e
 expr-read signals (Single a) q e = primary-read signals a.primary q e
 expr-read signals (Binary op a b) q e =
     elim (or_cases _ _ (sym (has-append (Source.primary_reads signals a.primary) (Source.primary_reads signals b.primary) q) ∙ e)) [
-      inl h ↦ member-left _ _ _ (primary-read signals a.primary q h)
-    | inr h ↦ member-right (primary_signals a.primary) _ _ (primary-read signals b.primary q h)
+      | inl h ↦ member-left _ _ _ (primary-read signals a.primary q h)
+      | inr h ↦ member-right (primary_signals a.primary) _ _ (primary-read signals b.primary q h)
     ]
 
 -- and each place of a signal that it reads is one that it reads
@@ -60,10 +61,10 @@ pub expr-reads : (signals : List Signal) (x : Expr) (n : ℕ) (q : Place) → Me
 expr-reads signals (Single a) n q m h = primary-reads signals a.primary n q m h
 expr-reads signals (Binary op a b) n q m h =
     has-append (Source.primary_reads signals a.primary) (Source.primary_reads signals b.primary) q
-      ∙ elim (member-split (primary_signals a.primary) (primary_signals b.primary) n m) [
-          inl k ↦ or_left _ _ (primary-reads signals a.primary n q k h)
-        | inr k ↦ or_right (has (Source.primary_reads signals a.primary) q) _ (primary-reads signals b.primary n q k h)
-        ]
+    ∙ elim (member-split (primary_signals a.primary) (primary_signals b.primary) n m) [
+      | inl k ↦ or_left _ _ (primary-reads signals a.primary n q k h)
+      | inr k ↦ or_right (has (Source.primary_reads signals a.primary) q) _ (primary-reads signals b.primary n q k h)
+    ]
 
 -- the value of an expression hangs on the signals that it reads
 pub primary-hangs : (held held' : ℕ → List Bit4) (w : ℕ) (p : Primary) → ((n : ℕ) → Member (primary_signals p) n → held n ≡ held' n) → primary_value held w p ≡ primary_value held' w p
@@ -74,8 +75,8 @@ pub value-hangs : (held held' : ℕ → List Bit4) (w : ℕ) (x : Expr) → ((n 
 value-hangs held held' w (Single a) same = ap (inverted_if a.inverted) (primary-hangs held held' w a.primary same)
 value-hangs held held' w (Binary op a b) same =
     λ i. binary_value op false
-      (inverted_if a.inverted (primary-hangs held held' w a.primary (λ n m. same n (member-left _ _ n m)) i))
-      (inverted_if b.inverted (primary-hangs held held' w b.primary (λ n m. same n (member-right (primary_signals a.primary) _ n m)) i))
+    (inverted_if a.inverted (primary-hangs held held' w a.primary (λ n m. same n (member-left _ _ n m)) i))
+    (inverted_if b.inverted (primary-hangs held held' w b.primary (λ n m. same n (member-right (primary_signals a.primary) _ n m)) i))
 
 module _ (d : Design) (t : Translatable d) where
   -- the bits of an operand aren't written by a process
@@ -83,27 +84,28 @@ module _ (d : Design) (t : Translatable d) where
       → has (places_of q.target (Source.width_of d.signals q.target)) r ≡ true → ⊥
   operand-apart p q mp mq r m h =
       one-kind d.signals r.signal (t.operands p mp r.signal m)
-        (subst (λ n. IsOfKind d.signals OutputVar n) (sym (has-signal q.target 0 (Source.width_of d.signals q.target) r h)) (t.targets q mq))
+      (subst (λ n. IsOfKind d.signals OutputVar n) (sym (has-signal q.target 0 (Source.width_of d.signals q.target) r h)) (t.targets q mq))
 
   pub process-honest : (p : Process) → Member d.processes p → Honest (Source.process_of d.signals p)
   process-honest p m = record {
-      by_reads = λ v u same q. ap (λ bits. assigned p.target w bits q) (driven-same v u same);
-      within = λ v q h. assigned-within p.target w (Source.driven d.signals p v) q h
-    }
+    by_reads = λ v u same q. ap (λ bits. assigned p.target w bits q) (driven-same v u same);
+    within = λ v q h. assigned-within p.target w (Source.driven d.signals p v) q h;
+  }
     where
       w : ℕ
       w = Source.width_of d.signals p.target
+
       driven-same : (v u : Valuation) → ((q : Place) → has (without (places_of p.target (Source.width_of d.signals p.target)) (Source.expr_reads d.signals p.value)) q ≡ true → v q ≡ u q) → Source.driven d.signals p v ≡ Source.driven d.signals p u
       driven-same v u same =
           ap (λ bits. ext (Source.width_of d.signals p.target) false bits)
-            (value-hangs (Source.held_at d.signals v) (Source.held_at d.signals u) (max (Source.width_of d.signals p.target) (width_alone (Source.width_of d.signals) p.value)) p.value
-              (λ n k. vectors-same v u n 0 (Source.width_of d.signals n) (λ q h. same q (has-without _ _ q (expr-reads d.signals p.value n q k h) (apart n q k h)))))
+          (value-hangs (Source.held_at d.signals v) (Source.held_at d.signals u) (max (Source.width_of d.signals p.target) (width_alone (Source.width_of d.signals) p.value)) p.value
+          (λ n k. vectors-same v u n 0 (Source.width_of d.signals n) (λ q h. same q (has-without _ _ q (expr-reads d.signals p.value n q k h) (apart n q k h)))))
         where
           apart : (n : ℕ) (q : Place) → Member (expr_signals p.value) n → has (places_of n (Source.width_of d.signals n)) q ≡ true → has (places_of p.target (Source.width_of d.signals p.target)) q ≡ false
           apart n q k h =
               elim (true_or_false (has (places_of p.target (Source.width_of d.signals p.target)) q)) [
-                inr e ↦ e
-              | inl e ↦ absurd (operand-apart p p m m q (subst (λ x. Member (expr_signals p.value) x) (sym (has-signal n 0 (Source.width_of d.signals n) q h)) k) e)
+                | inr e ↦ e
+                | inl e ↦ absurd (operand-apart p p m m q (subst (λ x. Member (expr_signals p.value) x) (sym (has-signal n 0 (Source.width_of d.signals n) q h)) k) e)
               ]
 
   -- no process follows another one
@@ -117,9 +119,9 @@ module _ (d : Design) (t : Translatable d) where
   all-free p m =
       let x = member-unmap (Source.process_of d.signals) d.processes p m in
       free (λ q k e.
-        let y = member-unmap (Source.process_of d.signals) d.processes q k in
-        let first = subst (λ (a : M.Process). follows a q ≡ true) x.2 e in
-        absurd (never-follows x.0 y.0 x.1 y.1 (subst (λ (b : M.Process). follows (Source.process_of d.signals x.0) b ≡ true) y.2 first)))
+      let y = member-unmap (Source.process_of d.signals) d.processes q k in
+      let first = subst (λ (a : M.Process). follows a q ≡ true) x.2 e in
+      absurd (never-follows x.0 y.0 x.1 y.1 (subst (λ (b : M.Process). follows (Source.process_of d.signals x.0) b ≡ true) y.2 first)))
 
   -- no bit has two writers
   pub writers-apart : (ps : List Process) → distinct_numbers (map (λ (p : Process). p.target) ps) → OneWriter (λ (p : M.Process). p.writes) (map (Source.process_of d.signals) ps)
@@ -130,19 +132,19 @@ module _ (d : Design) (t : Translatable d) where
           → (y : Process) × Member ps y × (x ≡ Source.process_of d.signals y) → has x.writes q ≡ false
       other q e x y =
           elim (true_or_false (has (Source.process_of d.signals y.0).writes q)) [
-            inr n ↦ ap (λ (z : M.Process). has z.writes q) y.2 ∙ n
-          | inl n ↦ absurd (h.0 (subst (λ k. Member (map (λ (p : Process). p.target) ps) k)
-              (sym (has-signal y.0.target 0 (Source.width_of d.signals y.0.target) q n) ∙ has-signal p.target 0 (Source.width_of d.signals p.target) q e)
-              (member-map (λ (p : Process). p.target) ps y.0 y.1)))
+            | inr n ↦ ap (λ (z : M.Process). has z.writes q) y.2 ∙ n
+            | inl n ↦ absurd (h.0 (subst (λ k. Member (map (λ (p : Process). p.target) ps) k)
+                (sym (has-signal y.0.target 0 (Source.width_of d.signals y.0.target) q n) ∙ has-signal p.target 0 (Source.width_of d.signals p.target) q e)
+                (member-map (λ (p : Process). p.target) ps y.0 y.1)))
           ]
 
   pub sound : Sound (Source.machine d)
   sound = record {
-      well_written = record {
-        honest = λ p m. (let x = member-unmap (Source.process_of d.signals) d.processes p m in subst Honest (sym x.2) (process-honest x.0 x.1));
-        one_writer = writers-apart d.processes t.one_driver;
-        edges_within = λ p m. elim m [ ];
-        edges_one_writer = tt
-      };
-      all_free = all-free
-    }
+    well_written = record {
+      honest = λ p m. (let x = member-unmap (Source.process_of d.signals) d.processes p m in subst Honest (sym x.2) (process-honest x.0 x.1));
+      one_writer = writers-apart d.processes t.one_driver;
+      edges_within = λ p m. elim m [ ];
+      edges_one_writer = tt;
+    };
+    all_free = all-free;
+  }

@@ -13,7 +13,7 @@ use Rattle.sv2v_top.specs.target.Machine.{held_named}
 abbrev pub Agree : Design → VDesign → Valuation → Valuation → Type 0
 Agree d e v u =
     (n : ℕ) (s : Signal) → slice_get d.signals n ≡ Some s
-      → vector_at v n s.width ≡ held_named (nets (items_of e.modules d.top)) u s.path
+    → vector_at v n s.width ≡ held_named (nets (items_of e.modules d.top)) u s.path
 
 -- Two traces agree if they do so after each row.
 abbrev pub TracesAgree : Design → VDesign → List Valuation → List Valuation → Type 0

@@ -3,3 +3,4 @@ pub mod source
 pub mod target
 pub mod Lowering
 pub mod Agreement
+pub mod Printable

@@ -60,10 +60,10 @@ lowered_process signals p = Assign (name_of signals p.target) (lowered_expr sign
 
 abbrev pub lowered_module : Design → VModule
 lowered_module d = record {
-    name = d.top;
-    ports = map (λ (s : Signal). s.path) d.signals;
-    items = map declaration_of d.signals ++ map (lowered_process d.signals) d.processes
-  }
+  name = d.top;
+  ports = map (λ (s : Signal). s.path) d.signals;
+  items = map declaration_of d.signals ++ map (lowered_process d.signals) d.processes;
+}
 
 abbrev pub lowered : Design → VDesign
 lowered d = record { modules = lowered_module d ∷ [] }

@@ -4,8 +4,10 @@
 mod design;
 mod elab_build;
 mod literals;
+mod lower_design;
 mod package_scope;
 mod sv_build;
 mod sv_tree;
 mod sv_types;
 mod v_tree;
+mod v_writer;

@@ -76,7 +76,8 @@ fn behind(digits: &[u8]) -> &[u8]
 fn bit_digits_only(text: &[u8]) -> bool
     ensures { result ≡ are_bit_digits text.now }
 {
-    text.iter().all(|c| *c == 48 || *c == 49 || *c == 120 || *c == 122)
+    text.iter()
+        .all(|c| *c == 48 || *c == 49 || *c == 120 || *c == 122)
 }
 
 /// Whether the literal has the plain form: a size from 1 to 128, `'b`, and exactly so many of `0 1 x z`.

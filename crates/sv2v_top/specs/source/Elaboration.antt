@@ -57,7 +57,7 @@ process_of names a = record { target = position names a.target.word; value = exp
 
 abbrev pub design_of : Module → Design
 design_of m = record {
-    top = m.name.word;
-    signals = map signal_of (declared m);
-    processes = map (process_of (port_names m)) m.assigns
-  }
+  top = m.name.word;
+  signals = map signal_of (declared m);
+  processes = map (process_of (port_names m)) m.assigns;
+}

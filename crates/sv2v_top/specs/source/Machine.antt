@@ -53,7 +53,7 @@ process_of signals p =
       waits_for = [];
       reads = without own (expr_reads signals p.value);
       writes = own;
-      assigns = λ v. assigned p.target (width_of signals p.target) (driven signals p v)
+      assigns = λ v. assigned p.target (width_of signals p.target) (driven signals p v);
     }
 
 -- the places of a signal, if it is an input
@@ -69,11 +69,11 @@ inputs_from n (s ∷ rest) = input_places n s ++ inputs_from (suc n) rest
 -- (clause 6.8). A variable keeps it where nothing assigns it.
 abbrev pub machine : Design → M.Machine
 machine d = record {
-    combs = map (process_of d.signals) d.processes;
-    edges = [];
-    inputs = inputs_from 0 d.signals;
-    registers = [];
-    initial = λ q. X;
-    start = λ q. X;
-    rest = λ q. X
-  }
+  combs = map (process_of d.signals) d.processes;
+  edges = [];
+  inputs = inputs_from 0 d.signals;
+  registers = [];
+  initial = λ q. X;
+  start = λ q. X;
+  rest = λ q. X;
+}

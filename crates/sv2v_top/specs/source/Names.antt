@@ -33,7 +33,7 @@ abbrev pub declared_from : Direction → Option Range → List Port → List Dec
 declared_from direction range [] = []
 declared_from direction range (p ∷ ports) =
     record { name = p.name; direction = direction_after direction p.head; range = range_after range p.head }
-      ∷ declared_from (direction_after direction p.head) (range_after range p.head) ports
+    ∷ declared_from (direction_after direction p.head) (range_after range p.head) ports
 
 abbrev pub declared : Module → List Declared
 declared m = declared_from Input None m.ports

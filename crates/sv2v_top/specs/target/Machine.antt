@@ -36,7 +36,7 @@ process_of ns a =
       waits_for = [];
       reads = without own (places_named ns (meaning a.value).names);
       writes = own;
-      assigns = λ v. assigned (number_of ns a.target) (width_named ns a.target) (driven_on ns a v)
+      assigns = λ v. assigned (number_of ns a.target) (width_named ns a.target) (driven_on ns a v);
     }
 
 -- the places of the inputs, and those of the other nets, the nets being numbered from n on
@@ -54,14 +54,14 @@ rest_of ns ds q = cond (has (others_from 0 ns) q && not (list_any (λ a. has (pr
 
 abbrev pub machine_of : List Net → List Driver → M.Machine
 machine_of ns ds = record {
-    combs = map (process_of ns) ds;
-    edges = [];
-    inputs = inputs_from 0 ns;
-    registers = [];
-    initial = λ q. X;
-    start = λ q. X;
-    rest = rest_of ns ds
-  }
+  combs = map (process_of ns) ds;
+  edges = [];
+  inputs = inputs_from 0 ns;
+  registers = [];
+  initial = λ q. X;
+  start = λ q. X;
+  rest = rest_of ns ds;
+}
 
 -- the machine of the module with the top's name
 abbrev pub machine : VDesign → Name → M.Machine

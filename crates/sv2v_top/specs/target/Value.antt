@@ -27,10 +27,10 @@ abbrev pub expr_meaning : VExpr-F Meaning Meaning → Meaning
 expr_meaning (VExpr-F.Prim a) = a
 expr_meaning (VExpr-F.Unary op a) = record { width = a.width; names = a.names; value = λ held w. unary_value op (a.value held w) }
 expr_meaning (VExpr-F.Binary op a b) = record {
-    width = λ widths. max (a.width widths) (b.width widths);
-    names = a.names ++ b.names;
-    value = λ held w. binary_value op false (a.value held w) (b.value held w)
-  }
+  width = λ widths. max (a.width widths) (b.width widths);
+  names = a.names ++ b.names;
+  value = λ held w. binary_value op false (a.value held w) (b.value held w);
+}
 
 abbrev pub meaning : VExpr → Meaning
 meaning = fold-VExpr Meaning Meaning expr_meaning prim_meaning

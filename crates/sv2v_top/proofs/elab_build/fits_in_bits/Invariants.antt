@@ -4,6 +4,6 @@ use Rattle.sv2v_top.proofs.elab_build.fits_in_bits.Given as goal
 
 abbrev pub invariant-loop-signal : goal.invariant-loop-signal
 invariant-loop-signal l = record {
-    so_far : l.total + sum (map (λ (s : Signal). s.width) (drop l.signal-index l.signals)) ≡ sum (map (λ (s : Signal). s.width) l.signals);
-    within : l.total ≤ 2 ^ 22
-  }
+  so_far : l.total + sum (map (λ (s : Signal). s.width) (drop l.signal-index l.signals)) ≡ sum (map (λ (s : Signal). s.width) l.signals);
+  within : l.total ≤ 2 ^ 22;
+}

@@ -18,7 +18,7 @@ loop-signal-preserved c =
     let path = c.signal-item.result.path in
     let more = outputs-more c.args.signals.now c.loop-signal.signal-index c.signal-item.result c.loop-signal-test.true c.signal-item.is in
     elim c.match-signal.branch [
-        in-InputNet w ↦ (
+      | in-InputNet w ↦ (
           let same : output_paths (take (c.loop-signal.signal-index + 1) c.args.signals.now) ≡ old ++ [] = more ∙ ap (λ k. old ++ if_output_path k path []) w.in-InputNet.is in
           let kept : Numbers c.match-signal.names old = subst (λ t. Numbers t old) (sym w.names-is) c.loop-signal.invariant in
           subst (λ ns. Numbers c.match-signal.names ns) (sym (same ∙ append-nil old)) kept)
@@ -26,4 +26,4 @@ loop-signal-preserved c =
           let same : output_paths (take (c.loop-signal.signal-index + 1) c.args.signals.now) ≡ old ++ path ∷ [] = more ∙ ap (λ k. old ++ if_output_path k path []) w.in-OutputVar.is in
           let grown : Numbers c.match-signal.names (old ++ path ∷ []) = subst (λ t. Numbers t (old ++ path ∷ [])) (sym w.names-is) (w.in_ok-add-in-OutputVar.ensures old c.loop-signal.invariant) in
           subst (λ ns. Numbers c.match-signal.names ns) (sym same) grown)
-      ]
+    ]

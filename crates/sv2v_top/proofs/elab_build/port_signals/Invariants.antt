@@ -8,6 +8,6 @@ use Rattle.sv2v_top.proofs.elab_build.port_signals.Given as goal
 
 abbrev pub invariant-loop-port : goal.invariant-loop-port
 invariant-loop-port l = record {
-    made : l.signals ++ map signal_of (declared_from l.direction l.range (drop l.port-index l.ports)) ≡ map signal_of (declared_from Input None l.ports);
-    plain : list_all (λ (p : Declared). is_plain_range p.range) (declared_from l.direction l.range (drop l.port-index l.ports)) ≡ ranges_are_plain l.ports
-  }
+  made : l.signals ++ map signal_of (declared_from l.direction l.range (drop l.port-index l.ports)) ≡ map signal_of (declared_from Input None l.ports);
+  plain : list_all (λ (p : Declared). is_plain_range p.range) (declared_from l.direction l.range (drop l.port-index l.ports)) ≡ ranges_are_plain l.ports;
+}
