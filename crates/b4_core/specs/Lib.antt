@@ -1,0 +1,10 @@
+pub mod Bits
+pub mod Vectors
+pub mod Integers
+pub mod Bitwise
+pub mod Unary
+pub mod Binary
+pub mod Power
+pub mod Shift
+pub mod Reduce
+pub mod Compare

@@ -1,0 +1,5 @@
+pub mod Scans
+pub mod Words
+pub mod Skips
+pub mod Unclosed
+pub mod Raw
