@@ -1,8 +1,8 @@
 -- What a pass over the rules does to the marks.
-use Rattle.std.proofs.Common.{◌≡◌, ◌<◌, ◌≤◌, ◌+◌, ◌⊎◌, inl, inr, ◌&&◌, ℕ, zero, suc, List, [], ◌∷◌, ◌++◌, max, Option, Some, None, Bool, true, false, refl, sym, ◌∙◌, ap, subst, slice_get, get_or, set, replicate, length, arith}
-use Rattle.std.proofs.lemmas.List.{get_or-set_same, get_or-set_other, length-set}
+use Rattle.std.proofs.Common.{◌≡◌, ◌<◌, ◌≤◌, ◌+◌, ◌⊎◌, inl, inr, ◌&&◌, ℕ, zero, suc, List, [], ◌∷◌, ◌++◌, max, Some, Bool, true, false, refl, sym, ◌∙◌, ap, subst, slice_get, get_or, set, replicate, length, arith}
+use Rattle.std.proofs.lemmas.List.{get_or-set_other}
 use Rattle.ll_engine.specs.declared.rules.Rule.{Rule}
-use Rattle.ll_engine.specs.Marks.{marked, Has, Holds, Tells, AreMarks, AreWithin, all_marked, unmarked, AreSound, AreClosed, Passes, rule_bound}
+use Rattle.ll_engine.specs.Marks.{marked, Has, Holds, Tells, AreMarks, AreWithin, all_marked, unmarked, AreSound, AreClosed, rule_bound}
 
 pub has_at : {A : Type 0} (xs : List A) (n : ℕ) (d : A) → n < length xs → Has xs (get_or xs n d)
 has_at [] n d h = absurd (omega arith)
@@ -43,7 +43,7 @@ has_all marks [] f = refl
 has_all marks (x ∷ gs) f = rw (f x (inl refl)) (has_all marks gs (λ g h. f g (inr h)))
 
 pub unmarked_set : (marks : List Bool) (n : ℕ) → n < length marks → marked marks n ≡ false
-  → suc (unmarked (set marks n true)) ≡ unmarked marks
+    → suc (unmarked (set marks n true)) ≡ unmarked marks
 unmarked_set [] n h e = absurd (omega arith)
 unmarked_set (true ∷ ms) zero h e = cc
 unmarked_set (false ∷ ms) zero h e = refl
@@ -55,31 +55,32 @@ same_or_not a b = grind arith
 
 -- one mark more
 pub sound_set : (rules : List Rule) (marks : List Bool) (r : Rule) → AreSound rules marks → Has rules r
-  → all_marked marks r.from ≡ true → AreSound rules (set marks r.to true)
+    → all_marked marks r.from ≡ true → AreSound rules (set marks r.to true)
 sound_set rules marks r s h a g e = go (same_or_not g r.to)
   where
-  go : (g ≡ r.to) ⊎ (g ≡ r.to → ⊥) → Holds rules g
-  go (inl f) = Holds.by_rule r h (sym f) (λ k m. s k (all_has marks r.from a k m))
-  go (inr n) = s g (sym (get_or-set_other marks r.to g true false n) ∙ e)
+    go : (g ≡ r.to) ⊎ (g ≡ r.to → ⊥) → Holds rules g
+    go (inl f) = Holds.by_rule r h (sym f) (λ k m. s k (all_has marks r.from a k m))
+    go (inr n) = s g (sym (get_or-set_other marks r.to g true false n) ∙ e)
 
 pub below_suc : {P : ℕ → Type 0} (n : ℕ) → ((i : ℕ) → i < n → P i) → P n → (i : ℕ) → i < suc n → P i
 below_suc {P} n f p i h = go (same_or_not i n)
   where
-  go : (i ≡ n) ⊎ (i ≡ n → ⊥) → P i
-  go (inl e) = subst P (sym e) p
-  go (inr m) = f i (omega arith)
+    go : (i ≡ n) ⊎ (i ≡ n → ⊥) → P i
+    go (inl e) = subst P (sym e) p
+    go (inr m) = f i (omega arith)
 
 pub marks_exact : (rules : List Rule) (marks : List Bool) → AreSound rules marks → AreClosed rules (length rules) marks
-  → AreMarks rules marks
+    → AreMarks rules marks
 marks_exact rules marks s c h = go (marked marks h) refl
   where
-  holds : (g : ℕ) → Holds rules g → marked marks g ≡ true
-  holds g (Holds.by_rule r m e f) =
-    let i = has_index rules r m in
-    subst (λ q. marked marks q ≡ true) e (c i.0 r i.1 i.2 (has_all marks r.from (λ k n. holds k (f k n))))
-  go : (b : Bool) → marked marks h ≡ b → Tells b (Holds rules h)
-  go true e = s h e
-  go false e = λ k. let m = holds h k in cc (m, e)
+    holds : (g : ℕ) → Holds rules g → marked marks g ≡ true
+    holds g (Holds.by_rule r m e f) =
+        let i = has_index rules r m in
+        subst (λ q. marked marks q ≡ true) e (c i.0 r i.1 i.2 (has_all marks r.from (λ k n. holds k (f k n))))
+
+    go : (b : Bool) → marked marks h ≡ b → Tells b (Holds rules h)
+    go true e = s h e
+    go false e = λ k. let m = holds h k in cc (m, e)
 
 pub none_marked : (n h : ℕ) → marked (replicate n false) h ≡ false
 none_marked zero h = refl
@@ -94,31 +95,35 @@ pub record Applied (rules : List Rule) (n : ℕ) (changed : Bool) (old now : Lis
   pub closed : changed ≡ false → AreClosed rules n now
 
 pub step_new : (rules : List Rule) (n : ℕ) (changed : Bool) (old now : List Bool) (r : Rule) → Applied rules n changed old now
-  → Has rules r → all_marked now r.from ≡ true → marked now r.to ≡ false → r.to < length now
-  → Applied rules (suc n) true old (set now r.to true)
+    → Has rules r → all_marked now r.from ≡ true → marked now r.to ≡ false → r.to < length now
+    → Applied rules (suc n) true old (set now r.to true)
 step_new rules n changed old now r a h m e l =
-  let u = unmarked_set now r.to l e in
-  let k = a.no_more in
-  record {
-    sound = λ s. sound_set rules now r (a.sound s) h m;
-    fewer = λ f. omega (arith, u, k);
-    no_more = omega (arith, u, k);
-    closed = λ f. cc }
+    let u = unmarked_set now r.to l e in
+    let k = a.no_more in
+    record {
+      sound = λ s. sound_set rules now r (a.sound s) h m;
+      fewer = λ f. omega (arith, u, k);
+      no_more = omega (arith, u, k);
+      closed = λ f. cc;
+    }
 
 pub step_old : (rules : List Rule) (n : ℕ) (changed : Bool) (old now : List Bool) (r : Rule) → Applied rules n changed old now
-  → slice_get rules n ≡ Some r → (all_marked now r.from ≡ true → marked now r.to ≡ true)
-  → Applied rules (suc n) changed old now
+    → slice_get rules n ≡ Some r → (all_marked now r.from ≡ true → marked now r.to ≡ true)
+    → Applied rules (suc n) changed old now
 step_old rules n changed old now r a g f = record {
-  sound = a.sound; fewer = a.fewer; no_more = a.no_more;
+  sound = a.sound;
+  fewer = a.fewer;
+  no_more = a.no_more;
   closed = λ e. λ i s h w m. below_suc {P = λ j. (q : Rule) → slice_get rules j ≡ Some q → all_marked now q.from ≡ true → marked now q.to ≡ true} n
-    (λ j l q b c. a.closed e j q l b c)
-    (λ q b c.
+      (λ j l q b c. a.closed e j q l b c)
+      (λ q b c.
       let same : r ≡ q = some_same (g) b in
       subst (λ z. marked now z.to ≡ true) same (f (subst (λ z. all_marked now z.from ≡ true) (sym same) c)))
-    i h s w m }
+      i h s w m;
+}
   where
-  some_same : {q : Rule} → slice_get rules n ≡ Some r → slice_get rules n ≡ Some q → r ≡ q
-  some_same x y = cc
+    some_same : {q : Rule} → slice_get rules n ≡ Some r → slice_get rules n ≡ Some q → r ≡ q
+    some_same x y = cc
 
 bound_grows : (rs : List Rule) (n : ℕ) → n ≤ rule_bound rs n
 bound_grows [] n = omega arith
@@ -127,16 +132,16 @@ bound_grows (r ∷ rs) n = let h = bound_grows rs (max n (r.to + 1)) in omega (a
 within_bound : (rs : List Rule) (n : ℕ) (r : Rule) → Has rs r → r.to < rule_bound rs n
 within_bound [] n r h = absurd h
 within_bound (x ∷ rs) n r (inl e) =
-  let h = bound_grows rs (max n (x.to + 1)) in
-  let f : x.to ≡ r.to = ap (λ q. q.to) e in
-  omega (arith, h, f)
+    let h = bound_grows rs (max n (x.to + 1)) in
+    let f : x.to ≡ r.to = ap (λ q. q.to) e in
+    omega (arith, h, f)
 within_bound (x ∷ rs) n r (inr h) = within_bound rs (max n (x.to + 1)) r h
 
 pub are_within : (rs : List Rule) → AreWithin (rule_bound rs 0) rs
 are_within rs r h = within_bound rs 0 r h
 
 pub each_push : {A : Type 0} (P : ℕ → A → Type 0) (xs : List A) (y : A) → ((i : ℕ) (x : A) → slice_get xs i ≡ Some x → P i x)
-  → P (length xs) y → (i : ℕ) (x : A) → slice_get (xs ++ y ∷ []) i ≡ Some x → P i x
+    → P (length xs) y → (i : ℕ) (x : A) → slice_get (xs ++ y ∷ []) i ≡ Some x → P i x
 each_push P [] y f p zero x e = let h : y ≡ x = cc in subst (λ q. P 0 q) h p
 each_push P [] y f p (suc i) x e = cc
 each_push P (z ∷ xs) y f p zero x e = f 0 x e

@@ -23,3 +23,4 @@ pub mod Known
 pub mod Sound
 pub mod Fits
 pub mod Build
+pub mod Examples

@@ -1,11 +1,11 @@
 -- Which rules there are.
-use Rattle.std.proofs.Common.{◌≡◌, ◌++◌, ◌<◌, ◌⊎◌, inl, inr, ℕ, zero, suc, List, [], ◌∷◌, Option, Some, None, Bool, true, false, cond, refl, sym, ◌∙◌, ap, subst, slice_get}
+use Rattle.std.proofs.Common.{◌≡◌, ◌++◌, ◌⊎◌, inl, inr, ℕ, zero, suc, List, [], ◌∷◌, Some, Bool, true, false, cond, refl, sym, subst, slice_get}
 use Rattle.std.proofs.lemmas.Bool.{eqb-true, eq-eqb}
 use Rattle.std.specs.Prelude.{nat_eq}
 use Rattle.ll_engine.specs.declared.table.Row.{Row}
 use Rattle.ll_engine.specs.declared.rules.Rule.{Rule}
 use Rattle.ll_engine.specs.Grammar.{IsRowOf}
-use Rattle.ll_engine.specs.Marks.{marked, Has, Holds, Tells, AreMarks}
+use Rattle.ll_engine.specs.Marks.{Has, Tells}
 
 pub eq_true : (x a : ℕ) → nat_eq x a ≡ true → x ≡ a
 eq_true x a e = eqb-true x a e
@@ -27,9 +27,9 @@ has_either [] ys x h = inr h
 has_either (y ∷ xs) ys x (inl e) = inl (inl e)
 has_either (y ∷ xs) ys x (inr h) = later (has_either xs ys x h)
   where
-  later : Has xs x ⊎ Has ys x → Has (y ∷ xs) x ⊎ Has ys x
-  later (inl m) = inl (inr m)
-  later (inr m) = inr m
+    later : Has xs x ⊎ Has ys x → Has (y ∷ xs) x ⊎ Has ys x
+    later (inl m) = inl (inr m)
+    later (inr m) = inr m
 
 pub has_cond : {A : Type 0} (b : Bool) (xs : List A) (x : A) → Has (cond b xs []) x → (b ≡ true) × Has xs x
 has_cond true xs x h = (refl, h)
@@ -58,17 +58,18 @@ pub in_row : (f : Row → List Rule) (t : List Row) (r : Rule) → Has (each_row
 in_row f [] r h = absurd h
 in_row f (row ∷ rows) r h = go (has_either (f row) (each_row f rows) r h) (in_row f rows r)
   where
-  later : InRow f rows r → InRow f (row ∷ rows) r
-  later m = record { at = suc m.at; row = m.row; is_there = m.is_there; has = m.has }
-  go : Has (f row) r ⊎ Has (each_row f rows) r → (Has (each_row f rows) r → InRow f rows r) → InRow f (row ∷ rows) r
-  go (inl m) rec = record { at = 0; row = row; is_there = refl; has = m }
-  go (inr m) rec = later (rec m)
+    later : InRow f rows r → InRow f (row ∷ rows) r
+    later m = record { at = suc m.at; row = m.row; is_there = m.is_there; has = m.has }
+
+    go : Has (f row) r ⊎ Has (each_row f rows) r → (Has (each_row f rows) r → InRow f rows r) → InRow f (row ∷ rows) r
+    go (inl m) rec = record { at = 0; row = row; is_there = refl; has = m }
+    go (inr m) rec = later (rec m)
 
 pub of_row : (f : Row → List Rule) (t : List Row) (i : ℕ) (row : Row) (r : Rule) → slice_get t i ≡ Some row → Has (f row) r
-  → Has (each_row f t) r
+    → Has (each_row f t) r
 of_row f [] i row r e h = cc
 of_row f (x ∷ t) zero row r e h =
-  let same : x ≡ row = cc in has_left (f x) (each_row f t) r (subst (λ q. Has (f q) r) (sym same) h)
+    let same : x ≡ row = cc in has_left (f x) (each_row f t) r (subst (λ q. Has (f q) r) (sym same) h)
 of_row f (x ∷ t) (suc i) row r e h = has_right (f x) (each_row f t) r (of_row f t i row r e h)
 
 pub tells_as : {P Q : Type 0} (b : Bool) → (P → Q) → (Q → P) → Tells b P → Tells b Q

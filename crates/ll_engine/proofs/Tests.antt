@@ -1,5 +1,5 @@
 -- Tests over lists, and what they say.
-use Rattle.std.proofs.Common.{◌≡◌, ◌+◌, ◌<◌, ◌≤◌, ◌&&◌, ◌||◌, ◌⊎◌, inl, inr, not, ℕ, zero, suc, List, [], ◌∷◌, Option, Some, None, Bool, true, false, cond, refl, sym, ◌∙◌, ap, subst, slice_get, length, arith}
+use Rattle.std.proofs.Common.{◌≡◌, ◌+◌, ◌<◌, ◌&&◌, ◌||◌, ◌⊎◌, inl, inr, not, ℕ, zero, suc, List, [], ◌∷◌, Option, Some, None, Bool, true, false, cond, refl, sym, ap, subst, slice_get, length, arith}
 use Rattle.ll_engine.specs.Marks.{Tells}
 
 pub tells_and : (P Q : Type 0) (b c : Bool) → Tells b P → Tells c Q → Tells (b && c) (P × Q)
@@ -53,27 +53,27 @@ all_from test [] n = true
 all_from test (x ∷ xs) n = test n x && all_from test xs (n + 1)
 
 pub all_tells : {A : Type 0} (test : ℕ → A → Bool) (xs : List A) (n : ℕ) → all_from test xs n ≡ true
-  → (k : ℕ) (x : A) → slice_get xs k ≡ Some x → test (n + k) x ≡ true
+    → (k : ℕ) (x : A) → slice_get xs k ≡ Some x → test (n + k) x ≡ true
 all_tells test [] n e k x f = cc
 all_tells test (y ∷ xs) n e zero x f =
-  let c = and_parts (test n y) (all_from test xs (n + 1)) e in
-  let same : y ≡ x = cc in
-  let z : n + 0 ≡ n = omega arith in
-  subst (λ q. test q x ≡ true) (sym z) (subst (λ q. test n q ≡ true) same c.0)
+    let c = and_parts (test n y) (all_from test xs (n + 1)) e in
+    let same : y ≡ x = cc in
+    let z : n + 0 ≡ n = omega arith in
+    subst (λ q. test q x ≡ true) (sym z) (subst (λ q. test n q ≡ true) same c.0)
 all_tells test (y ∷ xs) n e (suc k) x f =
-  let c = and_parts (test n y) (all_from test xs (n + 1)) e in
-  let z : (n + 1) + k ≡ n + suc k = omega arith in
-  subst (λ q. test q x ≡ true) z (all_tells test xs (n + 1) c.1 k x f)
+    let c = and_parts (test n y) (all_from test xs (n + 1)) e in
+    let z : (n + 1) + k ≡ n + suc k = omega arith in
+    subst (λ q. test q x ≡ true) z (all_tells test xs (n + 1) c.1 k x f)
 
 pub tells_all : {A : Type 0} (test : ℕ → A → Bool) (xs : List A) (n : ℕ)
-  → ((k : ℕ) (x : A) → slice_get xs k ≡ Some x → test (n + k) x ≡ true) → all_from test xs n ≡ true
+    → ((k : ℕ) (x : A) → slice_get xs k ≡ Some x → test (n + k) x ≡ true) → all_from test xs n ≡ true
 tells_all test [] n f = refl
 tells_all test (y ∷ xs) n f =
-  let z : n + 0 ≡ n = omega arith in
-  parts_and (test n y) (all_from test xs (n + 1)) (subst (λ q. test q y ≡ true) z (f 0 y refl))
+    let z : n + 0 ≡ n = omega arith in
+    parts_and (test n y) (all_from test xs (n + 1)) (subst (λ q. test q y ≡ true) z (f 0 y refl))
     (tells_all test xs (n + 1) (λ k x e.
-      let w : n + suc k ≡ (n + 1) + k = omega arith in
-      subst (λ q. test q x ≡ true) w (f (suc k) x e)))
+    let w : n + suc k ≡ (n + 1) + k = omega arith in
+    subst (λ q. test q x ≡ true) w (f (suc k) x e)))
 
 -- the number of the first item that passes
 abbrev pub first_from : {A : Type 0} → (A → Bool) → List A → ℕ → Option ℕ
@@ -99,24 +99,25 @@ pub first_found : {A : Type 0} (test : A → Bool) (xs : List A) (n i : ℕ) →
 first_found test [] n i e = cc
 first_found test (x ∷ xs) n i e = go (cond_option (test x) n i (first_from test xs (n + 1)) e) (first_found test xs (n + 1) i)
   where
-  later : First test xs (n + 1) i → First test (x ∷ xs) n i
-  later m = let f = m.number in record { at = suc m.at; item = m.item; number = omega (arith, f); is_there = m.is_there; passes = m.passes }
-  go : ((test x ≡ true) × (n ≡ i)) ⊎ (first_from test xs (n + 1) ≡ Some i) → (first_from test xs (n + 1) ≡ Some i → First test xs (n + 1) i)
-    → First test (x ∷ xs) n i
-  go (inl m) rec = let f = m.1 in record { at = 0; item = x; number = omega (arith, f); is_there = refl; passes = m.0 }
-  go (inr m) rec = later (rec m)
+    later : First test xs (n + 1) i → First test (x ∷ xs) n i
+    later m = let f = m.number in record { at = suc m.at; item = m.item; number = omega (arith, f); is_there = m.is_there; passes = m.passes }
+
+    go : ((test x ≡ true) × (n ≡ i)) ⊎ (first_from test xs (n + 1) ≡ Some i) → (first_from test xs (n + 1) ≡ Some i → First test xs (n + 1) i)
+        → First test (x ∷ xs) n i
+    go (inl m) rec = let f = m.1 in record { at = 0; item = x; number = omega (arith, f); is_there = refl; passes = m.0 }
+    go (inr m) rec = later (rec m)
 
 pub first_none : {A : Type 0} (test : A → Bool) (xs : List A) (n : ℕ) → first_from test xs n ≡ None
-  → (k : ℕ) (x : A) → slice_get xs k ≡ Some x → test x ≡ true → ⊥
+    → (k : ℕ) (x : A) → slice_get xs k ≡ Some x → test x ≡ true → ⊥
 first_none test [] n e k x f g = cc
 first_none test (y ∷ xs) n e zero x f g =
-  let c = cond_nothing (test y) n (first_from test xs (n + 1)) e in
-  let same : y ≡ x = cc in
-  let h = c.0 in
-  let m = ap test same in
-  cc
+    let c = cond_nothing (test y) n (first_from test xs (n + 1)) e in
+    let same : y ≡ x = cc in
+    let h = c.0 in
+    let m = ap test same in
+    cc
 first_none test (y ∷ xs) n e (suc k) x f g =
-  first_none test xs (n + 1) (cond_nothing (test y) n (first_from test xs (n + 1)) e).1 k x f g
+    first_none test xs (n + 1) (cond_nothing (test y) n (first_from test xs (n + 1)) e).1 k x f g
 
 -- the first item that fails
 abbrev pub fails_from : {A : Type 0} → (ℕ → A → Bool) → List A → ℕ → Option ℕ

@@ -1,5 +1,5 @@
 -- Texts that begin with the same tokens.
-use Rattle.std.proofs.Common.{◌≡◌, ◌++◌, ◌≤◌, ◌<◌, ◌-◌, ℕ, zero, suc, pred, List, [], ◌∷◌, Option, Some, None, Bool, true, false, refl, sym, ◌∙◌, ap, subst, take, drop, map, length, slice_get, arith}
+use Rattle.std.proofs.Common.{◌≡◌, ◌++◌, ◌<◌, ◌-◌, ℕ, zero, suc, List, [], ◌∷◌, Some, refl, ap, take, drop, map, length, slice_get, arith}
 use Rattle.ll_engine.specs.Reading.{Nested, at_nesting, next}
 use Rattle.ll_engine.specs.Texts.{symbol_of, Agrees, Within}
 use Rattle.ll_engine.proofs.Rooms.{rooms}
@@ -30,9 +30,9 @@ pub agrees_before : (b v : List Nested) (ss : List ℕ) → map symbol_of b ≡ 
 agrees_before [] v ss e = tt
 agrees_before (at_nesting s d ∷ b) v [] e = cc
 agrees_before (at_nesting s d ∷ b) v (a ∷ ss) e =
-  let h : s ≡ a = cc in
-  let r : map symbol_of b ≡ take (length b) ss = cc in
-  (h, agrees_before b v ss r)
+    let h : s ≡ a = cc in
+    let r : map symbol_of b ≡ take (length b) ss = cc in
+    (h, agrees_before b v ss r)
 
 -- one token more is the next
 pub agrees_next : (b v : List Nested) (ss : List ℕ) → Agrees (suc (length b)) (b ++ v) ss → next v ≡ slice_get ss (length b)
@@ -44,16 +44,16 @@ agrees_next (at_nesting s d ∷ b) v [] a = absurd a
 agrees_next (at_nesting s d ∷ b) v (c ∷ ss) a = agrees_next b v ss a.1
 
 pub agrees_at : (b v : List Nested) (ss : List ℕ) → map symbol_of b ≡ take (length b) ss → next v ≡ slice_get ss (length b)
-  → Agrees (suc (length b)) (b ++ v) ss
+    → Agrees (suc (length b)) (b ++ v) ss
 agrees_at [] [] [] e n = tt
 agrees_at [] [] (s ∷ ss) e n = cc
 agrees_at [] (at_nesting s d ∷ v) [] e n = cc
 agrees_at [] (at_nesting s d ∷ v) (a ∷ ss) e n = let h : s ≡ a = cc in (h, tt)
 agrees_at (at_nesting s d ∷ b) v [] e n = cc
 agrees_at (at_nesting s d ∷ b) v (a ∷ ss) e n =
-  let h : s ≡ a = cc in
-  let r : map symbol_of b ≡ take (length b) ss = cc in
-  (h, agrees_at b v ss r n)
+    let h : s ≡ a = cc in
+    let r : map symbol_of b ≡ take (length b) ss = cc in
+    (h, agrees_at b v ss r n)
 
 pub take_next : (n a : ℕ) (ss : List ℕ) → slice_get ss n ≡ Some a → take (suc n) ss ≡ take n ss ++ a ∷ []
 take_next zero a [] e = cc
@@ -74,14 +74,14 @@ HasRoom (at_nesting s n ∷ w) = (0 < n) × HasRoom w
 
 -- what has room left is within the limit
 pub within_of : (limit : ℕ) (b v w : List Nested) → rooms (room_left limit) w ≡ b ++ v
-  → HasRoom b → Within limit (take (length b) w)
+    → HasRoom b → Within limit (take (length b) w)
 within_of limit [] v w e a = tt
 within_of limit (x ∷ b) v [] e a = cc
 within_of limit (at_nesting c r ∷ b) v (at_nesting s n ∷ w) e a =
-  let h : suc limit - n ≡ r = cc in
-  let g : rooms (room_left limit) w ≡ b ++ v = cc in
-  let p : 0 < r = a.0 in
-  (omega (arith, p, h), within_of limit b v w g a.1)
+    let h : suc limit - n ≡ r = cc in
+    let g : rooms (room_left limit) w ≡ b ++ v = cc in
+    let p : 0 < r = a.0 in
+    (omega (arith, p, h), within_of limit b v w g a.1)
 
 pub all_within : (limit : ℕ) (w : List Nested) → HasRoom (rooms (room_left limit) w) → Within limit w
 all_within limit [] a = tt
@@ -96,16 +96,16 @@ pub record NoRoom (limit at : ℕ) (w : List Nested) : Type 0 where
   pub passes : limit < nesting
 
 pub no_room : (limit a : ℕ) (b v w : List Nested) → rooms (room_left limit) w ≡ b ++ (at_nesting a 0 ∷ v)
-  → NoRoom limit (length b) w
+    → NoRoom limit (length b) w
 no_room limit a [] v [] e = cc
 no_room limit a [] v (at_nesting s n ∷ w) e =
-  let p : suc limit - n ≡ 0 = cc in
-  record { symbol = s; nesting = n; rest = w; is_at = refl; passes = omega (arith, p) }
+    let p : suc limit - n ≡ 0 = cc in
+    record { symbol = s; nesting = n; rest = w; is_at = refl; passes = omega (arith, p) }
 no_room limit a (x ∷ b) v [] e = cc
 no_room limit a (x ∷ b) v (at_nesting s n ∷ w) e =
-  let r : rooms (room_left limit) w ≡ b ++ (at_nesting a 0 ∷ v) = cc in
-  let m = no_room limit a b v w r in
-  record { symbol = m.symbol; nesting = m.nesting; rest = m.rest; is_at = m.is_at; passes = m.passes }
+    let r : rooms (room_left limit) w ≡ b ++ (at_nesting a 0 ∷ v) = cc in
+    let m = no_room limit a b v w r in
+    record { symbol = m.symbol; nesting = m.nesting; rest = m.rest; is_at = m.is_at; passes = m.passes }
 
 pub has_room-push : (b : List Nested) (s n : ℕ) → HasRoom b → 0 < n → HasRoom (b ++ at_nesting s n ∷ [])
 has_room-push [] s n a p = (p, tt)

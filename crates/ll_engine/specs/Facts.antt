@@ -1,4 +1,4 @@
-use Rattle.std.specs.Prelude.{◌≡◌, ◌+◌, ◌||◌, ◌&&◌, not, max, ℕ, suc, List, [], ◌∷◌, Option, Some, None, Bool, true, false, cond, nat_eq, is_none, slice_get, slice_index_or, length}
+use Rattle.std.specs.Prelude.{◌≡◌, ◌+◌, ◌||◌, ◌&&◌, not, max, ℕ, List, [], ◌∷◌, Option, Some, None, Bool, true, false, cond, nat_eq, is_none, slice_get, slice_index_or, length}
 use Rattle.ll_engine.specs.declared.table.Part.{Part}
 use Rattle.ll_engine.specs.declared.table.Part.TheVariants.{Term, Non, Maybe, Many, Chain}
 use Rattle.ll_engine.specs.declared.table.Row.{Row}
@@ -50,7 +50,7 @@ pub record AreFacts (t : List Row) (f : Facts) : Type 0 where
   pub symbols : (a : ℕ) (s : SymbolFacts) → slice_get f.symbols a ≡ Some s → AreSymbolFacts t f.blank a s
   pub reached : length f.reaches ≡ length t
   pub reaches : (i : ℕ) (row : Row) → slice_get t i ≡ Some row
-    → AreMarks (start_rules f.blank (HeadOf row.head) t) (slice_index_or f.reaches i [])
+      → AreMarks (start_rules f.blank (HeadOf row.head) t) (slice_index_or f.reaches i [])
 
 -- whether the symbol begins the parts, by the heads that it begins
 abbrev pub begun : List Bool → List Bool → ℕ → List Part → Bool
@@ -65,12 +65,12 @@ begun blank begins a (Chain g ∷ ps) = marked begins g || begun blank begins a 
 abbrev pub first_begun : List Bool → List Bool → ℕ → ℕ → List Row → ℕ → Option ℕ
 first_begun blank begins a h [] n = None
 first_begun blank begins a h (row ∷ rows) n =
-  cond (nat_eq row.head h && begun blank begins a row.parts) (Some n) (first_begun blank begins a h rows (n + 1))
+    cond (nat_eq row.head h && begun blank begins a row.parts) (Some n) (first_begun blank begins a h rows (n + 1))
 
 abbrev pub first_blank : List Bool → ℕ → List Row → ℕ → Option ℕ
 first_blank blank h [] n = None
 first_blank blank h (row ∷ rows) n =
-  cond (nat_eq row.head h && is_none (front blank row.parts)) (Some n) (first_blank blank h rows (n + 1))
+    cond (nat_eq row.head h && is_none (front blank row.parts)) (Some n) (first_blank blank h rows (n + 1))
 
 abbrev pub begun_rows : List Bool → ℕ → List Row → List SymbolFacts → ℕ → List (Option ℕ)
 begun_rows blank h rows [] n = []
@@ -82,7 +82,10 @@ rank_in (m ∷ ms) h = cond (marked m h) 1 0 + rank_in ms h
 
 abbrev pub head_of : List Row → Facts → ℕ → Head
 head_of t f h = record {
-  begun = begun_rows f.blank h t f.symbols 0; blank = first_blank f.blank h t 0; rank = rank_in f.reaches h }
+  begun = begun_rows f.blank h t f.symbols 0;
+  blank = first_blank f.blank h t 0;
+  rank = rank_in f.reaches h;
+}
 
 -- what is kept of each head
 pub record AreHeads (t : List Row) (f : Facts) (heads : List Head) : Type 0 where
@@ -97,7 +100,7 @@ is_same (Some x) i = nat_eq x i
 abbrev pub alone : List Bool → List Head → ℕ → ℕ → List Part → List SymbolFacts → ℕ → Bool
 alone blank heads i h parts [] n = true
 alone blank heads i h parts (s ∷ ss) n =
-  (not (begun blank s.begins n parts) || is_same (row_begun heads h n) i) && alone blank heads i h parts ss (n + 1)
+    (not (begun blank s.begins n parts) || is_same (row_begun heads h n) i) && alone blank heads i h parts ss (n + 1)
 
 abbrev pub blank_alone : List Bool → List Head → ℕ → ℕ → List Part → Bool
 blank_alone blank heads i h parts = not (is_none (front blank parts)) || is_same (row_blank heads h) i
@@ -106,8 +109,8 @@ blank_alone blank heads i h parts = not (is_none (front blank parts)) || is_same
 abbrev pub apart : Facts → List Head → ℕ → List Row → ℕ → Bool
 apart f heads h [] n = true
 apart f heads h (row ∷ rows) n =
-  (not (nat_eq row.head h) || (blank_alone f.blank heads n h row.parts && alone f.blank heads n h row.parts f.symbols 0))
-  && apart f heads h rows (n + 1)
+    (not (nat_eq row.head h) || (blank_alone f.blank heads n h row.parts && alone f.blank heads n h row.parts f.symbols 0))
+    && apart f heads h rows (n + 1)
 
 -- whether the symbol comes at the parts that are left of a row of the head
 abbrev pub comes : SymbolFacts → ℕ → ℕ → Option Part → Bool
@@ -121,7 +124,7 @@ comes s a h (Some (Chain m)) = false
 abbrev pub decided : List Bool → ℕ → Part → List Part → List SymbolFacts → ℕ → Bool
 decided blank h p ps [] n = true
 decided blank h p ps (s ∷ ss) n =
-  not (begun blank s.begins n (p ∷ []) && comes s n h (front blank ps)) && decided blank h p ps ss (n + 1)
+    not (begun blank s.begins n (p ∷ []) && comes s n h (front blank ps)) && decided blank h p ps ss (n + 1)
 
 abbrev pub has_row : List Row → ℕ → Bool
 has_row [] h = false
@@ -130,7 +133,7 @@ has_row (row ∷ rows) h = nat_eq row.head h || has_row rows h
 abbrev pub name_keeps : List Row → Facts → ℕ → Part → List Part → Option ℕ → Bool
 name_keeps t f h p ps None = true
 name_keeps t f h p ps (Some g) =
-  has_row t g && (not (is_repeated p && marked f.blank g) && (not (may_skip f.blank p) || decided f.blank h p ps f.symbols 0))
+    has_row t g && (not (is_repeated p && marked f.blank g) && (not (may_skip f.blank p) || decided f.blank h p ps f.symbols 0))
 
 abbrev pub parts_keep : List Row → Facts → ℕ → List Part → Bool
 parts_keep t f h [] = true
@@ -139,12 +142,12 @@ parts_keep t f h (p ∷ ps) = name_keeps t f h p ps (named p) && parts_keep t f 
 -- whether neither the row's head nor one of its parts breaks the class
 abbrev pub row_keeps : List Row → Facts → List Head → ℕ → Row → Bool
 row_keeps t f heads i row =
-  marked f.text row.head
-  && (not (marked (slice_index_or f.reaches i []) row.head)
-  && (apart f heads row.head t 0 && parts_keep t f row.head row.parts))
+    marked f.text row.head
+    && (not (marked (slice_index_or f.reaches i []) row.head)
+    && (apart f heads row.head t 0 && parts_keep t f row.head row.parts))
 
 -- the first of the rows that breaks the class, the rows being numbered from `n`
 abbrev pub first_break : List Row → Facts → List Head → List Row → ℕ → Option ℕ
 first_break t f heads [] n = None
 first_break t f heads (row ∷ rows) n =
-  cond (row_keeps t f heads n row) (first_break t f heads rows (n + 1)) (Some n)
+    cond (row_keeps t f heads n row) (first_break t f heads rows (n + 1)) (Some n)

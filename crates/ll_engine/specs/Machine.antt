@@ -1,13 +1,12 @@
-use Rattle.std.specs.Prelude.{◌≡◌, ◌<◌, ◌≤◌, ◌++◌, ◌-◌, ℕ, suc, pred, List, [], ◌∷◌, Option, Some, None, Bool, true, false, Result, Ok, Err, drop, map, reverse, slice_get, cond}
-use Rattle.std.specs.declared.alloc.AllocError.{AllocError}
+use Rattle.std.specs.Prelude.{◌≡◌, ◌++◌, ℕ, pred, List, [], ◌∷◌, Option, Some, None, drop, map, reverse, slice_get, cond}
 use Rattle.ll_engine.specs.declared.table.Part.{Part}
 use Rattle.ll_engine.specs.declared.table.Row.{Row}
 use Rattle.ll_engine.specs.declared.tree.Tree.{Tree}
 use Rattle.ll_engine.specs.declared.tree.Tree.TheVariants.{Leaf, Node}
 use Rattle.ll_engine.specs.declared.machine.Frame.{Frame}
 use Rattle.ll_engine.specs.declared.machine.Open.{Open}
-use Rattle.ll_engine.specs.Class.{Leads, Follows, ComesAt}
-use Rattle.ll_engine.specs.Grammar.{terminal, named, is_repeated, IsRowOf, IsBlank, Begins}
+use Rattle.ll_engine.specs.Class.{Follows, ComesAt}
+use Rattle.ll_engine.specs.Grammar.{is_repeated, IsRowOf}
 use Rattle.ll_engine.specs.Reading.{Nested, next, level, inside, Reads}
 
 -- The reader counts nesting down: the room at a symbol is how much further nesting may go.
@@ -51,7 +50,7 @@ pub record RowReads (t : List Row) (l : Level) (at : ℕ) (w : List Nested) (x :
 abbrev pub Completes : List Row → Level → List Level → ℕ → List Nested → Tree → Type 0
 Completes t l [] at w tree = (to : ℕ) × RowReads t l at w tree to []
 Completes t l (m ∷ ms) at w tree =
-  (x : Tree) × (to : ℕ) × (u : List Nested) × RowReads t l at w x to u × Completes t (with_kid m x) ms to u tree
+    (x : Tree) × (to : ℕ) × (u : List Nested) × RowReads t l at w x to u × Completes t (with_kid m x) ms to u tree
 
 abbrev pub Goes : List Row → List Level → ℕ → List Nested → Tree → Type 0
 Goes t [] at w tree = ⊥
@@ -92,8 +91,12 @@ room_in (Some row) n = inside pred row n
 -- a new row that is opened at this room
 abbrev pub fresh : List Row → ℕ → ℕ → Level
 fresh t i n = record {
-  row = i; room = room_in (slice_get t i) n; turn = room_in (slice_get t i) n;
-  left = parts_of (slice_get t i); kids = [] }
+  row = i;
+  room = room_in (slice_get t i) n;
+  turn = room_in (slice_get t i) n;
+  left = parts_of (slice_get t i);
+  kids = [];
+}
 
 -- the part was left out
 abbrev pub skipped : List Level → List Level

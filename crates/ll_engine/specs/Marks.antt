@@ -1,7 +1,4 @@
-use Rattle.std.specs.Prelude.{◌≡◌, ◌<◌, ◌++◌, ◌+◌, max, ◌==◌, ◌||◌, ◌&&◌, ◌⊎◌, ℕ, suc, List, [], ◌∷◌, Option, Some, None, Bool, true, false, slice_get, slice_index_or, length, cond}
-use Rattle.ll_engine.specs.declared.table.Part.{Part}
-use Rattle.ll_engine.specs.declared.table.Part.TheVariants.{Term, Non, Maybe, Many, Chain}
-use Rattle.ll_engine.specs.declared.table.Row.{Row}
+use Rattle.std.specs.Prelude.{◌≡◌, ◌<◌, ◌+◌, max, ◌&&◌, ◌⊎◌, ℕ, suc, List, [], ◌∷◌, Some, Bool, true, false, slice_get, slice_index_or, length}
 use Rattle.ll_engine.specs.declared.rules.Rule.{Rule}
 
 -- Sets of heads, as a mark for each head, and the rules by which heads are marked.
@@ -48,7 +45,7 @@ AreSound rules marks = (h : ℕ) → marked marks h ≡ true → Holds rules h
 -- the first `n` rules mark nothing more
 abbrev pub AreClosed : List Rule → ℕ → List Bool → Type 0
 AreClosed rules n marks = (i : ℕ) (r : Rule) → i < n → slice_get rules i ≡ Some r
-  → all_marked marks r.from ≡ true → marked marks r.to ≡ true
+    → all_marked marks r.from ≡ true → marked marks r.to ≡ true
 
 -- what one pass over the rules leaves
 pub record Passes (rules : List Rule) (changed : Bool) (old new : List Bool) : Type 0 where

@@ -1,12 +1,12 @@
-use Rattle.std.specs.Prelude.{◌≡◌, ◌<◌, ◌++◌, ◌||◌, ℕ, List, [], ◌∷◌, Option, Some, None, Bool, true, false, nat_eq, not, cond, slice_get}
+use Rattle.std.specs.Prelude.{◌++◌, ◌||◌, ℕ, List, [], ◌∷◌, Option, Some, None, Bool, true, false, nat_eq, not, cond}
 use Rattle.ll_engine.specs.declared.table.Part.{Part}
 use Rattle.ll_engine.specs.declared.table.Part.TheVariants.{Term, Non, Maybe, Many, Chain}
 use Rattle.ll_engine.specs.declared.table.Row.{Row}
 use Rattle.ll_engine.specs.declared.rules.Rule.{Rule}
 use Rattle.ll_engine.specs.declared.derive.Target.{Target}
 use Rattle.ll_engine.specs.declared.derive.Target.TheVariants.{Symbol, Head}
-use Rattle.ll_engine.specs.Marks.{marked, Has}
-use Rattle.ll_engine.specs.Grammar.{named, terminal}
+use Rattle.ll_engine.specs.Marks.{marked}
+use Rattle.ll_engine.specs.Grammar.{named}
 
 -- The rules by which a table's heads are marked.
 
@@ -34,7 +34,7 @@ has_symbol (Chain h ∷ ps) = has_symbol ps
 abbrev pub ground_rules : Bool → List Row → List Rule
 ground_rules symbols [] = []
 ground_rules symbols (row ∷ rows) =
-  cond (symbols || not (has_symbol row.parts)) (rule row.head (nons row.parts) ∷ []) [] ++ ground_rules symbols rows
+    cond (symbols || not (has_symbol row.parts)) (rule row.head (nons row.parts) ∷ []) [] ++ ground_rules symbols rows
 
 -- the part may be left out, where the marked heads can be empty
 abbrev pub may_skip : List Bool → Part → Bool
@@ -71,7 +71,7 @@ start_part target h (Chain g) = name_rules target h g
 abbrev pub start_row : List Bool → Target → ℕ → List Part → List Rule
 start_row blank target h [] = []
 start_row blank target h (p ∷ ps) =
-  start_part target h p ++ cond (may_skip blank p) (start_row blank target h ps) []
+    start_part target h p ++ cond (may_skip blank p) (start_row blank target h ps) []
 
 abbrev pub start_rules : List Bool → Target → List Row → List Rule
 start_rules blank target [] = []
@@ -106,9 +106,9 @@ follow_part leads a (Some h) g x = behind_part leads a h g x
 abbrev pub follow_row : List Bool → List Bool → ℕ → ℕ → List Part → List Rule
 follow_row blank leads a g [] = []
 follow_row blank leads a g (p ∷ ps) =
-  follow_part leads a (named p) g (front blank ps) ++ follow_row blank leads a g ps
+    follow_part leads a (named p) g (front blank ps) ++ follow_row blank leads a g ps
 
 abbrev pub follow_rules : List Bool → List Bool → ℕ → List Row → List Rule
 follow_rules blank leads a [] = []
 follow_rules blank leads a (row ∷ rows) =
-  follow_row blank leads a row.head row.parts ++ follow_rules blank leads a rows
+    follow_row blank leads a row.head row.parts ++ follow_rules blank leads a rows

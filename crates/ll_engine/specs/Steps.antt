@@ -1,4 +1,4 @@
-use Rattle.std.specs.Prelude.{◌≡◌, ◌<◌, ℕ, suc, List, [], ◌∷◌, Option, Some, None, Bool, true, false, Result, Ok, Err}
+use Rattle.std.specs.Prelude.{◌≡◌, ◌<◌, ℕ, List, [], ◌∷◌, Option, Some, None, Result, Ok, Err}
 use Rattle.std.specs.declared.alloc.AllocError.{AllocError}
 use Rattle.ll_engine.specs.declared.table.Part.{Part}
 use Rattle.ll_engine.specs.declared.table.Row.{Row}
@@ -38,7 +38,7 @@ pub record IsMove (t : List Row) (heads : List Head) (x : Option ℕ) (old new :
 abbrev pub IsReady : Option ℕ → List Level → Type 0
 IsReady x [] = ⊥
 IsReady x (l ∷ ls) =
-  (p : Part) × (a : ℕ) × (ps : List Part) × (l.left ≡ p ∷ ps) × (terminal p ≡ Some a) × (x ≡ Some a)
+    (p : Part) × (a : ℕ) × (ps : List Part) × (l.left ≡ p ∷ ps) × (terminal p ≡ Some a) × (x ≡ Some a)
 
 -- the outermost row is left, with no part
 abbrev pub IsOver : List Level → Type 0

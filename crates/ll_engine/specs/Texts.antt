@@ -72,7 +72,7 @@ pub record PassesAt (t : List Row) (symbols : List ℕ) (limit at : ℕ) : Type 
 -- A list of symbols has at most one text, with one derivation.
 abbrev pub OneText : List Row → Type 0
 OneText t = (w v : List Nested) (x y : Tree) → map symbol_of w ≡ map symbol_of v → IsText t w x → IsText t v y
-  → (w ≡ v) × (x ≡ y)
+    → (w ≡ v) × (x ≡ y)
 
 -- The symbols have a reading, a failing token or a place where nesting first passes the limit, and no two of these.
 pub record OneAnswer (t : List Row) (symbols : List ℕ) (limit : ℕ) : Type 0 where

@@ -49,7 +49,13 @@ fn begun(blank: &[bool], begins: &[bool], symbol: usize, parts: &[Part]) -> bool
 }
 
 /// The first row of the head that the symbol begins.
-fn first_begun(blank: &[bool], begins: &[bool], symbol: usize, head: u16, rows: &[Row]) -> Option<u16>
+fn first_begun(
+    blank: &[bool],
+    begins: &[bool],
+    symbol: usize,
+    head: u16,
+    rows: &[Row],
+) -> Option<u16>
     requires { length rows.now ≤ 65536 }
     ensures { result ≡ first_begun blank.now begins.now symbol head rows.now 0 }
 {
@@ -88,7 +94,13 @@ fn first_blank(blank: &[bool], head: u16, rows: &[Row]) -> Option<u16>
 }
 
 /// By symbol the row of the head that it begins.
-fn begun_rows(alloc: Global, blank: &[bool], head: u16, rows: &[Row], symbols: &[SymbolFacts]) -> Result<Items<Option<u16>>, AllocError>
+fn begun_rows(
+    alloc: Global,
+    blank: &[bool],
+    head: u16,
+    rows: &[Row],
+    symbols: &[SymbolFacts],
+) -> Result<Items<Option<u16>>, AllocError>
     requires { length rows.now ≤ 65536 }
     ensures { IfOk result (λ all. all ≡ begun_rows blank.now head rows.now symbols.now 0) }
 {
@@ -155,7 +167,14 @@ fn is_same(row: Option<u16>, n: usize) -> bool
 }
 
 /// Whether each symbol that begins the row is kept with this row of its head.
-fn is_alone(blank: &[bool], heads: &[Head], row: usize, head: u16, parts: &[Part], symbols: &[SymbolFacts]) -> bool
+fn is_alone(
+    blank: &[bool],
+    heads: &[Head],
+    row: usize,
+    head: u16,
+    parts: &[Part],
+    symbols: &[SymbolFacts],
+) -> bool
     ensures { result ≡ alone blank.now heads.now row head parts.now symbols.now 0 }
 {
     for (n, symbol) in symbols.iter().enumerate() {
@@ -188,7 +207,14 @@ fn are_apart(facts: &Facts, heads: &[Head], head: u16, rows: &[Row]) -> bool
             if !is_blank_alone(blank, heads, n, head, row.parts.as_slice()) {
                 return false;
             }
-            if !is_alone(blank, heads, n, head, row.parts.as_slice(), facts.symbols.as_slice()) {
+            if !is_alone(
+                blank,
+                heads,
+                n,
+                head,
+                row.parts.as_slice(),
+                facts.symbols.as_slice(),
+            ) {
                 return false;
             }
         }
@@ -212,7 +238,13 @@ fn comes(symbol: &SymbolFacts, number: usize, head: u16, front: Option<Part>) ->
 }
 
 /// Whether no symbol begins the part and comes at those behind it.
-fn is_decided(blank: &[bool], head: u16, part: Part, behind: &[Part], symbols: &[SymbolFacts]) -> bool
+fn is_decided(
+    blank: &[bool],
+    head: u16,
+    part: Part,
+    behind: &[Part],
+    symbols: &[SymbolFacts],
+) -> bool
     ensures { result ≡ decided blank.now head part behind.now symbols.now 0 }
 {
     let front = front(blank, behind);

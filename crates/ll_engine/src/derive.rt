@@ -127,7 +127,13 @@ fn push_bare(alloc: Global, rules: &mut Rules, to: u16) -> Result<(), AllocError
     })
 }
 
-fn push_name(alloc: Global, rules: &mut Rules, target: Target, to: u16, from: u16) -> Result<(), AllocError>
+fn push_name(
+    alloc: Global,
+    rules: &mut Rules,
+    target: Target,
+    to: u16,
+    from: u16,
+) -> Result<(), AllocError>
     ensures { OnOk result (rules.new ≡ rules.old ++ name_rules target to from) }
 {
     push_from(alloc, rules, to, from)?;
@@ -142,7 +148,13 @@ fn push_name(alloc: Global, rules: &mut Rules, target: Target, to: u16, from: u1
     Ok(())
 }
 
-fn push_start_part(alloc: Global, rules: &mut Rules, target: Target, to: u16, part: Part) -> Result<(), AllocError>
+fn push_start_part(
+    alloc: Global,
+    rules: &mut Rules,
+    target: Target,
+    to: u16,
+    part: Part,
+) -> Result<(), AllocError>
     ensures { OnOk result (rules.new ≡ rules.old ++ start_part target to part) }
 {
     match part {
@@ -162,7 +174,14 @@ fn push_start_part(alloc: Global, rules: &mut Rules, target: Target, to: u16, pa
     Ok(())
 }
 
-fn push_start_row(alloc: Global, rules: &mut Rules, blank: &[bool], target: Target, to: u16, parts: &[Part]) -> Result<(), AllocError>
+fn push_start_row(
+    alloc: Global,
+    rules: &mut Rules,
+    blank: &[bool],
+    target: Target,
+    to: u16,
+    parts: &[Part],
+) -> Result<(), AllocError>
     ensures { OnOk result (rules.new ≡ rules.old ++ start_row blank.now target to parts.now) }
 {
     for part in parts {
@@ -175,17 +194,35 @@ fn push_start_row(alloc: Global, rules: &mut Rules, blank: &[bool], target: Targ
 }
 
 /// The rules by which heads start with the target.
-pub fn start_rules(alloc: Global, blank: &[bool], target: Target, rows: &[Row]) -> Result<Rules, AllocError>
+pub fn start_rules(
+    alloc: Global,
+    blank: &[bool],
+    target: Target,
+    rows: &[Row],
+) -> Result<Rules, AllocError>
     ensures { IfOk result (λ rules. rules ≡ start_rules blank.now target rows.now) }
 {
     let mut rules = Items::new(alloc);
     for row in rows {
-        push_start_row(alloc, &mut rules, blank, target, row.head, row.parts.as_slice())?;
+        push_start_row(
+            alloc,
+            &mut rules,
+            blank,
+            target,
+            row.head,
+            row.parts.as_slice(),
+        )?;
     }
     Ok(rules)
 }
 
-fn push_lead_row(alloc: Global, rules: &mut Rules, symbol: u16, to: u16, front: Option<Part>) -> Result<(), AllocError>
+fn push_lead_row(
+    alloc: Global,
+    rules: &mut Rules,
+    symbol: u16,
+    to: u16,
+    front: Option<Part>,
+) -> Result<(), AllocError>
     ensures { OnOk result (rules.new ≡ rules.old ++ lead_row symbol to front) }
 {
     match front {
@@ -204,17 +241,36 @@ fn push_lead_row(alloc: Global, rules: &mut Rules, symbol: u16, to: u16, front: 
 }
 
 /// The rules by which heads lead with the symbol.
-pub fn lead_rules(alloc: Global, blank: &[bool], symbol: u16, rows: &[Row]) -> Result<Rules, AllocError>
+pub fn lead_rules(
+    alloc: Global,
+    blank: &[bool],
+    symbol: u16,
+    rows: &[Row],
+) -> Result<Rules, AllocError>
     ensures { IfOk result (λ rules. rules ≡ lead_rules blank.now symbol rows.now) }
 {
     let mut rules = Items::new(alloc);
     for row in rows {
-        push_lead_row(alloc, &mut rules, symbol, row.head, front(blank, row.parts.as_slice()))?;
+        push_lead_row(
+            alloc,
+            &mut rules,
+            symbol,
+            row.head,
+            front(blank, row.parts.as_slice()),
+        )?;
     }
     Ok(rules)
 }
 
-fn push_behind(alloc: Global, rules: &mut Rules, leads: &[bool], symbol: u16, to: u16, head: u16, front: Option<Part>) -> Result<(), AllocError>
+fn push_behind(
+    alloc: Global,
+    rules: &mut Rules,
+    leads: &[bool],
+    symbol: u16,
+    to: u16,
+    head: u16,
+    front: Option<Part>,
+) -> Result<(), AllocError>
     ensures { OnOk result (rules.new ≡ rules.old ++ behind_part leads.now symbol to head front) }
 {
     match front {
@@ -236,25 +292,55 @@ fn push_behind(alloc: Global, rules: &mut Rules, leads: &[bool], symbol: u16, to
     Ok(())
 }
 
-fn push_follow_row(alloc: Global, rules: &mut Rules, blank: &[bool], leads: &[bool], symbol: u16, head: u16, parts: &[Part]) -> Result<(), AllocError>
+fn push_follow_row(
+    alloc: Global,
+    rules: &mut Rules,
+    blank: &[bool],
+    leads: &[bool],
+    symbol: u16,
+    head: u16,
+    parts: &[Part],
+) -> Result<(), AllocError>
     ensures { OnOk result (rules.new ≡ rules.old ++ follow_row blank.now leads.now symbol head parts.now) }
 {
     for (n, part) in parts.iter().enumerate() {
         match part.named() {
             None => {}
-            Some(to) => push_behind(alloc, rules, leads, symbol, to, head, front(blank, &parts[n + 1..]))?,
+            Some(to) => push_behind(
+                alloc,
+                rules,
+                leads,
+                symbol,
+                to,
+                head,
+                front(blank, &parts[n + 1..]),
+            )?,
         }
     }
     Ok(())
 }
 
 /// The rules by which the symbol follows heads.
-pub fn follow_rules(alloc: Global, blank: &[bool], leads: &[bool], symbol: u16, rows: &[Row]) -> Result<Rules, AllocError>
+pub fn follow_rules(
+    alloc: Global,
+    blank: &[bool],
+    leads: &[bool],
+    symbol: u16,
+    rows: &[Row],
+) -> Result<Rules, AllocError>
     ensures { IfOk result (λ rules. rules ≡ follow_rules blank.now leads.now symbol rows.now) }
 {
     let mut rules = Items::new(alloc);
     for row in rows {
-        push_follow_row(alloc, &mut rules, blank, leads, symbol, row.head, row.parts.as_slice())?;
+        push_follow_row(
+            alloc,
+            &mut rules,
+            blank,
+            leads,
+            symbol,
+            row.head,
+            row.parts.as_slice(),
+        )?;
     }
     Ok(rules)
 }

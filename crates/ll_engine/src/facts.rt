@@ -71,7 +71,12 @@ pub fn head_count(rows: &[Row]) -> usize
     count
 }
 
-fn symbol_facts(alloc: Global, rows: &[Row], blank: &[bool], symbol: u16) -> Result<SymbolFacts, AllocError>
+fn symbol_facts(
+    alloc: Global,
+    rows: &[Row],
+    blank: &[bool],
+    symbol: u16,
+) -> Result<SymbolFacts, AllocError>
     ensures { IfOk result (λ f. AreSymbolFacts rows.now blank.now symbol f) }
 {
     let rules = start_rules(alloc, blank, Target::Symbol(symbol), rows)?;
@@ -87,7 +92,12 @@ fn symbol_facts(alloc: Global, rows: &[Row], blank: &[bool], symbol: u16) -> Res
     })
 }
 
-fn all_symbol_facts(alloc: Global, rows: &[Row], blank: &[bool], width: usize) -> Result<Items<SymbolFacts>, AllocError>
+fn all_symbol_facts(
+    alloc: Global,
+    rows: &[Row],
+    blank: &[bool],
+    width: usize,
+) -> Result<Items<SymbolFacts>, AllocError>
     requires { width ≤ 65536 }
     ensures long { IfOk result (λ all. length all ≡ width) }
     ensures each { IfOk result (λ all. (a : ℕ) → (s : _) → slice_get all a ≡ Some s → AreSymbolFacts rows.now blank.now a s) }

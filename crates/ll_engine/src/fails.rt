@@ -1,6 +1,5 @@
 ghost use Rattle.std.specs.Prelude.{◌≡◌};
 
-
 use std::alloc::AllocError;
 
 /// Why `Ll1::new` gives no reader.

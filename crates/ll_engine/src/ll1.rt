@@ -88,6 +88,5 @@ impl Ll1 {
     /// The law that each beginning of what a text begins with is the beginning of a text.
     pub fn has_fronts(&self)
         ensures { FrontsBegin self.now }
-    {
-    }
+    {}
 }

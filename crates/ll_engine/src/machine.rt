@@ -102,7 +102,11 @@ impl Tables {
     {
         match self.rows.get(row as usize) {
             None => room,
-            Some(row) => if row.deep { room.saturating_sub(1) } else { room },
+            Some(row) => if row.deep {
+                room.saturating_sub(1)
+            } else {
+                room
+            },
         }
     }
 
@@ -121,7 +125,13 @@ impl Tables {
         ensures { level_of self.now.rows result ≡ fresh self.now.rows row room }
     {
         let room = self.room_in(row, room);
-        Frame { row, next: 0, room, turn: room, kids: Items::new(alloc) }
+        Frame {
+            row,
+            next: 0,
+            room,
+            turn: room,
+            kids: Items::new(alloc),
+        }
     }
 
     /// Goes on to the next part.
@@ -164,14 +174,26 @@ impl Tables {
         ensures below { state.new.below ≡ state.old.below }
     {
         let inner = mem::replace(&mut state.top, outer);
-        let Frame { row, next: _, room: _, turn: _, kids } = inner;
+        let Frame {
+            row,
+            next: _,
+            room: _,
+            turn: _,
+            kids,
+        } = inner;
         state.top.kids.push(Tree::Node { row, kids })
     }
 }
 
 impl Tables {
     /// One step where the next part is a head that is not optional.
-    fn step_head(&self, alloc: Global, state: &mut Open, head: u16, token: Option<u16>) -> Result<Step, AllocError>
+    fn step_head(
+        &self,
+        alloc: Global,
+        state: &mut Open,
+        head: u16,
+        token: Option<u16>,
+    ) -> Result<Step, AllocError>
         requires knows { Knows self.now.rows self.now.heads }
         requires stack { IsStack self.now.rows (levels_of self.now.rows state.old) }
         requires next { first_of (level_of self.now.rows state.old.top).left ≡ Some (Non head) }
@@ -187,7 +209,14 @@ impl Tables {
     }
 
     /// One step where the next part is optional or repeated.
-    fn step_optional(&self, alloc: Global, state: &mut Open, part: Part, head: u16, token: Option<u16>) -> Result<Step, AllocError>
+    fn step_optional(
+        &self,
+        alloc: Global,
+        state: &mut Open,
+        part: Part,
+        head: u16,
+        token: Option<u16>,
+    ) -> Result<Step, AllocError>
         requires knows { Knows self.now.rows self.now.heads }
         requires stack { IsStack self.now.rows (levels_of self.now.rows state.old) }
         requires next { first_of (level_of self.now.rows state.old.top).left ≡ Some part }
@@ -248,14 +277,37 @@ impl Tables {
             None => self.step_end(state, token),
             Some(Part::Term(symbol)) => Ok(self.step_symbol(state, symbol, token)),
             Some(Part::Non(head)) => self.step_head(alloc, state, head, token),
-            Some(Part::Maybe(head)) => self.step_optional(alloc, state, Part::Maybe(head), head, token),
-            Some(Part::Many(head)) => self.step_optional(alloc, state, Part::Many(head), head, token),
-            Some(Part::Chain(head)) => self.step_optional(alloc, state, Part::Chain(head), head, token),
+            Some(Part::Maybe(head)) => self.step_optional(
+                alloc,
+                state,
+                Part::Maybe(head),
+                head,
+                token,
+            ),
+            Some(Part::Many(head)) => self.step_optional(
+                alloc,
+                state,
+                Part::Many(head),
+                head,
+                token,
+            ),
+            Some(Part::Chain(head)) => self.step_optional(
+                alloc,
+                state,
+                Part::Chain(head),
+                head,
+                token,
+            ),
         }
     }
 
     /// Goes on to the next symbol that is read, as long as nothing else is to be done.
-    fn settle(&self, alloc: Global, state: &mut Open, token: Option<u16>) -> Result<Stop, AllocError>
+    fn settle(
+        &self,
+        alloc: Global,
+        state: &mut Open,
+        token: Option<u16>,
+    ) -> Result<Stop, AllocError>
         requires knows { Knows self.now.rows self.now.heads }
         requires stack { IsStack self.now.rows (levels_of self.now.rows state.old) }
         ensures { SettleGives self.now.rows token (levels_of self.now.rows state.old) (levels_of self.now.rows state.new) result }
@@ -305,7 +357,13 @@ impl Tables {
     }
 
     /// Reads up to the next symbol, and that symbol.
-    fn read_symbol(&self, alloc: Global, state: &mut Open, at: u32, symbol: u16) -> Result<(), ParseFail>
+    fn read_symbol(
+        &self,
+        alloc: Global,
+        state: &mut Open,
+        at: u32,
+        symbol: u16,
+    ) -> Result<(), ParseFail>
         requires knows { Knows self.now.rows self.now.heads }
         requires stack { IsStack self.now.rows (levels_of self.now.rows state.old) }
         ensures { SymbolGives self.now.rows (Some symbol) at (levels_of self.now.rows state.old) (levels_of self.now.rows state.new) result }
@@ -331,7 +389,13 @@ impl Tables {
         match self.settle(alloc, &mut state, None)? {
             Stop::Ended => {
                 let Open { top, below: _ } = state;
-                let Frame { row, next: _, room: _, turn: _, kids } = top;
+                let Frame {
+                    row,
+                    next: _,
+                    room: _,
+                    turn: _,
+                    kids,
+                } = top;
                 Ok(Tree::Node { row, kids })
             }
             Stop::Ready => Err(ParseFail::NoText { at }),

@@ -4,4 +4,4 @@ use Rattle.ll_engine.proofs.checks.is_decided.Given as goal
 
 abbrev pub invariant-loop-n : goal.invariant-loop-n
 invariant-loop-n l =
-  decided l.blank l.head l.part l.behind (drop l.n l.symbols) l.n ≡ decided l.blank l.head l.part l.behind l.symbols 0
+    decided l.blank l.head l.part l.behind (drop l.n l.symbols) l.n ≡ decided l.blank l.head l.part l.behind l.symbols 0

@@ -9,4 +9,5 @@ abbrev pub invariant-loop-row : goal.invariant-loop-row
 invariant-loop-row l = record {
   long : length l.all ≡ l.row-index;
   each : (i : ℕ) (row : Row) → slice_get l.rows i ≡ Some row → i < length l.all
-    → AreMarks (start_rules l.blank (Head row.head) l.rows) (get_or l.all i []) }
+      → AreMarks (start_rules l.blank (Head row.head) l.rows) (get_or l.all i []);
+}

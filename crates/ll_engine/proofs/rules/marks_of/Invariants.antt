@@ -1,5 +1,5 @@
 use Rattle.std.proofs.Common.{◌≡◌, length}
-use Rattle.ll_engine.specs.Marks.{AreSound, AreWithin, unmarked}
+use Rattle.ll_engine.specs.Marks.{AreSound, unmarked}
 use Rattle.ll_engine.proofs.rules.marks_of.Given as goal
 
 abbrev pub invariant-loop : goal.invariant-loop
