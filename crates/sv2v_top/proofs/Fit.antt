@@ -1,7 +1,8 @@
 -- The table of the source grammar is of the class that is read with one symbol of look-ahead.
-use Rattle.std.proofs.Common.{◌≡◌, ℕ, ◌<◌, length, List, arith}
+use Rattle.std.proofs.Common.{◌≡◌, ℕ, ◌<◌, length, List, refl, arith}
 use Rattle.ll_engine.specs.declared.table.Row.{Row}
 use Rattle.ll_engine.specs.Class.{IsFit, Keeps, BreaksAt, no_rows, at_row}
+use Rattle.ll_engine.proofs.Fits.{fits_is}
 use Rattle.sv2v_top.specs.source.Grammar.{source_rows}
 
 pub never-unfit : (t : List Row) → IsFit t → (at : ℕ) → BreaksAt t at → ⊥
@@ -9,4 +10,4 @@ never-unfit t fit at (no_rows e f) = (let h = fit.has_rows in absurd (omega arit
 never-unfit t fit at (at_row {h = h} {row = row} is breaks before) = breaks (fit.keeps at h row is)
 
 pub source-fit : IsFit source_rows
-source-fit = ?
+source-fit = fits_is 14 source_rows refl
