@@ -1,4 +1,5 @@
 pub mod Places
+pub mod Words
 pub mod source
 pub mod target
 pub mod Lowering

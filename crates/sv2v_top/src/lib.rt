@@ -10,4 +10,5 @@ mod sv_build;
 mod sv_tree;
 mod sv_types;
 mod v_tree;
+mod words;
 mod v_writer;
