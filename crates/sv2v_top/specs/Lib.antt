@@ -4,4 +4,5 @@ pub mod source
 pub mod target
 pub mod Lowering
 pub mod Agreement
+pub mod Translation
 pub mod Printable

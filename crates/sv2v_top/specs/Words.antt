@@ -5,6 +5,7 @@ use Rattle.sv_source.specs.declared.token.Kind.{Kind}
 use Rattle.sv_source.specs.declared.token.Kind.TheVariants as Kinds
 use Rattle.sv_source.specs.declared.token.Token.{Token}
 use Rattle.sv_lexer.specs.Lexing.{tokens_of}
+use Rattle.sv2v_top.specs.declared.words.Asked.{Asked as Asked_in}
 
 -- what is asked for: the top's name and the file
 pub record Asked : Type 0 where
@@ -64,3 +65,11 @@ asked [] = None
 asked (a ∷ []) = None
 asked (a ∷ b ∷ []) = or_else (asked_by a b) (asked_by b a)
 asked (a ∷ b ∷ c ∷ rest) = None
+
+-- what a borrowed answer says
+abbrev pub seen_by : Asked_in → Asked
+seen_by a = record { top = a.top.now; file = a.file.now }
+
+abbrev pub seen : Option Asked_in → Option Asked
+seen None = None
+seen (Some a) = Some (seen_by a)

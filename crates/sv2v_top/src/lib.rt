@@ -9,6 +9,7 @@ mod package_scope;
 mod sv_build;
 mod sv_tree;
 mod sv_types;
+mod translation;
 mod v_tree;
 mod words;
 mod v_writer;

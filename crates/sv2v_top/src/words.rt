@@ -1,7 +1,7 @@
 //! The words of the command line.
 
 ghost use Rattle.std.specs.Prelude.{◌≡◌, ◌^◌, ◌-◌, ◌<◌, length, map, string_bytes, MatchOption, IfOk};
-ghost use Rattle.sv2v_top.specs.Words.{Asked as AskedFor, is_one_name, is_simple_name, has_top, is_file, asked_by, asked, is_name_kind};
+ghost use Rattle.sv2v_top.specs.Words.{is_one_name, is_simple_name, has_top, is_file, asked_by, or_else, asked, seen};
 
 use std::alloc::{AllocError, Global};
 use std::string::String;
@@ -53,5 +53,41 @@ fn names_file(word: &[u8]) -> bool
     match word {
         [] => false,
         [first, ..] => *first != 45,
+    }
+}
+
+/// What two words ask for, the option first.
+fn asked_in<'a>(alloc: Global, option: &'a [u8], file: &'a [u8]) -> Result<Option<Asked<'a>>, AllocError>
+    ensures { IfOk result (λ a. seen a ≡ asked_by option.now file.now) }
+{
+    let few = option.len() <= WORDS_LIMIT && file.len() <= WORDS_LIMIT && option.len() + file.len() <= WORDS_LIMIT;
+    if !few || !names_top(option) || !names_file(file) {
+        return Ok(None);
+    }
+    let top = &option[6..];
+    if is_simple(alloc, top)? {
+        Ok(Some(Asked { top, file }))
+    } else {
+        Ok(None)
+    }
+}
+
+/// What the words ask for: `--top=NAME` and one file, in either order. `None` for any other words.
+pub fn read_words<'a>(alloc: Global, words: &'a [String]) -> Result<Option<Asked<'a>>, AllocError>
+    ensures { IfOk result (λ a. seen a ≡ asked (map string_bytes words.now)) }
+{
+    match words {
+        [first, second] => either(alloc, first.as_bytes(), second.as_bytes()),
+        _ => Ok(None),
+    }
+}
+
+/// What two words ask for in either order.
+fn either<'a>(alloc: Global, first: &'a [u8], second: &'a [u8]) -> Result<Option<Asked<'a>>, AllocError>
+    ensures { IfOk result (λ a. seen a ≡ or_else (asked_by first.now second.now) (asked_by second.now first.now)) }
+{
+    match asked_in(alloc, first, second)? {
+        Some(asked) => Ok(Some(asked)),
+        None => asked_in(alloc, second, first),
     }
 }
