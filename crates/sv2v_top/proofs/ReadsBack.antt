@@ -1,5 +1,5 @@
 -- A written text reads as its design.
-use Rattle.std.proofs.Common.{◌≡◌, ℕ, zero, suc, ◌+◌, ◌-◌, ◌<◌, ◌≤◌, ◌==◌, ◌⊎◌, inl, inr, Bool, true, false, List, [], ◌∷◌, ◌++◌, map, drop, length, slice_get, Option, Some, None, refl, sym, ap, subst, ◌∙◌, arith}
+use Rattle.std.proofs.Common.{◌≡◌, ℕ, zero, suc, ◌+◌, ◌-◌, ◌<◌, ◌≤◌, ◌^◌, ◌==◌, ◌⊎◌, inl, inr, Bool, true, false, List, [], ◌∷◌, ◌++◌, map, sum, bytes_eq, drop, length, slice_get, Option, Some, None, refl, sym, ap, subst, ◌∙◌, arith}
 use Rattle.row_machine.specs.Valuation.{Member}
 use Rattle.ll_engine.specs.declared.table.Part.TheVariants.{Non, Many}
 use Rattle.ll_engine.specs.declared.tree.Tree.{Tree}
@@ -30,8 +30,8 @@ use Rattle.sv2v_top.specs.target.Table as T
 use Rattle.sv2v_top.specs.target.Table.{table}
 use Rattle.sv2v_top.specs.target.Meaning.{Parts, nothing, joined, parts_of, design_of}
 use Rattle.sv2v_top.specs.target.Layout.{tokens_of, module_layout, text_layout, text_of}
-use Rattle.sv2v_top.specs.target.Reading.{declared_names, driver_names, WellFormedModule, WellFormed, VReads, nesting_limit}
-use Rattle.sv2v_top.proofs.Names.{path, net_of, pick_true, pick_false, true_or_false, append-nil, member-at, member-map, member-unmap, member-split, number-found, range_keeps}
+use Rattle.sv2v_top.specs.target.Reading.{declared_names, driver_names, WellFormedModule, WellFormed, VReads, FitsTop, nesting_limit}
+use Rattle.sv2v_top.proofs.Names.{path, net_of, pick_true, pick_false, true_or_false, append-nil, member-at, member-map, member-unmap, member-split, number-found, range_keeps, same_bytes}
 use Rattle.sv2v_top.proofs.Meanings.{named_meaning, lowered-means}
 use Rattle.sv2v_top.proofs.Machines.{is_input, driver_of, nets-of, drivers-of}
 use Rattle.sv2v_top.proofs.Written.{text-tokens, more-than-one}
@@ -179,3 +179,18 @@ module _ (d : Design) (t : Translatable d) (p : Printable d) where
       means = means;
       well_formed = well-formed
     }
+
+width-sum : (signals : List Signal) → ((s : Signal) → Member signals s → 1 ≤ s.width)
+    → map (λ (n : Net). n.width) (map (net_of is_input) signals) ≡ map (λ (s : Signal). s.width) signals
+width-sum [] w = refl
+width-sum (s ∷ signals) w = (λ i. range_keeps s.width (w s (inl refl)) i ∷ width-sum signals (λ u h. w u (inr h)) i)
+
+-- a design of few bits can be run with its top
+pub fits-top : (d : Design) → Translatable d → sum (map (λ (s : Signal). s.width) d.signals) ≤ 2 ^ 26 → FitsTop (lowered d) d.top
+fits-top d t few = record {
+    present = inl refl;
+    bits = subst (λ n. n ≤ 2 ^ 26)
+      (sym (ap (λ items. sum (map (λ (n : Net). n.width) (nets items))) (pick_true (bytes_eq d.top d.top) (lowered_module d).items [] (same_bytes d.top))
+        ∙ ap (λ ns. sum (map (λ (n : Net). n.width) ns)) (nets-of d.signals d.signals d.processes)
+        ∙ ap sum (width-sum d.signals t.widths))) few
+  }
