@@ -8,7 +8,6 @@ use Rattle.sv2v_top.specs.declared.v_tree.VPrim.{VPrim, VPrim-F, fold-roll-VPrim
 use Rattle.sv2v_top.specs.declared.v_tree.VPrim.TheVariants.{Number, Name, Paren, rolls-Number, rolls-Name, rolls-Paren}
 use Rattle.sv2v_top.specs.declared.v_tree.VExpr.{VExpr, VExpr-F, fold-roll-VExpr}
 use Rattle.sv2v_top.specs.declared.v_tree.VExpr.TheVariants.{Prim, Unary, Binary, rolls-Prim, rolls-Unary, rolls-Binary}
-use Rattle.sv2v_top.specs.target.Tokens.{Token}
 use Rattle.sv2v_top.specs.target.Layout.{Piece, piece_bytes, bytes_of, prim_pieces, expr_pieces, prim_layout, expr_layout}
 
 pub number-layout : (bits : List Bit4) → prim_layout (Number bits) ≡ prim_pieces (VPrim-F.Number bits)

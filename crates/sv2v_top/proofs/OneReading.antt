@@ -1,5 +1,5 @@
 -- A text reads as one design at most.
-use Rattle.std.proofs.Common.{◌≡◌, ℕ, ◌<◌, ◌==◌, Bool, true, cond, List, [], ◌∷◌, map, get_or, length, refl, sym, ap, ◌∙◌, arith}
+use Rattle.std.proofs.Common.{◌≡◌, ℕ, ◌==◌, true, cond, List, [], ◌∷◌, map, get_or, refl, sym, ap, ◌∙◌, arith}
 use Rattle.std.specs.List.{list_all}
 use Rattle.ll_engine.specs.Class.{IsFit}
 use Rattle.ll_engine.proofs.One.{one_reading}
@@ -16,13 +16,13 @@ use Rattle.sv2v_top.proofs.engine.Fit as Fit
 abbrev lead : ℕ → List ℕ
 lead h = get_or
     ([] ∷ (5 ∷ []) ∷ (10 ∷ []) ∷ (12 ∷ []) ∷ (7 ∷ 8 ∷ 9 ∷ []) ∷ (14 ∷ []) ∷ (3 ∷ 4 ∷ []) ∷ (1 ∷ [])
-      ∷ (2 ∷ 10 ∷ 1 ∷ 21 ∷ []) ∷ (18 ∷ 19 ∷ 20 ∷ []) ∷ (2 ∷ 10 ∷ 1 ∷ []) ∷ []) h []
+    ∷ (2 ∷ 10 ∷ 1 ∷ 21 ∷ []) ∷ (18 ∷ 19 ∷ 20 ∷ []) ∷ (2 ∷ 10 ∷ 1 ∷ []) ∷ []) h []
 
 -- what can come behind each head
 abbrev follow : ℕ → List ℕ
 follow h = get_or
     ([] ∷ [] ∷ (13 ∷ []) ∷ (11 ∷ []) ∷ (6 ∷ []) ∷ (1 ∷ []) ∷ (16 ∷ []) ∷ (17 ∷ [])
-      ∷ (11 ∷ 13 ∷ []) ∷ (11 ∷ 13 ∷ []) ∷ (11 ∷ 13 ∷ []) ∷ []) h []
+    ∷ (11 ∷ 13 ∷ []) ∷ (11 ∷ 13 ∷ []) ∷ (11 ∷ 13 ∷ []) ∷ []) h []
 
 -- texts and expressions start with other heads
 abbrev rank : ℕ → ℕ
@@ -40,5 +40,5 @@ table-fits = Fit.fit table first blank lead follow rank 4 firsts-closed rows-pas
 pub one-design : (bytes : List ℕ) (e f : VDesign) → VReads bytes e → VReads bytes f → e ≡ f
 one-design bytes e f a b =
     sym a.means
-      ∙ ap (design_of (tokens bytes)) (one_reading table table-fits (map symbol (tokens bytes)) nesting_limit nesting_limit a.tree b.tree a.reading b.reading)
-      ∙ b.means
+    ∙ ap (design_of (tokens bytes)) (one_reading table table-fits (map symbol (tokens bytes)) nesting_limit nesting_limit a.tree b.tree a.reading b.reading)
+    ∙ b.means

@@ -1,5 +1,5 @@
 -- Derivations by the target table, put together part by part with what they mean.
-use Rattle.std.proofs.Common.{◌≡◌, ℕ, zero, suc, ◌+◌, ◌≤◌, Bool, true, false, List, [], ◌∷◌, ◌++◌, map, drop, length, slice_get, Option, Some, None, refl, sym, ap, subst, ◌∙◌, append_assoc, arith, length-append}
+use Rattle.std.proofs.Common.{◌≡◌, ℕ, zero, suc, ◌+◌, ◌≤◌, true, List, [], ◌∷◌, ◌++◌, map, drop, length, slice_get, Option, Some, refl, sym, ap, subst, ◌∙◌, append_assoc, arith, length-append}
 use Rattle.ll_engine.specs.declared.table.Part.{Part}
 use Rattle.ll_engine.specs.declared.table.Row.{Row}
 use Rattle.ll_engine.specs.declared.tree.Tree.{Tree, Tree-F, fold-roll-Tree}
@@ -69,29 +69,32 @@ module _ (all : List Token) where
 
   pub ended : (around turn : ℕ) (after : Option ℕ) → Phrase around turn [] [] after nothing
   ended around turn after = record {
-      text = []; spells = refl; within = tt; trees = λ at. [];
-      reads = λ at rest e. Reads.ended (omega arith) refl;
-      means = λ at more e. refl
-    }
+    text = [];
+    spells = refl;
+    within = tt;
+    trees = λ at. [];
+    reads = λ at rest e. Reads.ended (omega arith) refl;
+    means = λ at more e. refl;
+  }
 
   pub symbol-read : {around turn : ℕ} {p : Part} {ps : List Part} {ts : List Token} {after : Option ℕ} {m : Parts} (t : Token)
       → terminal p ≡ Some (symbol t) → around ≤ nesting_limit → Phrase around around ps ts after m
       → Phrase around turn (p ∷ ps) (t ∷ ts) after (followed (token_parts (Some t)) m)
   symbol-read {around} {turn} {p} {ps} {ts} {after} {m} t is_symbol low h = record {
-      text = at_nesting (symbol t) around ∷ h.text;
-      spells = ap (λ xs. symbol t ∷ xs) h.spells;
-      within = (low, h.within);
-      trees = λ at. Leaf at ∷ h.trees (suc at);
-      reads = λ at rest e. Reads.symbol is_symbol refl refl
+    text = at_nesting (symbol t) around ∷ h.text;
+    spells = ap (λ xs. symbol t ∷ xs) h.spells;
+    within = (low, h.within);
+    trees = λ at. Leaf at ∷ h.trees (suc at);
+    reads = λ at rest e. Reads.symbol is_symbol refl refl
         (subst (λ to. Reads table suc around around ps (suc at) (h.text ++ rest) (h.trees (suc at)) to rest)
-          (count (length ts) at) (h.reads (suc at) rest e));
-      means = λ at more e.
+        (count (length ts) at) (h.reads (suc at) rest e));
+    means = λ at more e.
         ap (λ x. followed x (joined (map (parts_of all) (h.trees (suc at))))) (leaf-parts all at ∙ ap token_parts (get-at all (ts ++ more) at t e))
-          ∙ ap (followed (token_parts (Some t))) (h.means (suc at) more (drop-next all (ts ++ more) at t e))
-    }
+        ∙ ap (followed (token_parts (Some t))) (h.means (suc at) more (drop-next all (ts ++ more) at t e));
+  }
     where
-    count : (n at : ℕ) → n + suc at ≡ suc n + at
-    count n at = omega arith
+      count : (n at : ℕ) → n + suc at ≡ suc n + at
+      count n at = omega arith
 
   pub row-read : {around turn h i : ℕ} {p : Part} {ps : List Part} {row : Row} {ts us : List Token} {after : Option ℕ} {m n : Parts}
       → named p ≡ Some h → IsRowOf table h i row → IsBegun table row.parts (front ts (front us after))
@@ -99,38 +102,41 @@ module _ (all : List Token) where
       → Phrase around (level suc p around turn) (left_after p ps) us after n
       → Phrase around turn (p ∷ ps) (ts ++ us) after (followed (by_row (slice_get row_meanings i) m) n)
   row-read {around} {turn} {h} {i} {p} {ps} {row} {ts} {us} {after} {m} {n} is_named is_row begun a b = record {
-      text = a.text ++ b.text;
-      spells = map-joined symbol_of a.text b.text ∙ (λ j. a.spells j ++ b.spells j) ∙ sym (map-joined symbol ts us);
-      within = within-joined nesting_limit a.text b.text a.within b.within;
-      trees = λ at. Node i (a.trees at) ∷ b.trees (length ts + at);
-      reads = λ at rest e.
+    text = a.text ++ b.text;
+    spells = map-joined symbol_of a.text b.text ∙ (λ j. a.spells j ++ b.spells j) ∙ sym (map-joined symbol ts us);
+    within = within-joined nesting_limit a.text b.text a.within b.within;
+    trees = λ at. Node i (a.trees at) ∷ b.trees (length ts + at);
+    reads = λ at rest e.
         subst (λ w. Reads table suc around turn (p ∷ ps) at w (Node i (a.trees at) ∷ b.trees (length ts + at)) (length (ts ++ us) + at) rest)
-          (sym (append_assoc a.text b.text rest))
-          (subst (λ to. Reads table suc around turn (p ∷ ps) at (a.text ++ (b.text ++ rest)) (Node i (a.trees at) ∷ b.trees (length ts + at)) to rest)
-            (count ts us at)
-            (Reads.taken is_named is_row
-              (subst (λ x. IsBegun table row.parts x) (sym (next-front a.text (b.text ++ rest) ts (front us after) a.spells (next-front b.text rest us after b.spells e))) begun)
-              refl refl
-              (a.reads at (b.text ++ rest) (next-front b.text rest us after b.spells e))
-              (b.reads (length ts + at) rest e)));
-      means = λ at more e.
+        (sym (append_assoc a.text b.text rest))
+        (subst (λ to. Reads table suc around turn (p ∷ ps) at (a.text ++ (b.text ++ rest)) (Node i (a.trees at) ∷ b.trees (length ts + at)) to rest)
+        (count ts us at)
+        (Reads.taken is_named is_row
+        (subst (λ x. IsBegun table row.parts x) (sym (next-front a.text (b.text ++ rest) ts (front us after) a.spells (next-front b.text rest us after b.spells e))) begun)
+        refl refl
+        (a.reads at (b.text ++ rest) (next-front b.text rest us after b.spells e))
+        (b.reads (length ts + at) rest e)));
+    means = λ at more e.
         let here : drop at all ≡ ts ++ (us ++ more) = e ∙ append_assoc ts us more in
         ap (λ x. followed x (joined (map (parts_of all) (b.trees (length ts + at)))))
-            (node-parts all i (a.trees at) ∙ ap (by_row (slice_get row_meanings i)) (a.means at (us ++ more) here))
-          ∙ ap (followed (by_row (slice_get row_meanings i) m)) (b.means (length ts + at) more (drop-many all ts (us ++ more) at here))
-    }
+        (node-parts all i (a.trees at) ∙ ap (by_row (slice_get row_meanings i)) (a.means at (us ++ more) here))
+        ∙ ap (followed (by_row (slice_get row_meanings i) m)) (b.means (length ts + at) more (drop-many all ts (us ++ more) at here));
+  }
     where
-    count : (xs ys : List Token) (at : ℕ) → length ys + (length xs + at) ≡ length (xs ++ ys) + at
-    count xs ys at = omega (arith, length-append xs ys)
+      count : (xs ys : List Token) (at : ℕ) → length ys + (length xs + at) ≡ length (xs ++ ys) + at
+      count xs ys at = omega (arith, length-append xs ys)
 
   pub left-out : {around turn : ℕ} {p : Part} {ps : List Part} {ts : List Token} {after : Option ℕ} {m : Parts}
       → is_optional p ≡ true → (IsBegun table (p ∷ []) (front ts after) → ⊥) → Phrase around around ps ts after m
       → Phrase around turn (p ∷ ps) ts after m
   left-out {around} {turn} {p} {ps} {ts} {after} {m} o not_begun h = record {
-      text = h.text; spells = h.spells; within = h.within; trees = h.trees;
-      reads = λ at rest e. Reads.left_out o (λ b. not_begun (subst (λ x. IsBegun table (p ∷ []) x) (next-front h.text rest ts after h.spells e) b)) (h.reads at rest e);
-      means = h.means
-    }
+    text = h.text;
+    spells = h.spells;
+    within = h.within;
+    trees = h.trees;
+    reads = λ at rest e. Reads.left_out o (λ b. not_begun (subst (λ x. IsBegun table (p ∷ []) x) (next-front h.text rest ts after h.spells e) b)) (h.reads at rest e);
+    means = h.means;
+  }
 
   pub meaning-is : {around turn : ℕ} {ps : List Part} {ts : List Token} {after : Option ℕ} {m n : Parts} → m ≡ n → Phrase around turn ps ts after m → Phrase around turn ps ts after n
   meaning-is {around} {turn} {ps} {ts} {after} e h = subst (λ x. Phrase around turn ps ts after x) e h

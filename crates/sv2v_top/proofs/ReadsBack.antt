@@ -1,12 +1,12 @@
 -- A written text reads as its design.
-use Rattle.std.proofs.Common.{◌≡◌, ℕ, zero, suc, ◌+◌, ◌-◌, ◌<◌, ◌≤◌, ◌==◌, ◌⊎◌, inl, inr, Bool, true, false, List, [], ◌∷◌, ◌++◌, map, drop, length, slice_get, Option, Some, None, refl, sym, ap, subst, ◌∙◌, arith}
+use Rattle.std.proofs.Common.{◌≡◌, ℕ, zero, suc, ◌+◌, ◌-◌, ◌≤◌, ◌^◌, ◌==◌, inl, inr, true, false, List, [], ◌∷◌, ◌++◌, map, sum, bytes_eq, length, slice_get, Some, None, refl, sym, ap, subst, ◌∙◌}
 use Rattle.row_machine.specs.Valuation.{Member}
-use Rattle.ll_engine.specs.declared.table.Part.TheVariants.{Non, Many}
+use Rattle.ll_engine.specs.declared.table.Part.TheVariants.{Many}
 use Rattle.ll_engine.specs.declared.tree.Tree.{Tree}
 use Rattle.ll_engine.specs.declared.tree.Tree.TheVariants.{Node}
 use Rattle.ll_engine.specs.Grammar.{Begins, IsBegun}
-use Rattle.ll_engine.specs.Reading.{Nested, next, Reads}
-use Rattle.ll_engine.specs.Texts.{IsText, IsReading}
+use Rattle.ll_engine.specs.Reading.{next, Reads}
+use Rattle.ll_engine.specs.Texts.{IsText}
 use Rattle.sv2v_top.specs.declared.sv_types.SignalKind.{SignalKind}
 use Rattle.sv2v_top.specs.declared.sv_types.SignalKind.TheVariants.{InputNet, OutputVar}
 use Rattle.sv2v_top.specs.declared.sv_types.Signal.{Signal}
@@ -17,21 +17,19 @@ use Rattle.sv2v_top.specs.declared.sv_types.Design.{Design}
 use Rattle.sv2v_top.specs.declared.v_tree.VItem.{VItem}
 use Rattle.sv2v_top.specs.declared.v_tree.VItem.TheVariants.{Input, Output}
 use Rattle.sv2v_top.specs.declared.v_tree.VModule.{VModule}
-use Rattle.sv2v_top.specs.declared.v_tree.VDesign.{VDesign}
 use Rattle.sv2v_top.specs.source.Rules.{distinct}
 use Rattle.sv2v_top.specs.source.Translatable.{Translatable, IsOfKind, primary_signals, expr_signals}
-use Rattle.sv2v_top.specs.Lowering.{name_of, path_or_nothing, range_of, declaration_of, lowered_expr, lowered_process, lowered_module, lowered}
+use Rattle.sv2v_top.specs.Lowering.{name_of, path_or_nothing, range_of, declaration_of, lowered_process, lowered_module, lowered}
 use Rattle.sv2v_top.specs.Printable.{Printable}
-use Rattle.sv2v_top.specs.target.Value.{meaning}
 use Rattle.sv2v_top.specs.target.Signals.{Net, nets, Driver, drivers, number_of}
 use Rattle.sv2v_top.specs.target.Tokens.{Token, tokens}
 use Rattle.sv2v_top.specs.target.Symbols.{symbol}
 use Rattle.sv2v_top.specs.target.Table as T
 use Rattle.sv2v_top.specs.target.Table.{table}
-use Rattle.sv2v_top.specs.target.Meaning.{Parts, nothing, joined, parts_of, design_of}
-use Rattle.sv2v_top.specs.target.Layout.{tokens_of, module_layout, text_layout, text_of}
-use Rattle.sv2v_top.specs.target.Reading.{declared_names, driver_names, WellFormedModule, WellFormed, VReads, nesting_limit}
-use Rattle.sv2v_top.proofs.Names.{path, net_of, pick_true, pick_false, true_or_false, append-nil, member-at, member-map, member-unmap, member-split, number-found, range_keeps}
+use Rattle.sv2v_top.specs.target.Meaning.{Parts, nothing, design_of}
+use Rattle.sv2v_top.specs.target.Layout.{tokens_of, module_layout, text_of}
+use Rattle.sv2v_top.specs.target.Reading.{declared_names, driver_names, WellFormedModule, WellFormed, VReads, FitsTop}
+use Rattle.sv2v_top.proofs.Names.{path, net_of, pick_true, pick_false, true_or_false, append-nil, member-at, member-map, member-unmap, member-split, number-found, range_keeps, same_bytes}
 use Rattle.sv2v_top.proofs.Meanings.{named_meaning, lowered-means}
 use Rattle.sv2v_top.proofs.Machines.{is_input, driver_of, nets-of, drivers-of}
 use Rattle.sv2v_top.proofs.Written.{text-tokens, more-than-one}
@@ -67,8 +65,8 @@ module _ (d : Design) (t : Translatable d) (p : Printable d) where
   name-declared : (kind : SignalKind) (n : ℕ) → IsOfKind d.signals kind n → Member (declared_names m.items) (name_of d.signals n)
   name-declared kind n k =
       subst (λ ns. Member ns (name_of d.signals n)) (sym declared-are)
-        (subst (λ x. Member (map path d.signals) x) (sym (ap path_or_nothing k.is_there))
-          (member-map path d.signals k.signal (member-at d.signals n k.signal k.is_there)))
+      (subst (λ x. Member (map path d.signals) x) (sym (ap path_or_nothing k.is_there))
+      (member-map path d.signals k.signal (member-at d.signals n k.signal k.is_there)))
 
   driver-at : (a : Driver) → Member (drivers m.items) a → (q : Process) × Member d.processes q × (a ≡ driver_of d.signals q)
   driver-at a h = member-unmap (driver_of d.signals) d.processes a (subst (λ ds. Member ds a) (drivers-of d.signals d.signals d.processes) h)
@@ -80,7 +78,7 @@ module _ (d : Design) (t : Translatable d) (p : Printable d) where
   used-declared q h n (inl e) = subst (λ x. Member (declared_names m.items) x) (sym e) (name-declared OutputVar q.target (t.targets q h))
   used-declared q h n (inr e) =
       let named : Member (map (name_of d.signals) (expr_signals q.value)) n =
-          subst (λ ns. Member ns n) (ap (λ r. r.names) (lowered-means d.signals q.value) ∙ names-read d.signals q.value) e in
+      subst (λ ns. Member ns n) (ap (λ r. r.names) (lowered-means d.signals q.value) ∙ names-read d.signals q.value) e in
       let u = member-unmap (name_of d.signals) (expr_signals q.value) n named in
       subst (λ x. Member (declared_names m.items) x) (sym u.2) (name-declared InputNet u.0 (t.operands q h u.0 u.1))
 
@@ -99,31 +97,31 @@ module _ (d : Design) (t : Translatable d) (p : Printable d) where
 
   pub well-formed-module : WellFormedModule m
   well-formed-module = record {
-      declared_once = ap distinct declared-are ∙ t.names;
-      declared = λ a h n k. let u = driver-at a h in used-declared u.0 u.1 n (subst (λ x. Member (driver_names x) n) u.2 k);
-      ports_once = t.names;
-      ports_declared = λ n h. subst (λ ns. Member ns n) (sym declared-are) h;
-      declared_ports = λ n h. subst (λ ns. Member ns n) declared-are h;
-      widths = λ n h. (let u = net-at n h in
+    declared_once = ap distinct declared-are ∙ t.names;
+    declared = λ a h n k. let u = driver-at a h in used-declared u.0 u.1 n (subst (λ x. Member (driver_names x) n) u.2 k);
+    ports_once = t.names;
+    ports_declared = λ n h. subst (λ ns. Member ns n) (sym declared-are) h;
+    declared_ports = λ n h. subst (λ ns. Member ns n) declared-are h;
+    widths = λ n h. (let u = net-at n h in
         subst (λ w. w ≤ 65536) (sym (ap (λ (x : Net). x.width) u.2 ∙ range_keeps u.0.width (t.widths u.0 u.1))) (p.widths u.0 u.1));
-      targets = λ a h n k e. (let u = driver-at a h in let v = net-at n k in let o = t.targets u.0 u.1 in
+    targets = λ a h n k e. (let u = driver-at a h in let v = net-at n k in let o = t.targets u.0 u.1 in
         let names : v.0.path ≡ o.signal.path =
-            sym (ap (λ (x : Net). x.name) v.2) ∙ e ∙ ap (λ (x : Driver). x.target) u.2 ∙ ap path_or_nothing o.is_there in
+        sym (ap (λ (x : Net). x.name) v.2) ∙ e ∙ ap (λ (x : Driver). x.target) u.2 ∙ ap path_or_nothing o.is_there in
         let one : v.0 ≡ o.signal = same-signal v.0 u.0.target o.signal v.1 o.is_there names in
-        ap (λ (x : Net). x.input) v.2 ∙ no-input o.signal.kind o.is_kind v.0 (ap (λ (x : Signal). x.kind) one))
-    }
+        ap (λ (x : Net). x.input) v.2 ∙ no-input o.signal.kind o.is_kind v.0 (ap (λ (x : Signal). x.kind) one));
+  }
 
   pub well-formed : WellFormed (lowered d)
   well-formed = record {
-      modules_once = refl;
-      modules = λ v h. elim h [ inl e ↦ subst (λ x. WellFormedModule x) (sym e) well-formed-module | inr k ↦ elim k [ ] ]
-    }
+    modules_once = refl;
+    modules = λ v h. elim h [ inl e ↦ subst (λ x. WellFormedModule x) (sym e) well-formed-module | inr k ↦ elim k [ ] ];
+  }
 
   range-positive : (w : ℕ) → 1 ≤ w → IsPositive (range_of w)
   range-positive w low = elim (true_or_false (w == 1)) [
-        inl e ↦ subst (λ o. IsPositive o) (sym (pick_true (w == 1) None (Some (w - 1)) e)) tt
-      | inr e ↦ subst (λ o. IsPositive o) (sym (pick_false (w == 1) None (Some (w - 1)) e)) (more-than-one w low e)
-      ]
+    | inl e ↦ subst (λ o. IsPositive o) (sym (pick_true (w == 1) None (Some (w - 1)) e)) tt
+    | inr e ↦ subst (λ o. IsPositive o) (sym (pick_false (w == 1) None (Some (w - 1)) e)) (more-than-one w low e)
+  ]
 
   module _ (all : List Token) where
     declaration-read : (kind : SignalKind) (w : ℕ) (n : List ℕ) → 1 ≤ w
@@ -134,10 +132,10 @@ module _ (d : Design) (t : Translatable d) (p : Printable d) where
     item-read : (i : VItem) → Member m.items i → ItemReads all i
     item-read i h =
         elim (member-split (map declaration_of d.signals) (map (lowered_process d.signals) d.processes) i h) [
-          inl a ↦ (let u = member-unmap declaration_of d.signals i a in
-            subst (λ (x : VItem). ItemReads all x) (sym u.2) (declaration-read u.0.kind u.0.width u.0.path (t.widths u.0 u.1)))
-        | inr a ↦ (let u = member-unmap (lowered_process d.signals) d.processes i a in
-            subst (λ (x : VItem). ItemReads all x) (sym u.2) (assign-read all d.signals (name_of d.signals u.0.target) u.0.value (p.values u.0 u.1)))
+          | inl a ↦ (let u = member-unmap declaration_of d.signals i a in
+              subst (λ (x : VItem). ItemReads all x) (sym u.2) (declaration-read u.0.kind u.0.width u.0.path (t.widths u.0 u.1)))
+          | inr a ↦ (let u = member-unmap (lowered_process d.signals) d.processes i a in
+              subst (λ (x : VItem). ItemReads all x) (sym u.2) (assign-read all d.signals (name_of d.signals u.0.target) u.0.value (p.values u.0 u.1)))
         ]
 
   abbrev pub text : List ℕ
@@ -155,27 +153,45 @@ module _ (d : Design) (t : Translatable d) (p : Printable d) where
   is-text : IsText table phrase.text derivation
   unfolding derivation
   is-text = record {
-      head = T.text; row = _; is_first = row_text; to = _;
-      reads = Reads.taken refl row_text
+    head = T.text;
+    row = _;
+    is_first = row_text;
+    to = _;
+    reads = Reads.taken refl row_text
         (subst (λ x. IsBegun table (Many T.module_head ∷ []) x)
-          (sym (ap next (sym (append-nil phrase.text)) ∙ next-front phrase.text [] (tokens_of (module_layout m)) None phrase.spells refl))
-          (Begins.inside refl row_module (Begins.itself refl)))
+        (sym (ap next (sym (append-nil phrase.text)) ∙ next-front phrase.text [] (tokens_of (module_layout m)) None phrase.spells refl))
+        (Begins.inside refl row_module (Begins.itself refl)))
         refl refl
         (subst (λ w. Reads table suc 0 0 (Many T.module_head ∷ []) 0 w (phrase.trees 0) (length (tokens_of (module_layout m)) + 0) [])
-          (append-nil phrase.text) (phrase.reads 0 [] refl))
-        (Reads.ended refl refl)
-    }
+        (append-nil phrase.text) (phrase.reads 0 [] refl))
+        (Reads.ended refl refl);
+  }
 
   means : design_of (tokens text) derivation ≡ lowered d
   unfolding derivation
   means =
       ap (λ (x : Parts). record { modules = x.modules })
-        (node-parts (tokens text) 0 (phrase.trees 0) ∙ phrase.means 0 [] (all-are ∙ sym (append-nil (tokens_of (module_layout m)))))
+      (node-parts (tokens text) 0 (phrase.trees 0) ∙ phrase.means 0 [] (all-are ∙ sym (append-nil (tokens_of (module_layout m)))))
 
   pub written-reads : VReads text (lowered d)
   written-reads = record {
-      tree = derivation;
-      reading = record { text = phrase.text; is_text = is-text; spells = phrase.spells ∙ ap (map symbol) (sym all-are); within = phrase.within };
-      means = means;
-      well_formed = well-formed
-    }
+    tree = derivation;
+    reading = record { text = phrase.text; is_text = is-text; spells = phrase.spells ∙ ap (map symbol) (sym all-are); within = phrase.within };
+    means = means;
+    well_formed = well-formed;
+  }
+
+width-sum : (signals : List Signal) → ((s : Signal) → Member signals s → 1 ≤ s.width)
+    → map (λ (n : Net). n.width) (map (net_of is_input) signals) ≡ map (λ (s : Signal). s.width) signals
+width-sum [] w = refl
+width-sum (s ∷ signals) w = (λ i. range_keeps s.width (w s (inl refl)) i ∷ width-sum signals (λ u h. w u (inr h)) i)
+
+-- a design of few bits can be run with its top
+pub fits-top : (d : Design) → Translatable d → sum (map (λ (s : Signal). s.width) d.signals) ≤ 2 ^ 26 → FitsTop (lowered d) d.top
+fits-top d t few = record {
+  present = inl refl;
+  bits = subst (λ n. n ≤ 2 ^ 26)
+      (sym (ap (λ items. sum (map (λ (n : Net). n.width) (nets items))) (pick_true (bytes_eq d.top d.top) (lowered_module d).items [] (same_bytes d.top))
+      ∙ ap (λ ns. sum (map (λ (n : Net). n.width) ns)) (nets-of d.signals d.signals d.processes)
+      ∙ ap sum (width-sum d.signals t.widths))) few;
+}

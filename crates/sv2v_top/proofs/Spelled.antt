@@ -1,6 +1,6 @@
 -- The tokens of a piece that is written.
-use Rattle.std.proofs.Common.{◌≡◌, ℕ, zero, suc, ◌+◌, ◌-◌, ◌<◌, ◌≤◌, ◌^◌, ◌==◌, Bool, true, false, not, cond, ◌&&◌, ◌||◌, if◌then◌else◌, List, [], ◌∷◌, ◌++◌, map, take, drop, length, reverse, codes, decimal, get_or, refl, sym, ap, subst, ◌∙◌, append_assoc, le-leb, arith}
-use Rattle.std.specs.Prelude.{nat_le, nat_lt}
+use Rattle.std.proofs.Common.{◌≡◌, ℕ, ◌+◌, ◌<◌, ◌≤◌, ◌^◌, ◌==◌, Bool, true, false, not, ◌&&◌, List, [], ◌∷◌, ◌++◌, map, take, drop, length, reverse, decimal, get_or, refl, sym, ap, subst, ◌∙◌, append_assoc, le-leb, arith}
+use Rattle.std.specs.Prelude.{nat_le}
 use Rattle.std.specs.List.{prefix_len, list_all}
 use Rattle.std.specs.Char.{is_ascii_digit}
 use Rattle.std.specs.Str.{all_ascii_digits}
@@ -13,10 +13,9 @@ use Rattle.std.proofs.lemmas.List.{reverse-reverse, length-map, length-append, l
 use Rattle.b4_core.specs.declared.bit.Bit4.{Bit4}
 use Rattle.b4_core.specs.declared.bit.Bit4.TheVariants.{Zero, One, X, Z}
 use Rattle.sv2v_top.specs.target.Reserved.{is_reserved}
-use Rattle.sv2v_top.specs.target.Tokens.{Token, Cut, gap, cut, tokens, tokens_from, first_cut, is_digit, is_letter, is_word, is_bit, bit_of, named, word_cut, digit_cut, sized_cut, begins, is_simple}
-use Rattle.sv2v_top.specs.target.Layout.{Piece, token, space, newline, bytes_of, tokens_of, spelling, bit_digit}
+use Rattle.sv2v_top.specs.target.Tokens.{Token, Cut, gap, cut, tokens, tokens_from, first_cut, is_digit, is_letter, is_word, is_bit, bit_of, named, word_cut, sized_cut, is_simple}
+use Rattle.sv2v_top.specs.target.Layout.{spelling, bit_digit}
 use Rattle.sv2v_top.proofs.Names.{pick_true, pick_false, not_true, append-nil}
-use Rattle.sv2v_top.proofs.Layouts.{bytes-append}
 
 -- the tokens of a text by what it begins with
 abbrev pub told : Cut → List ℕ → List Token
@@ -36,7 +35,7 @@ cut-step : (c : ℕ) (word rest : List ℕ) (t : Token) (n : ℕ) → first_cut 
     → tokens ((c ∷ word) ++ rest) ≡ t ∷ tokens rest
 cut-step c word rest t n e l =
     is-told (first_cut c (word ++ rest)) (word ++ rest) ∙ ap (λ k. told k (word ++ rest)) e
-      ∙ ap (λ k. t ∷ tokens_from k (word ++ rest)) l ∙ ap (λ ts. t ∷ ts) (skip word rest)
+    ∙ ap (λ k. t ∷ tokens_from k (word ++ rest)) l ∙ ap (λ ts. t ∷ ts) (skip word rest)
 
 -- The text begins with a byte that ends a name or a number.
 pub record Ends (text : List ℕ) : Type 0 where
@@ -69,12 +68,12 @@ name-read (c ∷ n) rest e ends =
     let parts = and_parts (is_letter c && list_all is_word n) (not (is_reserved (c ∷ n))) e in
     let first = and_parts (is_letter c) (list_all is_word n) parts.0 in
     let run : prefix_len is_word (n ++ rest) ≡ length n =
-        subst (λ r. prefix_len is_word (n ++ r) ≡ length n) (sym ends.is_text) (run-length is_word n ends.behind ends.byte first.1 ends.no_word) in
+    subst (λ r. prefix_len is_word (n ++ r) ≡ length n) (sym ends.is_text) (run-length is_word n ends.behind ends.byte first.1 ends.no_word) in
     let plain : named (c ∷ n) ≡ Token.name (c ∷ n) = pick_false (is_reserved (c ∷ n)) (Token.word (c ∷ n)) (Token.name (c ∷ n)) (not_true _ parts.1) in
     let whole : word_cut c (n ++ rest) ≡ cut (Token.name (c ∷ n)) (prefix_len is_word (n ++ rest)) =
-        ap (λ k. cut (named (c ∷ take k (n ++ rest))) (prefix_len is_word (n ++ rest))) run
-          ∙ ap (λ w. cut (named (c ∷ w)) (prefix_len is_word (n ++ rest))) (take-front n rest)
-          ∙ ap (λ t. cut t (prefix_len is_word (n ++ rest))) plain in
+    ap (λ k. cut (named (c ∷ take k (n ++ rest))) (prefix_len is_word (n ++ rest))) run
+    ∙ ap (λ w. cut (named (c ∷ w)) (prefix_len is_word (n ++ rest))) (take-front n rest)
+    ∙ ap (λ t. cut t (prefix_len is_word (n ++ rest))) plain in
     cut-step c n rest (Token.name (c ∷ n)) (prefix_len is_word (n ++ rest)) (pick_true (is_letter c) _ _ first.0 ∙ whole) run
 
 -- the digits of a positive number
@@ -103,14 +102,14 @@ digit-cut n d ds tail behind b pos small e begin stop =
     let value : digits_value 10 (d ∷ ds) ≡ n = subst (λ w. digits_value 10 w ≡ n) e (digits_value-decimal own n small) in
     let big : 48 < d = subst (λ w. 48 < get_or w 0 0) e (first_decimal n pos small) in
     let run : prefix_len is_digit (ds ++ tail) ≡ length ds =
-        subst (λ r. prefix_len is_digit (ds ++ r) ≡ length ds) (sym begin) (run-length is_digit ds behind b parts.1 stop) in
+    subst (λ r. prefix_len is_digit (ds ++ r) ≡ length ds) (sym begin) (run-length is_digit ds behind b parts.1 stop) in
     pick_false (is_letter d) _ _ (digit-letter d parts.0)
-      ∙ pick_true (is_digit d) _ _ parts.0
-      ∙ pick_false (d == 48) (cut (Token.decimal 0) 0) _ (no-zero d big)
-      ∙ ap (λ m. sized_cut m (digits_value 10 (d ∷ take m (ds ++ tail))) (drop m (ds ++ tail))) run
-      ∙ ap (λ w. sized_cut (length ds) (digits_value 10 (d ∷ w)) (drop (length ds) (ds ++ tail))) (take-front ds tail)
-      ∙ ap (λ v. sized_cut (length ds) v (drop (length ds) (ds ++ tail))) value
-      ∙ ap (λ r. sized_cut (length ds) n r) (drop-front ds tail)
+    ∙ pick_true (is_digit d) _ _ parts.0
+    ∙ pick_false (d == 48) (cut (Token.decimal 0) 0) _ (no-zero d big)
+    ∙ ap (λ m. sized_cut m (digits_value 10 (d ∷ take m (ds ++ tail))) (drop m (ds ++ tail))) run
+    ∙ ap (λ w. sized_cut (length ds) (digits_value 10 (d ∷ w)) (drop (length ds) (ds ++ tail))) (take-front ds tail)
+    ∙ ap (λ v. sized_cut (length ds) v (drop (length ds) (ds ++ tail))) value
+    ∙ ap (λ r. sized_cut (length ds) n r) (drop-front ds tail)
 
 -- a token that begins with a number
 digits-read : (n d : ℕ) (ds word rest behind : List ℕ) (b : ℕ) (t : Token) (k : ℕ) → 0 < n → n < 2 ^ 64 → decimal n ≡ d ∷ ds
@@ -118,8 +117,8 @@ digits-read : (n d : ℕ) (ds word rest behind : List ℕ) (b : ℕ) (t : Token)
     → tokens ((decimal n ++ word) ++ rest) ≡ t ∷ tokens rest
 digits-read n d ds word rest behind b t k pos small e begin stop h l =
     ap (λ w. tokens ((w ++ word) ++ rest)) e
-      ∙ cut-step d (ds ++ word) rest t k
-          (ap (first_cut d) (append_assoc ds word rest) ∙ digit-cut n d ds (word ++ rest) behind b pos small e begin stop ∙ h) l
+    ∙ cut-step d (ds ++ word) rest t k
+    (ap (first_cut d) (append_assoc ds word rest) ∙ digit-cut n d ds (word ++ rest) behind b pos small e begin stop ∙ h) l
 
 pub split : (xs : List ℕ) → 0 < length xs → (x : ℕ) × (ys : List ℕ) × (xs ≡ x ∷ ys)
 split [] h = absurd (omega arith)
@@ -129,8 +128,8 @@ pub decimal-read : (n : ℕ) (behind : List ℕ) → 0 < n → n < 2 ^ 64 → to
 decimal-read n behind pos small =
     let cut_up = split (decimal n) (decimal_nonempty n small) in
     ap (λ w. tokens (w ++ (58 ∷ behind))) (sym (append-nil (decimal n)))
-      ∙ digits-read n cut_up.0 cut_up.1 [] (58 ∷ behind) behind 58 (Token.decimal n) (length cut_up.1) pos small cut_up.2 refl refl refl
-          (ap length (sym (append-nil cut_up.1)))
+    ∙ digits-read n cut_up.0 cut_up.1 [] (58 ∷ behind) behind 58 (Token.decimal n) (length cut_up.1) pos small cut_up.2 refl refl refl
+    (ap length (sym (append-nil cut_up.1)))
 
 -- the digits of a vector
 bit-digits : (bits : List Bit4) → list_all is_bit (map bit_digit bits) ≡ true
@@ -163,13 +162,13 @@ number-cut : (bits : List Bit4) (k : ℕ) (m rest : List ℕ) → m ≡ map bit_
 number-cut bits k m rest e l pos small =
     let enough = run-most is_bit m rest (ap (list_all is_bit) e ∙ bit-digits (reverse bits)) in
     pick_true (((true && nat_le 1 (length bits)) && nat_le (length bits) 128) && nat_le (length bits) (prefix_len is_bit (m ++ rest)))
-        (cut (Token.number (reverse (map bit_of (take (length bits) (m ++ rest))))) (k + (2 + length bits))) (cut (Token.decimal (length bits)) k)
-        (all-four true (nat_le 1 (length bits)) (nat_le (length bits) 128) (nat_le (length bits) (prefix_len is_bit (m ++ rest))) refl
-          (le-leb 1 (length bits) (omega arith)) (le-leb (length bits) 128 small) (le-leb (length bits) _ (omega (arith, enough, l))))
-      ∙ ap (λ j. cut (Token.number (reverse (map bit_of (take j (m ++ rest))))) (k + (2 + length bits))) (sym l)
-      ∙ ap (λ w. cut (Token.number (reverse (map bit_of w))) (k + (2 + length bits))) (take-front m rest ∙ e)
-      ∙ ap (λ bs. cut (Token.number (reverse bs)) (k + (2 + length bits))) (bits-back (reverse bits))
-      ∙ ap (λ bs. cut (Token.number bs) (k + (2 + length bits))) (reverse-reverse bits)
+    (cut (Token.number (reverse (map bit_of (take (length bits) (m ++ rest))))) (k + (2 + length bits))) (cut (Token.decimal (length bits)) k)
+    (all-four true (nat_le 1 (length bits)) (nat_le (length bits) 128) (nat_le (length bits) (prefix_len is_bit (m ++ rest))) refl
+    (le-leb 1 (length bits) (omega arith)) (le-leb (length bits) 128 small) (le-leb (length bits) _ (omega (arith, enough, l))))
+    ∙ ap (λ j. cut (Token.number (reverse (map bit_of (take j (m ++ rest))))) (k + (2 + length bits))) (sym l)
+    ∙ ap (λ w. cut (Token.number (reverse (map bit_of w))) (k + (2 + length bits))) (take-front m rest ∙ e)
+    ∙ ap (λ bs. cut (Token.number (reverse bs)) (k + (2 + length bits))) (bits-back (reverse bits))
+    ∙ ap (λ bs. cut (Token.number bs) (k + (2 + length bits))) (reverse-reverse bits)
 
 pub number-read : (bits : List Bit4) (rest : List ℕ) → 0 < length bits → length bits ≤ 128
     → tokens (spelling (Token.number bits) ++ rest) ≡ Token.number bits ∷ tokens rest
@@ -180,5 +179,5 @@ number-read bits rest pos small =
     let l : length m ≡ length bits = length-map (reverse bits) bit_digit ∙ length-reverse bits in
     let cut_up = split (decimal n) (decimal_nonempty n low) in
     digits-read n cut_up.0 cut_up.1 (39 ∷ 98 ∷ m) rest (98 ∷ (m ++ rest)) 39 (Token.number bits) (length cut_up.1 + (2 + n)) pos low cut_up.2 refl refl
-      (number-cut bits (length cut_up.1) m rest refl l pos small)
-      (let both = length-append cut_up.1 (39 ∷ 98 ∷ m) in omega (arith, both, l))
+    (number-cut bits (length cut_up.1) m rest refl l pos small)
+    (let both = length-append cut_up.1 (39 ∷ 98 ∷ m) in omega (arith, both, l))

@@ -1,12 +1,11 @@
 -- What the heads of a table begin with and which can be empty, from a certificate that a computation checks.
-use Rattle.std.proofs.Common.{◌≡◌, ℕ, zero, suc, ◌==◌, Bool, true, false, not, cond, ◌&&◌, ◌||◌, List, [], ◌∷◌, ◌++◌, slice_get, Option, Some, None, inl, inr, eq-eqb, eqb-true, refl, sym, ap, subst, ◌∙◌}
+use Rattle.std.proofs.Common.{◌≡◌, ℕ, zero, suc, ◌==◌, Bool, true, false, not, cond, ◌&&◌, ◌||◌, List, [], ◌∷◌, ◌++◌, slice_get, Some, inl, inr, eq-eqb, eqb-true, refl, sym, subst}
 use Rattle.std.specs.List.{list_all, list_any}
 use Rattle.std.proofs.lemmas.Bool.{and_parts, or_cases, or_left, or_right, false≢true}
-use Rattle.std.proofs.lemmas.Bool.Decides.{nat_tests}
 use Rattle.ll_engine.specs.declared.table.Part.{Part}
 use Rattle.ll_engine.specs.declared.table.Part.TheVariants.{Term, Non, Maybe, Many, Chain}
 use Rattle.ll_engine.specs.declared.table.Row.{Row}
-use Rattle.ll_engine.specs.Grammar.{terminal, named, is_optional, IsRowOf, IsBlank, Begins}
+use Rattle.ll_engine.specs.Grammar.{terminal, named, is_optional, IsBlank, Begins}
 
 abbrev pub has : List ℕ → ℕ → Bool
 has xs a = list_any (λ x. x == a) xs
@@ -22,16 +21,16 @@ has-within [] ys a e h = absurd (false≢true h)
 has-within (x ∷ xs) ys a e h =
     let parts = and_parts (has ys x) (are_within xs ys) e in
     elim (or_cases (x == a) (has xs a) h) [
-      inl k ↦ subst (λ b. has ys b ≡ true) (eqb-true x a k) parts.0
-    | inr k ↦ has-within xs ys a parts.1 k
+      | inl k ↦ subst (λ b. has ys b ≡ true) (eqb-true x a k) parts.0
+      | inr k ↦ has-within xs ys a parts.1 k
     ]
 
 pub has-left : (xs ys : List ℕ) (a : ℕ) → has xs a ≡ true → has (xs ++ ys) a ≡ true
 has-left [] ys a h = absurd (false≢true h)
 has-left (x ∷ xs) ys a h =
     elim (or_cases (x == a) (has xs a) h) [
-      inl k ↦ or_left (x == a) (has (xs ++ ys) a) k
-    | inr k ↦ or_right (x == a) (has (xs ++ ys) a) (has-left xs ys a k)
+      | inl k ↦ or_left (x == a) (has (xs ++ ys) a) k
+      | inr k ↦ or_right (x == a) (has (xs ++ ys) a) (has-left xs ys a k)
     ]
 
 pub has-right : (xs ys : List ℕ) (a : ℕ) → has ys a ≡ true → has (xs ++ ys) a ≡ true
@@ -100,24 +99,24 @@ module _ (t : List Row) (first : ℕ → List ℕ) (blank : ℕ → Bool) where
     pub begins-sound : {ps : List Part} {a : ℕ} → Begins t ps a → has (firsts ps) a ≡ true
     begins-sound (Begins.itself {p} {ps} {a} e) = has-left (own_firsts p) (cond (skips p) (firsts ps) []) a (of-term p a e)
       where
-      of-term : (q : Part) (b : ℕ) → terminal q ≡ Some b → has (own_firsts q) b ≡ true
-      of-term (Term c) b k = let same : b ≡ c = cc in or_left (c == b) false (subst (λ d. (c == d) ≡ true) (sym same) (same-number c))
-      of-term (Non h) b k = cc
-      of-term (Maybe h) b k = cc
-      of-term (Many h) b k = cc
-      of-term (Chain h) b k = cc
+        of-term : (q : Part) (b : ℕ) → terminal q ≡ Some b → has (own_firsts q) b ≡ true
+        of-term (Term c) b k = let same : b ≡ c = cc in or_left (c == b) false (subst (λ d. (c == d) ≡ true) (sym same) (same-number c))
+        of-term (Non h) b k = cc
+        of-term (Maybe h) b k = cc
+        of-term (Many h) b k = cc
+        of-term (Chain h) b k = cc
     begins-sound (Begins.inside {p} {ps} {a} {h} {i} {row} n r inner) =
         let fits = and_parts (are_within (firsts row.parts) (first row.head)) (not (all_skip row.parts) || blank row.head) (all-at row_fits t i row closed r.is_there) in
         let f : has (first h) a ≡ true = subst (λ k. has (first k) a ≡ true) r.is_of (has-within (firsts row.parts) (first row.head) a fits.0 (begins-sound inner)) in
         has-left (own_firsts p) (cond (skips p) (firsts ps) []) a (of-head p h n f)
       where
-      of-head : (q : Part) (g : ℕ) → named q ≡ Some g → has (first g) a ≡ true → has (own_firsts q) a ≡ true
-      of-head (Term c) g k f = cc
-      of-head (Non m) g k f = let same : g ≡ m = cc in subst (λ d. has (first d) a ≡ true) same f
-      of-head (Maybe m) g k f = let same : g ≡ m = cc in subst (λ d. has (first d) a ≡ true) same f
-      of-head (Many m) g k f = let same : g ≡ m = cc in subst (λ d. has (first d) a ≡ true) same f
-      of-head (Chain m) g k f = let same : g ≡ m = cc in subst (λ d. has (first d) a ≡ true) same f
+        of-head : (q : Part) (g : ℕ) → named q ≡ Some g → has (first g) a ≡ true → has (own_firsts q) a ≡ true
+        of-head (Term c) g k f = cc
+        of-head (Non m) g k f = let same : g ≡ m = cc in subst (λ d. has (first d) a ≡ true) same f
+        of-head (Maybe m) g k f = let same : g ≡ m = cc in subst (λ d. has (first d) a ≡ true) same f
+        of-head (Many m) g k f = let same : g ≡ m = cc in subst (λ d. has (first d) a ≡ true) same f
+        of-head (Chain m) g k f = let same : g ≡ m = cc in subst (λ d. has (first d) a ≡ true) same f
     begins-sound (Begins.behind {p} {ps} {a} b inner) =
         let s : skips p ≡ true = (and_parts (skips p) true (blank-sound b)).0 in
         has-right (own_firsts p) (cond (skips p) (firsts ps) []) a
-          (subst (λ k. has (cond k (firsts ps) []) a ≡ true) (sym s) (begins-sound inner))
+        (subst (λ k. has (cond k (firsts ps) []) a ≡ true) (sym s) (begins-sound inner))

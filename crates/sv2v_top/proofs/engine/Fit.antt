@@ -2,12 +2,12 @@
 -- left out that may be, what can follow it, and a rank.
 use Rattle.std.proofs.Common.{◌≡◌, ℕ, zero, suc, ◌+◌, ◌<◌, ◌==◌, nat_lt, Bool, true, false, not, cond, ◌&&◌, ◌||◌, List, [], ◌∷◌, ◌++◌, drop, length, slice_get, Option, Some, None, ◌⊎◌, inl, inr, eq-eqb, eqb-true, ltb-true, refl, sym, ap, subst, ◌∙◌, arith}
 use Rattle.std.specs.List.{list_all, list_any}
-use Rattle.std.proofs.lemmas.Bool.{and_parts, or_cases, or_left, or_right, false≢true}
+use Rattle.std.proofs.lemmas.Bool.{and_parts, or_cases, or_left, false≢true}
 use Rattle.ll_engine.specs.declared.table.Part.{Part}
 use Rattle.ll_engine.specs.declared.table.Part.TheVariants.{Term, Non, Maybe, Many, Chain}
 use Rattle.ll_engine.specs.declared.table.Row.{Row}
-use Rattle.ll_engine.specs.Grammar.{terminal, named, is_optional, is_repeated, IsRowOf, HasPart, IsBlank, Begins, HasText}
-use Rattle.ll_engine.specs.Class.{Leads, Follows, ComesAt, StartsWith, LeadsTo, Keeps, IsFit}
+use Rattle.ll_engine.specs.Grammar.{terminal, named, is_repeated, IsRowOf, HasPart, IsBlank, Begins, HasText}
+use Rattle.ll_engine.specs.Class.{Leads, Follows, ComesAt, StartsWith, LeadsTo, IsFit}
 use Rattle.sv2v_top.proofs.engine.Firsts.{has, are_within, has-within, has-left, has-right, all-at}
 use Rattle.sv2v_top.proofs.engine.Firsts as Firsts
 
@@ -19,13 +19,13 @@ apart [] ys a e h k = false≢true h
 apart (x ∷ xs) ys a e h k =
     let parts = and_parts (not (has ys x)) (disjoint xs ys) e in
     elim (or_cases (x == a) (has xs a) h) [
-      inl q ↦ no-longer (has ys x) parts.0 (subst (λ b. has ys b ≡ true) (sym (eqb-true x a q)) k)
-    | inr q ↦ apart xs ys a parts.1 q k
+      | inl q ↦ no-longer (has ys x) parts.0 (subst (λ b. has ys b ≡ true) (sym (eqb-true x a q)) k)
+      | inr q ↦ apart xs ys a parts.1 q k
     ]
   where
-  no-longer : (b : Bool) → not b ≡ true → b ≡ true → ⊥
-  no-longer true e f = false≢true e
-  no-longer false e f = false≢true f
+    no-longer : (b : Bool) → not b ≡ true → b ≡ true → ⊥
+    no-longer true e f = false≢true e
+    no-longer false e f = false≢true f
 
 implies : (a b : Bool) → (not a || b) ≡ true → a ≡ true → b ≡ true
 implies true b e h = e
@@ -74,8 +74,8 @@ passing : {A : Type 0} (test : A → Bool) (xs : List A) → list_any test xs �
 passing test [] e = absurd (false≢true e)
 passing test (x ∷ xs) e =
     elim (or_cases (test x) (list_any test xs) e) [
-      inl h ↦ record { at = zero; item = x; is_there = refl; passes = h }
-    | inr h ↦ (let p = passing test xs h in record { at = suc p.at; item = p.item; is_there = p.is_there; passes = p.passes })
+      | inl h ↦ record { at = zero; item = x; is_there = refl; passes = h }
+      | inr h ↦ (let p = passing test xs h in record { at = suc p.at; item = p.item; is_there = p.is_there; passes = p.passes })
     ]
 
 module _ (t : List Row) (first : ℕ → List ℕ) (blank : ℕ → Bool) (lead follow : ℕ → List ℕ) (rank : ℕ → ℕ) (depth : ℕ) where
@@ -136,7 +136,7 @@ module _ (t : List Row) (first : ℕ → List ℕ) (blank : ℕ → Bool) (lead 
   abbrev pub row_test : Row → Bool
   row_test r =
       are_within (leads r.parts) (lead r.head) && (list_all (λ g. nat_lt (rank g) (rank r.head)) (starts r.parts)
-        && (head_text depth r.head && each_part (part_test r.head) r.parts))
+      && (head_text depth r.head && each_part (part_test r.head) r.parts))
 
   -- rows of one head begin apart, and no two of them can be empty
   abbrev pub pair_test : ℕ → Row → ℕ → Row → Bool
@@ -159,7 +159,7 @@ module _ (t : List Row) (first : ℕ → List ℕ) (blank : ℕ → Bool) (lead 
         → part_test row.head p ps ≡ true
     part-tested i row e n p ps h =
         part-at (part_test row.head) row.parts n p ps
-          (and_parts _ _ (and_parts _ _ (and_parts (are_within (leads row.parts) (lead row.head)) _ (all-at row_test t i row tested e)).1).1).1 h.cut
+        (and_parts _ _ (and_parts _ _ (and_parts (are_within (leads row.parts) (lead row.head)) _ (all-at row_test t i row tested e)).1).1).1 h.cut
 
     skipped : (p : Part) → IsBlank t (p ∷ []) → skips p ≡ true
     skipped p b = (and_parts (skips p) true (Firsts.blank-sound t first blank closed b)).0
@@ -192,7 +192,7 @@ module _ (t : List Row) (first : ℕ → List ℕ) (blank : ℕ → Bool) (lead 
     leads-sound (Leads.itself {p} {ps} {a} e) = lead-term p ps a e
     leads-sound (Leads.inside {p} {ps} {a} {h} {i} {row} n b r inner) =
         lead-here p ps h a n b
-          (subst (λ k. has (lead k) a ≡ true) r.is_of (has-within (leads row.parts) (lead row.head) a (leads-at i row r.is_there) (leads-sound inner)))
+        (subst (λ k. has (lead k) a ≡ true) r.is_of (has-within (leads row.parts) (lead row.head) a (leads-at i row r.is_there) (leads-sound inner)))
     leads-sound (Leads.behind {p} {ps} {a} b inner) = lead-behind p ps a (skipped p b) (leads-sound inner)
 
     abbrev pub InFollow : ℕ → Option ℕ → Type 0
@@ -228,18 +228,18 @@ module _ (t : List Row) (first : ℕ → List ℕ) (blank : ℕ → Bool) (lead 
     starts-sound : {ps : List Part} {g : ℕ} → StartsWith t ps g → has (starts ps) g ≡ true
     starts-sound (StartsWith.first {p} {ps} {h} n) =
         has-left (head_of (named p)) (cond (skips p) (starts ps) []) h
-          (subst (λ o. has (head_of o) h ≡ true) (sym n) (or_left (h == h) false (eq-eqb h h refl)))
+        (subst (λ o. has (head_of o) h ≡ true) (sym n) (or_left (h == h) false (eq-eqb h h refl)))
     starts-sound (StartsWith.behind {p} {ps} {h} b inner) =
         has-right (head_of (named p)) (cond (skips p) (starts ps) []) h
-          (subst (λ k. has (cond k (starts ps) []) h ≡ true) (sym (skipped p b)) (starts-sound inner))
+        (subst (λ k. has (cond k (starts ps) []) h ≡ true) (sym (skipped p b)) (starts-sound inner))
 
     rank-falls : (r : ℕ) (gs : List ℕ) (g : ℕ) → list_all (λ h. nat_lt (rank h) r) gs ≡ true → has gs g ≡ true → rank g < r
     rank-falls r [] g e h = absurd (false≢true h)
     rank-falls r (x ∷ gs) g e h =
         let parts = and_parts (nat_lt (rank x) r) (list_all (λ y. nat_lt (rank y) r) gs) e in
         elim (or_cases (x == g) (has gs g) h) [
-          inl q ↦ subst (λ y. rank y < r) (eqb-true x g q) (ltb-true (rank x) r parts.0)
-        | inr q ↦ rank-falls r gs g parts.1 q
+          | inl q ↦ subst (λ y. rank y < r) (eqb-true x g q) (ltb-true (rank x) r parts.0)
+          | inr q ↦ rank-falls r gs g parts.1 q
         ]
 
     start-falls : (h g i : ℕ) (row : Row) → IsRowOf t h i row → StartsWith t row.parts g → rank g < rank h
@@ -277,9 +277,10 @@ module _ (t : List Row) (first : ℕ → List ℕ) (blank : ℕ → Bool) (lead 
         let found = passing (λ (r : Row). (r.head == h) && parts_text (head_text k) r.parts) t e in
         let parts = and_parts (found.item.head == h) (parts_text (head_text k) found.item.parts) found.passes in
         record {
-          at = found.at; row = found.item;
+          at = found.at;
+          row = found.item;
           is_row = record { is_there = found.is_there; is_of = eqb-true found.item.head h parts.0 };
-          text = parts-text-sound (head_text k) (head-text-sound k) found.item.parts parts.1
+          text = parts-text-sound (head_text k) (head-text-sound k) found.item.parts parts.1;
         }
 
     known-head : (head h : ℕ) (p : Part) (ps : List Part) → part_test head p ps ≡ true → named p ≡ Some h → (i : ℕ) × (r : Row) × IsRowOf t h i r
@@ -306,9 +307,9 @@ module _ (t : List Row) (first : ℕ → List ℕ) (blank : ℕ → Bool) (lead 
         let parts = and_parts (disjoint (firsts (p ∷ [])) (leads ps)) (not (all_skip ps) || disjoint (firsts (p ∷ [])) (follow head)) both in
         let here : has (firsts (p ∷ [])) a ≡ true = Firsts.begins-sound t first blank closed begins in
         elim comes [
-          ComesAt.here l ↦ apart (firsts (p ∷ [])) (leads ps) a parts.0 here (leads-sound l)
-        | ComesAt.later q f ↦
-            apart (firsts (p ∷ [])) (follow head) a
+          | ComesAt.here l ↦ apart (firsts (p ∷ [])) (leads ps) a parts.0 here (leads-sound l)
+          | ComesAt.later q f ↦
+              apart (firsts (p ∷ [])) (follow head) a
               (implies (all_skip ps) (disjoint (firsts (p ∷ [])) (follow head)) parts.1 (Firsts.blank-sound t first blank closed q)) here (follows-sound f)
         ]
 
@@ -321,32 +322,32 @@ module _ (t : List Row) (first : ℕ → List ℕ) (blank : ℕ → Bool) (lead 
           let first_number : 0 + i ≡ i = omega arith in
           let second_number : 0 + j ≡ j = omega arith in
           let test : pair_test i r j s ≡ true =
-              subst (λ n. pair_test i r n s ≡ true) second_number
-                (numbered-at (λ n u. pair_test i r n u) 0 t j s
-                  (subst (λ m. all_from (λ n u. pair_test m r n u) 0 t ≡ true) first_number row) b.is_there) in
+          subst (λ n. pair_test i r n s ≡ true) second_number
+          (numbered-at (λ n u. pair_test i r n u) 0 t j s
+          (subst (λ m. all_from (λ n u. pair_test m r n u) 0 t ≡ true) first_number row) b.is_there) in
           elim (or_cases (not (r.head == s.head) || (i == j)) _ test) [
-            inl k ↦ inl (eqb-true i j (implies (r.head == s.head) (i == j) k (eq-eqb r.head s.head (a.is_of ∙ sym b.is_of))))
-          | inr k ↦ inr k
+            | inl k ↦ inl (eqb-true i j (implies (r.head == s.head) (i == j) k (eq-eqb r.head s.head (a.is_of ∙ sym b.is_of))))
+            | inr k ↦ inr k
           ]
 
       pub fit : 0 < length t → IsFit t
       fit some = record {
-          has_rows = some;
-          keeps = λ at h row is_row. record {
-            one_begins = λ i j a r s x y b c. elim (pair-tested row.head i j r s x y) [
-                inl e ↦ e
-              | inr e ↦ absurd (apart (firsts r.parts) (firsts s.parts) a (and_parts (disjoint (firsts r.parts) (firsts s.parts)) _ e).0
-                  (Firsts.begins-sound t first blank closed b) (Firsts.begins-sound t first blank closed c))
-              ];
-            one_blank = λ i j r s x y b c. elim (pair-tested row.head i j r s x y) [
-                inl e ↦ e
-              | inr e ↦ absurd (contradicts (all_skip r.parts && all_skip s.parts) (and_parts (disjoint (firsts r.parts) (firsts s.parts)) _ e).1
-                  (λ k. Firsts.blank-sound t first blank closed b k && Firsts.blank-sound t first blank closed c k))
-              ];
-            repeats = λ n g p ps hp r nm b. repeat-sound row.head g p ps (part-tested at row is_row.is_there n p ps hp) r nm b;
-            not_left_recursive = λ l. (let down = leads-to-falls l in absurd (omega (arith, down)));
-            has_text = (let r = head-text-sound depth row.head (text-at at row is_row.is_there) in HasText.row refl r.is_row r.text HasText.nothing);
-            known = λ n g p ps hp nm. known-head row.head g p ps (part-tested at row is_row.is_there n p ps hp) nm;
-            decided = λ n a p ps hp b begins comes. decided-sound row.head a p ps (part-tested at row is_row.is_there n p ps hp) b begins comes
-          }
-        }
+        has_rows = some;
+        keeps = λ at h row is_row. record {
+          one_begins = λ i j a r s x y b c. elim (pair-tested row.head i j r s x y) [
+            | inl e ↦ e
+            | inr e ↦ absurd (apart (firsts r.parts) (firsts s.parts) a (and_parts (disjoint (firsts r.parts) (firsts s.parts)) _ e).0
+                (Firsts.begins-sound t first blank closed b) (Firsts.begins-sound t first blank closed c))
+          ];
+          one_blank = λ i j r s x y b c. elim (pair-tested row.head i j r s x y) [
+            | inl e ↦ e
+            | inr e ↦ absurd (contradicts (all_skip r.parts && all_skip s.parts) (and_parts (disjoint (firsts r.parts) (firsts s.parts)) _ e).1
+                (λ k. Firsts.blank-sound t first blank closed b k && Firsts.blank-sound t first blank closed c k))
+          ];
+          repeats = λ n g p ps hp r nm b. repeat-sound row.head g p ps (part-tested at row is_row.is_there n p ps hp) r nm b;
+          not_left_recursive = λ l. (let down = leads-to-falls l in absurd (omega (arith, down)));
+          has_text = (let r = head-text-sound depth row.head (text-at at row is_row.is_there) in HasText.row refl r.is_row r.text HasText.nothing);
+          known = λ n g p ps hp nm. known-head row.head g p ps (part-tested at row is_row.is_there n p ps hp) nm;
+          decided = λ n a p ps hp b begins comes. decided-sound row.head a p ps (part-tested at row is_row.is_there n p ps hp) b begins comes;
+        };
+      }

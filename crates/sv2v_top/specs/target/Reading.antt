@@ -1,5 +1,5 @@
 -- What it is for a text to read as a design.
-use Rattle.std.specs.Prelude.{◌≡◌, ◌≤◌, ◌^◌, ℕ, Bool, true, false, List, [], ◌∷◌, ◌++◌, map, flat_map, sum}
+use Rattle.std.specs.Prelude.{◌≡◌, ◌≤◌, ◌^◌, ℕ, true, false, List, ◌∷◌, map, sum}
 use Rattle.row_machine.specs.Valuation.{Member}
 use Rattle.ll_engine.specs.declared.tree.Tree.{Tree}
 use Rattle.ll_engine.specs.Texts.{IsReading}

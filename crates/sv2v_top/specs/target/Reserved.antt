@@ -1,5 +1,5 @@
 -- The reserved words: those of IEEE 1800-2017 annex B, which no name of a source or of a target text is.
-use Rattle.std.specs.Prelude.{ℕ, Bool, ◌==◌, List, [], ◌∷◌, ◌++◌, codes}
+use Rattle.std.specs.Prelude.{ℕ, Bool, ◌==◌, List, ◌++◌, codes}
 use Rattle.std.specs.List.{slice_split, list_any}
 use Rattle.std.specs.Str.{bytes_eq}
 

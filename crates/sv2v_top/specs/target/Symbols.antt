@@ -1,5 +1,5 @@
 -- The terminal symbols of the target grammar's table.
-use Rattle.std.specs.Prelude.{ℕ, ◌+◌, ◌==◌, List, [], ◌∷◌, codes, if◌then◌else◌}
+use Rattle.std.specs.Prelude.{ℕ, ◌+◌, ◌==◌, List, codes, if◌then◌else◌}
 use Rattle.sv2v_top.specs.source.Names.{position}
 use Rattle.sv2v_top.specs.target.Reserved.{words_of}
 use Rattle.sv2v_top.specs.target.Tokens.{Token}

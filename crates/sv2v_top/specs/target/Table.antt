@@ -7,7 +7,7 @@
 --   range  = "[" bound ":" "0" "]"        bound = DECIMAL | "0"        lval = NAME
 --   expr   = prim [rest] | "~" prim       rest = "&" prim | "|" prim | "^" prim
 --   prim   = NUMBER | "(" expr ")" | NAME
-use Rattle.std.specs.Prelude.{ℕ, List, [], ◌∷◌, Bool, true, false}
+use Rattle.std.specs.Prelude.{ℕ, List, [], ◌∷◌, true, false}
 use Rattle.ll_engine.specs.declared.table.Part.{Part}
 use Rattle.ll_engine.specs.declared.table.Part.TheVariants.{Term, Non, Maybe, Many}
 use Rattle.ll_engine.specs.declared.table.Row.{Row}
