@@ -21,3 +21,4 @@ pub mod Phrases
 pub mod Derived
 pub mod ReadsBack
 pub mod OneReading
+pub mod Right

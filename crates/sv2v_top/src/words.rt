@@ -77,8 +77,10 @@ pub fn read_words<'a>(alloc: Global, words: &'a [String]) -> Result<Option<Asked
     ensures { IfOk result (λ a. seen a ≡ asked (map string_bytes words.now)) }
 {
     match words {
+        [] => Ok(None),
+        [_] => Ok(None),
         [first, second] => either(alloc, first.as_bytes(), second.as_bytes()),
-        _ => Ok(None),
+        [_, _, _, ..] => Ok(None),
     }
 }
 
