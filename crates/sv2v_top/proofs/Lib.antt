@@ -22,3 +22,4 @@ pub mod Derived
 pub mod ReadsBack
 pub mod OneReading
 pub mod Right
+pub mod AskedFor

@@ -76,11 +76,10 @@ fn asked_in<'a>(alloc: Global, option: &'a [u8], file: &'a [u8]) -> Result<Optio
 pub fn read_words<'a>(alloc: Global, words: &'a [String]) -> Result<Option<Asked<'a>>, AllocError>
     ensures { IfOk result (λ a. seen a ≡ asked (map string_bytes words.now)) }
 {
-    match words {
-        [] => Ok(None),
-        [_] => Ok(None),
-        [first, second] => either(alloc, first.as_bytes(), second.as_bytes()),
-        [_, _, _, ..] => Ok(None),
+    if words.len() == 2 {
+        either(alloc, words[0].as_bytes(), words[1].as_bytes())
+    } else {
+        Ok(None)
     }
 }
 

@@ -7,7 +7,7 @@ use Rattle.ll_engine.specs.Answers.{ParseGives}
 use Rattle.sv_source.specs.declared.token.Token.{Token}
 use Rattle.sv2v_top.specs.source.Grammar.{symbol_of, source_rows}
 use Rattle.sv2v_top.specs.source.Building.{module_of}
-use Rattle.sv2v_top.proofs.Readable.{Meant, readable}
+use Rattle.sv2v_top.proofs.Readable.{MeantAs, readable}
 use Rattle.sv2v_top.proofs.Flat.{never-deep}
 use Rattle.sv2v_top.proofs.sv_build.read_source.Goals as goal
 
