@@ -14,6 +14,9 @@ use Rattle.ll_engine.specs.Reading.{Nested, at_nesting, Reads, ended, symbol, ta
 use Rattle.sv_source.specs.declared.token.Kind.{Kind}
 use Rattle.sv_source.specs.declared.token.Kind.TheVariants as Kinds
 use Rattle.sv2v_top.specs.declared.sv_tree.Module.{Module}
+use Rattle.sv2v_top.specs.declared.sv_tree.Expr.{Expr}
+use Rattle.sv2v_top.specs.declared.sv_tree.Assign.{Assign}
+use Rattle.sv2v_top.specs.Printable.{IsPrintableOperator}
 use Rattle.sv2v_top.proofs.Built.{map-get}
 use Rattle.row_machine.specs.Valuation.{Member}
 use Rattle.b4_core.specs.declared.operators.BinOp.{BinOp}
@@ -208,53 +211,81 @@ module _ (tokens : List Token) (d : ℕ → ℕ) where
       by_row (inr (inl e)) = plain-spine at to w rest n.kids (node-spine source_rows d n _ _ e refl) fits
       by_row (inr (inr m)) = elim m [ ]
 
-  -- an operator and an operand
-  pub tail-spine : (a i : ℕ) (op : BinOp) (left : Operand) → operator_of i ≡ Some op → (at to : ℕ) (w rest : List Nested) (kids : List Tree)
-      → Spine source_rows d (Term a ∷ Non OPERAND ∷ []) at w kids to rest → Fits at w → Meant (tail_from tokens left i kids)
-  tail-spine a i op left is at to w rest kids (leaf s e (node {x = x} n (done f g))) fits =
-      meant-two (binary_with left) (operator_of i) (operand_of tokens x) (record { value = op; is = is }) (operand-meant x (suc at) _ _ _ n (step fits))
+  pub at-kids-as : {A : Type 0} (P : A → Type 0) (f : List Tree → Option A) (h : ℕ) (x : Tree) (at to : ℕ) (w rest : List Nested) (n : Node_of h x at w to rest)
+      → MeantAs P (f n.kids) → MeantAs P (f (kids_of x))
+  at-kids-as P f h x at to w rest n m = subst (λ kids. MeantAs P (f kids)) (sym (node-kids x n.index n.kids n.is_node)) m
 
-  pub no-tail : (i : ℕ) (left : Operand) (at to : ℕ) (w rest : List Nested) (kids : List Tree) → Spine source_rows d [] at w kids to rest → Meant (tail_from tokens left i kids)
-  no-tail i left at to w rest kids (done f g) = record { value = E.Single left; is = refl }
+  -- the property holds of each
+  abbrev pub AllOf : {A : Type 0} → (A → Type 0) → List A → Type 0
+  AllOf P [] = Unit {0}
+  AllOf P (x ∷ xs) = P x × AllOf P xs
 
-  pub tail-meant : (left : Operand) (x : Tree) (at to : ℕ) (w rest : List Nested) → Node_of TAIL x at w to rest → Fits at w → Meant (tail_from tokens left (row_of x) (kids_of x))
+  -- each turn of a repeated part
+  pub turns-as : {A : Type 0} (P : A → Type 0) (f : Tree → Option A) (h : ℕ)
+      → ((x : Tree) (at to : ℕ) (w rest : List Nested) → Node_of h x at w to rest → Fits at w → MeantAs P (f x))
+      → {at to : ℕ} {w rest : List Nested} {xs : List Tree} → Turns source_rows d h at w xs to rest → Fits at w → MeantAs (AllOf P) (each f xs)
+  turns-as P f h one (none_more e g) fits = record { value = []; is = refl; holds = tt }
+  turns-as P f h one (one_more {mid = mid} {u = u} {x = x} {xs = xs} n more) fits =
+      let first = one x _ mid _ u n fits in
+      let rest = turns-as P f h one more (past n fits) in
+      record { value = first.value ∷ rest.value; is = λ i. then_two (λ y ys. y ∷ ys) (first.is i) (rest.is i); holds = (first.holds, rest.holds) }
+
+  -- an operator is one of `&`, `|` and `^`
+  abbrev pub Bitwise : Expr → Type 0
+  Bitwise (E.Single a) = Unit {0}
+  Bitwise (E.Binary op a b) = IsPrintableOperator op
+
+  pub tail-spine : (a i : ℕ) (op : BinOp) (left : Operand) → operator_of i ≡ Some op → IsPrintableOperator op → (at to : ℕ) (w rest : List Nested) (kids : List Tree)
+      → Spine source_rows d (Term a ∷ Non OPERAND ∷ []) at w kids to rest → Fits at w → MeantAs Bitwise (tail_from tokens left i kids)
+  tail-spine a i op left is good at to w rest kids (leaf s e (node {x = x} n (done f g))) fits =
+      let right = operand-meant x (suc at) _ _ _ n (step fits) in
+      record { value = binary_with left op right.value; is = λ j. then_two (binary_with left) (is j) (right.is j); holds = good }
+
+  pub no-tail : (i : ℕ) (left : Operand) (at to : ℕ) (w rest : List Nested) (kids : List Tree) → Spine source_rows d [] at w kids to rest → MeantAs Bitwise (tail_from tokens left i kids)
+  no-tail i left at to w rest kids (done f g) = record { value = E.Single left; is = refl; holds = tt }
+
+  pub tail-meant : (left : Operand) (x : Tree) (at to : ℕ) (w rest : List Nested) → Node_of TAIL x at w to rest → Fits at w → MeantAs Bitwise (tail_from tokens left (row_of x) (kids_of x))
   tail-meant left x at to w rest n fits =
-      at-kids (tail_from tokens left (row_of x)) TAIL x at to w rest n
-        (subst (λ i. Meant (tail_from tokens left i n.kids)) (sym (node-row x n.index n.kids n.is_node)) (by_row (row-among TAIL source_rows n.index n.row n.is_row)))
+      at-kids-as Bitwise (tail_from tokens left (row_of x)) TAIL x at to w rest n
+        (subst (λ i. MeantAs Bitwise (tail_from tokens left i n.kids)) (sym (node-row x n.index n.kids n.is_node)) (by_row (row-among TAIL source_rows n.index n.row n.is_row)))
     where
       index-is : (i : ℕ) (r : Row) → ◌≡◌ {A = ℕ × Row} (n.index, n.row) (i, r) → n.index ≡ i
       index-is i r e = ap (λ (p : ℕ × Row). p.0) e
-      by_row : Member (rows_headed TAIL 0 source_rows) (n.index, n.row) → Meant (tail_from tokens left n.index n.kids)
+      by_row : Member (rows_headed TAIL 0 source_rows) (n.index, n.row) → MeantAs Bitwise (tail_from tokens left n.index n.kids)
       by_row (inl e) = no-tail n.index left at to w rest n.kids (node-spine source_rows d n _ _ e refl)
-      by_row (inr (inl e)) = tail-spine AND n.index And left (ap operator_of (index-is _ _ e)) at to w rest n.kids (node-spine source_rows d n _ _ e refl) fits
-      by_row (inr (inr (inl e))) = tail-spine OR n.index Or left (ap operator_of (index-is _ _ e)) at to w rest n.kids (node-spine source_rows d n _ _ e refl) fits
-      by_row (inr (inr (inr (inl e)))) = tail-spine XOR n.index Xor left (ap operator_of (index-is _ _ e)) at to w rest n.kids (node-spine source_rows d n _ _ e refl) fits
+      by_row (inr (inl e)) = tail-spine AND n.index And left (ap operator_of (index-is _ _ e)) tt at to w rest n.kids (node-spine source_rows d n _ _ e refl) fits
+      by_row (inr (inr (inl e))) = tail-spine OR n.index Or left (ap operator_of (index-is _ _ e)) tt at to w rest n.kids (node-spine source_rows d n _ _ e refl) fits
+      by_row (inr (inr (inr (inl e)))) = tail-spine XOR n.index Xor left (ap operator_of (index-is _ _ e)) tt at to w rest n.kids (node-spine source_rows d n _ _ e refl) fits
       by_row (inr (inr (inr (inr m)))) = elim m [ ]
 
-  pub with-left : (o : Option Operand) (tail : Tree) → Meant o → ((left : Operand) → Meant (tail_from tokens left (row_of tail) (kids_of tail))) → Meant (expr_with tokens o tail)
-  with-left o tail m f = subst (λ p. Meant (expr_with tokens p tail)) (sym m.is) (f m.value)
+  pub with-left : (o : Option Operand) (tail : Tree) → Meant o → ((left : Operand) → MeantAs Bitwise (tail_from tokens left (row_of tail) (kids_of tail))) → MeantAs Bitwise (expr_with tokens o tail)
+  with-left o tail m f = subst (λ p. MeantAs Bitwise (expr_with tokens p tail)) (sym m.is) (f m.value)
 
-  pub expr-spine : (at to : ℕ) (w rest : List Nested) (kids : List Tree) → Spine source_rows d (Non OPERAND ∷ Non TAIL ∷ []) at w kids to rest → Fits at w → Meant (expr_from tokens kids)
+  pub expr-spine : (at to : ℕ) (w rest : List Nested) (kids : List Tree) → Spine source_rows d (Non OPERAND ∷ Non TAIL ∷ []) at w kids to rest → Fits at w → MeantAs Bitwise (expr_from tokens kids)
   expr-spine at to w rest kids (node {mid = mid} {u = u} {x = x} n (node {x = y} m (done f g))) fits =
-      let fits' : Fits mid u = past n fits in
-      with-left (operand_of tokens x) y (operand-meant x at mid w u n fits) (λ left. tail-meant left y mid _ u _ m fits')
+      with-left (operand_of tokens x) y (operand-meant x at mid w u n fits) (λ left. tail-meant left y mid _ u _ m (past n fits))
 
-  pub expr-meant : (x : Tree) (at to : ℕ) (w rest : List Nested) → Node_of EXPR x at w to rest → Fits at w → Meant (expr_of tokens x)
-  expr-meant x at to w rest n fits = at-kids (expr_from tokens) EXPR x at to w rest n (by_row (row-among EXPR source_rows n.index n.row n.is_row))
+  pub expr-meant : (x : Tree) (at to : ℕ) (w rest : List Nested) → Node_of EXPR x at w to rest → Fits at w → MeantAs Bitwise (expr_of tokens x)
+  expr-meant x at to w rest n fits = at-kids-as Bitwise (expr_from tokens) EXPR x at to w rest n (by_row (row-among EXPR source_rows n.index n.row n.is_row))
     where
-      by_row : Member (rows_headed EXPR 0 source_rows) (n.index, n.row) → Meant (expr_from tokens n.kids)
+      by_row : Member (rows_headed EXPR 0 source_rows) (n.index, n.row) → MeantAs Bitwise (expr_from tokens n.kids)
       by_row (inl e) = expr-spine at to w rest n.kids (node-spine source_rows d n _ _ e refl) fits
       by_row (inr m) = elim m [ ]
 
-  pub assign-spine : (at to : ℕ) (w rest : List Nested) (kids : List Tree)
-      → Spine source_rows d (Term ASSIGN ∷ Term NAME ∷ Term EQUALS ∷ Non EXPR ∷ Term SEMICOLON ∷ []) at w kids to rest → Fits at w → Meant (assign_from tokens kids)
-  assign-spine at to w rest kids (leaf s e (leaf {x = x} r f (leaf q g (node {mid = mid} {u = u} {x = y} n (leaf p h (done k l)))))) fits =
-      meant-two assign_with (spot_of tokens x) (expr_of tokens y) (leaf-meant x (suc at) f (within (step fits))) (expr-meant y (suc (suc (suc at))) mid _ u n (step (step (step fits))))
+  abbrev pub BitwiseAssign : Assign → Type 0
+  BitwiseAssign a = Bitwise a.value
 
-  pub assign-meant : (x : Tree) (at to : ℕ) (w rest : List Nested) → Node_of ITEM x at w to rest → Fits at w → Meant (assign_of tokens x)
-  assign-meant x at to w rest n fits = at-kids (assign_from tokens) ITEM x at to w rest n (by_row (row-among ITEM source_rows n.index n.row n.is_row))
+  pub assign-spine : (at to : ℕ) (w rest : List Nested) (kids : List Tree)
+      → Spine source_rows d (Term ASSIGN ∷ Term NAME ∷ Term EQUALS ∷ Non EXPR ∷ Term SEMICOLON ∷ []) at w kids to rest → Fits at w → MeantAs BitwiseAssign (assign_from tokens kids)
+  assign-spine at to w rest kids (leaf s e (leaf {x = x} r f (leaf q g (node {mid = mid} {u = u} {x = y} n (leaf p h (done k l)))))) fits =
+      let target = leaf-meant x (suc at) f (within (step fits)) in
+      let value = expr-meant y (suc (suc (suc at))) mid _ u n (step (step (step fits))) in
+      record { value = assign_with target.value value.value; is = λ i. then_two assign_with (target.is i) (value.is i); holds = value.holds }
+
+  pub assign-meant : (x : Tree) (at to : ℕ) (w rest : List Nested) → Node_of ITEM x at w to rest → Fits at w → MeantAs BitwiseAssign (assign_of tokens x)
+  assign-meant x at to w rest n fits = at-kids-as BitwiseAssign (assign_from tokens) ITEM x at to w rest n (by_row (row-among ITEM source_rows n.index n.row n.is_row))
     where
-      by_row : Member (rows_headed ITEM 0 source_rows) (n.index, n.row) → Meant (assign_from tokens n.kids)
+      by_row : Member (rows_headed ITEM 0 source_rows) (n.index, n.row) → MeantAs BitwiseAssign (assign_from tokens n.kids)
       by_row (inl e) = assign-spine at to w rest n.kids (node-spine source_rows d n _ _ e refl) fits
       by_row (inr m) = elim m [ ]
 
@@ -327,10 +358,6 @@ module _ (tokens : List Token) (d : ℕ → ℕ) where
         holds = name.holds
       }
 
-  pub at-kids-as : {A : Type 0} (P : A → Type 0) (f : List Tree → Option A) (h : ℕ) (x : Tree) (at to : ℕ) (w rest : List Nested) (n : Node_of h x at w to rest)
-      → MeantAs P (f n.kids) → MeantAs P (f (kids_of x))
-  at-kids-as P f h x at to w rest n m = subst (λ kids. MeantAs P (f kids)) (sym (node-kids x n.index n.kids n.is_node)) m
-
   pub port-meant : (x : Tree) (at to : ℕ) (w rest : List Nested) → Node_of PORT x at w to rest → Fits at w → MeantAs Named (port_of tokens x)
   port-meant x at to w rest n fits = at-kids-as Named (port_from tokens) PORT x at to w rest n (by_row (row-among PORT source_rows n.index n.row n.is_row))
     where
@@ -349,67 +376,47 @@ module _ (tokens : List Token) (d : ℕ → ℕ) where
       by_row (inl e) = more-spine at to w rest n.kids (node-spine source_rows d n _ _ e refl) fits
       by_row (inr m) = elim m [ ]
 
-  -- each port has a name
-  abbrev pub AllNamed : List Port → Type 0
-  AllNamed [] = Unit {0}
-  AllNamed (p ∷ ports) = Named p × AllNamed ports
-
-  pub turns-named : {at to : ℕ} {w rest : List Nested} {xs : List Tree} → Turns source_rows d MORE_PORT at w xs to rest → Fits at w → MeantAs AllNamed (each (more_of tokens) xs)
-  turns-named (none_more e g) fits = record { value = []; is = refl; holds = tt }
-  turns-named (one_more {mid = mid} {u = u} {x = x} {xs = xs} n more) fits =
-      let first = more-meant x _ mid _ u n fits in
-      let rest = turns-named more (past n fits) in
-      record { value = first.value ∷ rest.value; is = λ i. then_two (λ y ys. y ∷ ys) (first.is i) (rest.is i); holds = (first.holds, rest.holds) }
-
-  -- each turn of a repeated part
-  pub turns-meant : {A : Type 0} (f : Tree → Option A) (h : ℕ)
-      → ((x : Tree) (at to : ℕ) (w rest : List Nested) → Node_of h x at w to rest → Fits at w → Meant (f x))
-      → {at to : ℕ} {w rest : List Nested} {xs : List Tree} → Turns source_rows d h at w xs to rest → Fits at w → Meant (each f xs)
-  turns-meant f h one (none_more e g) fits = record { value = []; is = refl }
-  turns-meant f h one (one_more {mid = mid} {u = u} {x = x} {xs = xs} n more) fits =
-      meant-two (λ y ys. y ∷ ys) (f x) (each f xs) (one x _ mid _ u n fits) (turns-meant f h one more (past n fits))
-
-  pub more-ports-meant : (x : Tree) (at to : ℕ) (w rest : List Nested) → Node_of MORE_PORTS x at w to rest → Fits at w → MeantAs AllNamed (each (more_of tokens) (kids_of x))
-  more-ports-meant x at to w rest n fits = at-kids-as AllNamed (each (more_of tokens)) MORE_PORTS x at to w rest n (by_row (row-among MORE_PORTS source_rows n.index n.row n.is_row))
+  pub more-ports-meant : (x : Tree) (at to : ℕ) (w rest : List Nested) → Node_of MORE_PORTS x at w to rest → Fits at w → MeantAs (AllOf Named) (each (more_of tokens) (kids_of x))
+  more-ports-meant x at to w rest n fits = at-kids-as (AllOf Named) (each (more_of tokens)) MORE_PORTS x at to w rest n (by_row (row-among MORE_PORTS source_rows n.index n.row n.is_row))
     where
-      by_row : Member (rows_headed MORE_PORTS 0 source_rows) (n.index, n.row) → MeantAs AllNamed (each (more_of tokens) n.kids)
-      by_row (inl e) = turns-named (node-turns source_rows d n _ MORE_PORT _ e refl) fits
+      by_row : Member (rows_headed MORE_PORTS 0 source_rows) (n.index, n.row) → MeantAs (AllOf Named) (each (more_of tokens) n.kids)
+      by_row (inl e) = turns-as Named (more_of tokens) MORE_PORT more-meant (node-turns source_rows d n _ MORE_PORT _ e refl) fits
       by_row (inr m) = elim m [ ]
 
-  pub items-meant : (x : Tree) (at to : ℕ) (w rest : List Nested) → Node_of ITEMS x at w to rest → Fits at w → Meant (each (assign_of tokens) (kids_of x))
-  items-meant x at to w rest n fits = at-kids (each (assign_of tokens)) ITEMS x at to w rest n (by_row (row-among ITEMS source_rows n.index n.row n.is_row))
+  pub items-meant : (x : Tree) (at to : ℕ) (w rest : List Nested) → Node_of ITEMS x at w to rest → Fits at w → MeantAs (AllOf BitwiseAssign) (each (assign_of tokens) (kids_of x))
+  items-meant x at to w rest n fits = at-kids-as (AllOf BitwiseAssign) (each (assign_of tokens)) ITEMS x at to w rest n (by_row (row-among ITEMS source_rows n.index n.row n.is_row))
     where
-      by_row : Member (rows_headed ITEMS 0 source_rows) (n.index, n.row) → Meant (each (assign_of tokens) n.kids)
-      by_row (inl e) = turns-meant (assign_of tokens) ITEM assign-meant (node-turns source_rows d n _ ITEM _ e refl) fits
+      by_row : Member (rows_headed ITEMS 0 source_rows) (n.index, n.row) → MeantAs (AllOf BitwiseAssign) (each (assign_of tokens) n.kids)
+      by_row (inl e) = turns-as BitwiseAssign (assign_of tokens) ITEM assign-meant (node-turns source_rows d n _ ITEM _ e refl) fits
       by_row (inr m) = elim m [ ]
 
-  pub no-list : (at to : ℕ) (w rest : List Nested) (kids : List Tree) → Spine source_rows d [] at w kids to rest → MeantAs AllNamed (port_list_from tokens kids)
+  pub no-list : (at to : ℕ) (w rest : List Nested) (kids : List Tree) → Spine source_rows d [] at w kids to rest → MeantAs (AllOf Named) (port_list_from tokens kids)
   no-list at to w rest kids (done f g) = record { value = []; is = refl; holds = tt }
 
-  pub list-spine : (at to : ℕ) (w rest : List Nested) (kids : List Tree) → Spine source_rows d (Non PORT ∷ Non MORE_PORTS ∷ []) at w kids to rest → Fits at w → MeantAs AllNamed (port_list_from tokens kids)
+  pub list-spine : (at to : ℕ) (w rest : List Nested) (kids : List Tree) → Spine source_rows d (Non PORT ∷ Non MORE_PORTS ∷ []) at w kids to rest → Fits at w → MeantAs (AllOf Named) (port_list_from tokens kids)
   list-spine at to w rest kids (node {mid = mid} {u = u} {x = x} n (node {mid = far} {u = v} {x = y} m (done f g))) fits =
       let first = port-meant x at mid w u n fits in
       let more = more-ports-meant y mid far u v m (past n fits) in
       record { value = ports_with first.value more.value; is = λ i. then_two ports_with (first.is i) (more.is i); holds = (first.holds, more.holds) }
 
-  pub list-meant : (x : Tree) (at to : ℕ) (w rest : List Nested) → Node_of PORT_LIST x at w to rest → Fits at w → MeantAs AllNamed (port_list_from tokens (kids_of x))
-  list-meant x at to w rest n fits = at-kids-as AllNamed (port_list_from tokens) PORT_LIST x at to w rest n (by_row (row-among PORT_LIST source_rows n.index n.row n.is_row))
+  pub list-meant : (x : Tree) (at to : ℕ) (w rest : List Nested) → Node_of PORT_LIST x at w to rest → Fits at w → MeantAs (AllOf Named) (port_list_from tokens (kids_of x))
+  list-meant x at to w rest n fits = at-kids-as (AllOf Named) (port_list_from tokens) PORT_LIST x at to w rest n (by_row (row-among PORT_LIST source_rows n.index n.row n.is_row))
     where
-      by_row : Member (rows_headed PORT_LIST 0 source_rows) (n.index, n.row) → MeantAs AllNamed (port_list_from tokens n.kids)
+      by_row : Member (rows_headed PORT_LIST 0 source_rows) (n.index, n.row) → MeantAs (AllOf Named) (port_list_from tokens n.kids)
       by_row (inl e) = no-list at to w rest n.kids (node-spine source_rows d n _ _ e refl)
       by_row (inr (inl e)) = list-spine at to w rest n.kids (node-spine source_rows d n _ _ e refl) fits
       by_row (inr (inr m)) = elim m [ ]
 
-  pub no-ports : (at to : ℕ) (w rest : List Nested) (kids : List Tree) → Spine source_rows d [] at w kids to rest → MeantAs AllNamed (ports_from tokens kids)
+  pub no-ports : (at to : ℕ) (w rest : List Nested) (kids : List Tree) → Spine source_rows d [] at w kids to rest → MeantAs (AllOf Named) (ports_from tokens kids)
   no-ports at to w rest kids (done f g) = record { value = []; is = refl; holds = tt }
 
-  pub ports-spine : (at to : ℕ) (w rest : List Nested) (kids : List Tree) → Spine source_rows d (Term OPEN ∷ Non PORT_LIST ∷ Term CLOSE ∷ []) at w kids to rest → Fits at w → MeantAs AllNamed (ports_from tokens kids)
+  pub ports-spine : (at to : ℕ) (w rest : List Nested) (kids : List Tree) → Spine source_rows d (Term OPEN ∷ Non PORT_LIST ∷ Term CLOSE ∷ []) at w kids to rest → Fits at w → MeantAs (AllOf Named) (ports_from tokens kids)
   ports-spine at to w rest kids (leaf s e (node {mid = mid} {u = u} {x = x} n (leaf r f (done g h)))) fits = list-meant x (suc at) mid _ u n (step fits)
 
-  pub ports-meant : (x : Tree) (at to : ℕ) (w rest : List Nested) → Node_of PORTS x at w to rest → Fits at w → MeantAs AllNamed (ports_from tokens (kids_of x))
-  ports-meant x at to w rest n fits = at-kids-as AllNamed (ports_from tokens) PORTS x at to w rest n (by_row (row-among PORTS source_rows n.index n.row n.is_row))
+  pub ports-meant : (x : Tree) (at to : ℕ) (w rest : List Nested) → Node_of PORTS x at w to rest → Fits at w → MeantAs (AllOf Named) (ports_from tokens (kids_of x))
+  ports-meant x at to w rest n fits = at-kids-as (AllOf Named) (ports_from tokens) PORTS x at to w rest n (by_row (row-among PORTS source_rows n.index n.row n.is_row))
     where
-      by_row : Member (rows_headed PORTS 0 source_rows) (n.index, n.row) → MeantAs AllNamed (ports_from tokens n.kids)
+      by_row : Member (rows_headed PORTS 0 source_rows) (n.index, n.row) → MeantAs (AllOf Named) (ports_from tokens n.kids)
       by_row (inl e) = no-ports at to w rest n.kids (node-spine source_rows d n _ _ e refl)
       by_row (inr (inl e)) = ports-spine at to w rest n.kids (node-spine source_rows d n _ _ e refl) fits
       by_row (inr (inr m)) = elim m [ ]
@@ -417,7 +424,8 @@ module _ (tokens : List Token) (d : ℕ → ℕ) where
   -- the module and its ports have names
   pub record NamedModule (m : Module) : Type 0 where
     pub itself : IsName m.name.word
-    pub ports : AllNamed m.ports
+    pub ports : AllOf Named m.ports
+    pub values : AllOf BitwiseAssign m.assigns
 
   pub module-spine : (at to : ℕ) (w rest : List Nested) (kids : List Tree)
       → Spine source_rows d (Term MODULE ∷ Term NAME ∷ Non PORTS ∷ Term SEMICOLON ∷ Non ITEMS ∷ Term ENDMODULE ∷ []) at w kids to rest → Fits at w → MeantAs NamedModule (module_from tokens kids)
@@ -429,7 +437,7 @@ module _ (tokens : List Token) (d : ℕ → ℕ) where
       record {
         value = body_with ports.value items.value name.value;
         is = λ i. then_two (λ make name. make name) (then_two body_with (ports.is i) (items.is i)) (name.is i);
-        holds = record { itself = name.holds; ports = ports.holds }
+        holds = record { itself = name.holds; ports = ports.holds; values = items.holds }
       }
 
   pub module-meant : (x : Tree) (at to : ℕ) (w rest : List Nested) → Node_of SOURCE x at w to rest → Fits at w → MeantAs NamedModule (module_of tokens x)
