@@ -23,3 +23,5 @@ pub mod ReadsBack
 pub mod OneReading
 pub mod Right
 pub mod AskedFor
+pub mod SimpleNames
+pub mod Correct

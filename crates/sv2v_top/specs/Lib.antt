@@ -6,3 +6,4 @@ pub mod Lowering
 pub mod Agreement
 pub mod Translation
 pub mod Printable
+pub mod Headline

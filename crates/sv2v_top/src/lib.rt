@@ -6,6 +6,7 @@ mod elab_build;
 mod literals;
 mod lower_design;
 mod package_scope;
+mod run;
 mod sv_build;
 mod sv_tree;
 mod sv_types;
