@@ -3,7 +3,7 @@
 
 #[cfg(test)]
 mod tests {
-    use ll_engine::{Items, Ll1, NewFail, Part, ParseFail, Row, Table, Tree};
+    use ll_engine::{Items, Ll1, NewFail, ParseFail, Part, Row, Table, Tree};
     use std::alloc::{AllocError, Global};
     use std::test::Fail;
 
@@ -159,7 +159,11 @@ mod tests {
             ("x", 1, "r0( r1( r4( r6( 0 ) ) ) ) "),
             ("xl", 1, "r0( r1( r4( r6( 0 r7( 1 ) ) ) ) ) "),
             ("mx", 2, "r0( r1( r3( 0 r4( r6( 1 ) ) ) ) ) "),
-            ("xpxpx", 3, "r0( r1( r4( r6( 0 ) ) r2( 1 r4( r6( 2 ) ) ) r2( 3 r4( r6( 4 ) ) ) ) ) "),
+            (
+                "xpxpx",
+                3,
+                "r0( r1( r4( r6( 0 ) ) r2( 1 r4( r6( 2 ) ) ) r2( 3 r4( r6( 4 ) ) ) ) ) ",
+            ),
             ("bxe", 2, "r0( r1( r4( r5( 0 r1( r4( r6( 1 ) ) ) 2 ) ) ) ) "),
             // the end, a symbol that cannot come, and a first symbol that cannot
             ("", 1, "no text at 0"),
@@ -172,14 +176,22 @@ mod tests {
             // nesting passes the limit at the name, at the second turn, and nowhere behind the bracket
             ("x", 0, "deep at 0"),
             ("xpxpx", 2, "deep at 3"),
-            ("bxepx", 2, "r0( r1( r4( r5( 0 r1( r4( r6( 1 ) ) ) 2 ) ) r2( 3 r4( r6( 4 ) ) ) ) ) "),
+            (
+                "bxepx",
+                2,
+                "r0( r1( r4( r5( 0 r1( r4( r6( 1 ) ) ) 2 ) ) r2( 3 r4( r6( 4 ) ) ) ) ) ",
+            ),
             // a symbol that cannot come is no text, also where nesting would pass the limit there
             ("bbp", 2, "no text at 2"),
             ("bbmp", 2, "deep at 2"),
             ("bbmp", 4, "no text at 3"),
         ];
         for (text, limit, wanted) in &cases {
-            assert_eq!(rt; answer(rt.alloc(), &reader, text, *limit)?.as_str(), *wanted, "{text}");
+            assert_eq!(rt;
+                answer(rt.alloc(), &reader, text, *limit)?.as_str(),
+                *wanted,
+                "{text}"
+            );
         }
         Ok(())
     }
@@ -202,10 +214,20 @@ mod tests {
             return Err(Fail::from("no tree"));
         };
         assert!(rt; matches!(&tree, Tree::Node { row: 0, kids: _ }));
-        assert!(rt; matches!(reader.parse(flat.as_slice(), 500_000), Err(ParseFail::Deep { at: 999_999 })));
+        assert!(rt;
+            matches!(
+                reader.parse(flat.as_slice(), 500_000),
+                Err(ParseFail::Deep { at: 999_999 })
+            )
+        );
         flat.push(112)?;
         assert!(rt; flat.len() == 1_000_002);
-        assert!(rt; matches!(reader.parse(flat.as_slice(), 600_000), Err(ParseFail::NoText { at: 1_000_002 })));
+        assert!(rt;
+            matches!(
+                reader.parse(flat.as_slice(), 600_000),
+                Err(ParseFail::NoText { at: 1_000_002 })
+            )
+        );
         Ok(())
     }
 }

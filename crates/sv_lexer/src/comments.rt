@@ -22,6 +22,7 @@ fn line_rest(bytes: &[u8]) -> usize
     bytes.len()
 }
 
+/// A comment to the end of its line (IEEE 1800-2017 clause 5.4).
 pub fn line_comment_span(bytes: &[u8]) -> usize
     ensures value { result ≡ spec.line_comment_span bytes.now }
     ensures within { result ≤ length bytes.now }
@@ -58,6 +59,7 @@ fn comment_body(bytes: &[u8]) -> usize
     before_close(&bytes[2..])
 }
 
+/// A block comment that is closed (IEEE 1800-2017 clause 5.4).
 pub fn block_comment_span(bytes: &[u8]) -> usize
     ensures value { result ≡ spec.block_comment_span bytes.now }
     ensures within { result ≤ length bytes.now }
@@ -69,6 +71,7 @@ pub fn block_comment_span(bytes: &[u8]) -> usize
     if body + 2 < bytes.len() { body + 4 } else { 0 }
 }
 
+/// A block comment that isn't closed, to the end of the file.
 pub fn cut_span(bytes: &[u8]) -> usize
     ensures value { result ≡ spec.cut_span bytes.now }
     ensures within { result ≤ length bytes.now }

@@ -90,6 +90,7 @@ fn signed_base_span(bytes: &[u8]) -> usize
     }
 }
 
+/// A based literal without its size (IEEE 1800-2017 clause 5.7.1).
 pub fn based_span(bytes: &[u8]) -> usize
     ensures value { result ≡ spec.based_span bytes.now }
     ensures within { result ≤ length bytes.now }
@@ -100,6 +101,7 @@ pub fn based_span(bytes: &[u8]) -> usize
     }
 }
 
+/// A value for every bit (IEEE 1800-2017 clause 5.7.1).
 pub fn fill_span(bytes: &[u8]) -> usize
     ensures value { result ≡ spec.fill_span bytes.now }
     ensures within { result ≤ length bytes.now }
@@ -142,6 +144,7 @@ fn string_rest(bytes: &[u8]) -> usize
     0
 }
 
+/// A string with its quotes (IEEE 1800-2017 clause 5.9).
 pub fn string_span(bytes: &[u8]) -> usize
     ensures value { result ≡ spec.string_span bytes.now }
     ensures within { result ≤ length bytes.now }

@@ -13,6 +13,7 @@ fn word_run(bytes: &[u8]) -> usize
     bytes.iter().take_while(|byte| is_word(**byte)).count()
 }
 
+/// White space: spaces, tabs, form feeds and carriage returns (IEEE 1800-2017 clause 5.3).
 pub fn white_span(bytes: &[u8]) -> usize
     ensures value { result ≡ spec.white_span bytes.now }
     ensures within { result ≤ length bytes.now }
@@ -20,6 +21,7 @@ pub fn white_span(bytes: &[u8]) -> usize
     bytes.iter().take_while(|byte| is_white(**byte)).count()
 }
 
+/// A simple identifier or a reserved word (IEEE 1800-2017 clauses 5.6 and 5.6.2).
 pub fn name_span(bytes: &[u8]) -> usize
     ensures value { result ≡ spec.name_span bytes.now }
     ensures within { result ≤ length bytes.now }
@@ -30,6 +32,7 @@ pub fn name_span(bytes: &[u8]) -> usize
     }
 }
 
+/// A system name (IEEE 1800-2017 clause 5.6.3).
 pub fn system_span(bytes: &[u8]) -> usize
     ensures value { result ≡ spec.system_span bytes.now }
     ensures within { result ≤ length bytes.now }
@@ -40,6 +43,7 @@ pub fn system_span(bytes: &[u8]) -> usize
     }
 }
 
+/// One byte more, where there are some.
 pub fn one_more(count: usize) -> usize
     requires { count < 2 ^ 63 }
     ensures { result ≡ spec.one_more count }
@@ -47,6 +51,7 @@ pub fn one_more(count: usize) -> usize
     if count == 0 { 0 } else { count + 1 }
 }
 
+/// A newline.
 pub fn line_span(bytes: &[u8]) -> usize
     ensures value { result ≡ spec.line_span bytes.now }
     ensures within { result ≤ length bytes.now }
@@ -54,6 +59,7 @@ pub fn line_span(bytes: &[u8]) -> usize
     if bytes.starts_with(b"\n") { 1 } else { 0 }
 }
 
+/// A backslash and the newline behind it.
 pub fn continued_span(bytes: &[u8]) -> usize
     ensures value { result ≡ spec.continued_span bytes.now }
     ensures within { result ≤ length bytes.now }
@@ -67,6 +73,7 @@ pub fn continued_span(bytes: &[u8]) -> usize
     }
 }
 
+/// A directive or the use of a macro (IEEE 1800-2017 clause 5.6.4).
 pub fn directive_span(bytes: &[u8]) -> usize
     ensures value { result ≡ spec.directive_span bytes.now }
     ensures within { result ≤ length bytes.now }
@@ -77,6 +84,7 @@ pub fn directive_span(bytes: &[u8]) -> usize
     }
 }
 
+/// Two backquotes (IEEE 1800-2017 clause 22.5.1).
 pub fn paste_span(bytes: &[u8]) -> usize
     ensures value { result ≡ spec.paste_span bytes.now }
     ensures within { result ≤ length bytes.now }
@@ -84,6 +92,7 @@ pub fn paste_span(bytes: &[u8]) -> usize
     if bytes.starts_with(b"``") { 2 } else { 0 }
 }
 
+/// A backquote and a quote, perhaps with a backslash and a backquote between (IEEE 1800-2017 clause 22.5.1).
 pub fn quote_span(bytes: &[u8]) -> usize
     ensures value { result ≡ spec.quote_span bytes.now }
     ensures within { result ≤ length bytes.now }
@@ -104,6 +113,7 @@ fn decimal_run(bytes: &[u8]) -> usize
     bytes.iter().take_while(|byte| is_decimal(**byte)).count()
 }
 
+/// Decimal digits (IEEE 1800-2017 clause 5.7.1).
 pub fn decimal_span(bytes: &[u8]) -> usize
     ensures value { result ≡ spec.decimal_span bytes.now }
     ensures within { result ≤ length bytes.now }
