@@ -25,3 +25,4 @@ pub mod Right
 pub mod AskedFor
 pub mod SimpleNames
 pub mod Correct
+pub mod Runs

@@ -22,37 +22,58 @@ absent_refusal path = record { rule = 101; place = record { file = 0; line = 1; 
 abbrev pub Holds : Option Contents → List ℕ → Option (List ℕ) → Type 0
 Holds told path held = (contents : Contents) → told ≡ Some contents → contents path ≡ held
 
--- the words ask for the translation of a file, whose translation is the text
-pub record IsTranslated (words : List (List ℕ)) (told : Option Contents) (text : List ℕ) : Type 0 where
-  pub request : Asked
-  pub asks : asked words ≡ Some request
+-- the file that is asked for has this translation
+pub record IsTranslated (request : Asked) (told : Option Contents) (text : List ℕ) : Type 0 where
   pub bytes : List ℕ
   pub few : length bytes ≤ file_limit
   pub held : Holds told request.file (Some bytes)
   pub translates : Translates request.top bytes text
 
--- the words ask for the translation of a file that is refused: it is absent, it is too long for what is built, or its
--- text breaks a rule
-pub record IsRefused (words : List (List ℕ)) (told : Option Contents) (path : List ℕ) (r : Refusal) : Type 0 where
-  pub request : Asked
-  pub asks : asked words ≡ Some request
-  pub is_path : path ≡ request.file
-  pub cause :
-    (Holds told request.file None × (r ≡ absent_refusal request.file))
-      ⊎ ((((contents : Contents) → told ≡ Some contents → (bytes : List ℕ) × (contents request.file ≡ Some bytes) × (file_limit < length bytes)) × (r ≡ stage_refusal))
-      ⊎ ((bytes : List ℕ) × (length bytes ≤ file_limit) × Holds told request.file (Some bytes) × Breaks request.top bytes r))
+-- the file is too long for what is built
+abbrev pub IsTooLong : Option Contents → List ℕ → Type 0
+IsTooLong told path = (contents : Contents) → told ≡ Some contents → (bytes : List ℕ) × (contents path ≡ Some bytes) × (file_limit < length bytes)
 
--- the load of the file that the words name failed, and the count of faults rose
-pub record IsFaulty (words : List (List ℕ)) (before now : ℕ) (path : List ℕ) : Type 0 where
-  pub request : Asked
-  pub asks : asked words ≡ Some request
+-- why the file that is asked for is refused: it is absent, it is too long for what is built, or its text has a break
+pub data Cause (request : Asked) (told : Option Contents) (r : Refusal) : Type 0 where
+  is_absent : Holds told request.file None → r ≡ absent_refusal request.file → Cause request told r
+  is_too_long : IsTooLong told request.file → r ≡ stage_refusal → Cause request told r
+  breaks : (bytes : List ℕ) → length bytes ≤ file_limit → Holds told request.file (Some bytes) → Breaks request.top bytes r → Cause request told r
+
+-- the refusal stands at that file
+pub record IsRefused (request : Asked) (told : Option Contents) (path : List ℕ) (r : Refusal) : Type 0 where
+  pub is_path : path ≡ request.file
+  pub cause : Cause request told r
+
+-- the load of that file failed, and the count of faults rose
+pub record IsFaulty (request : Asked) (before now : ℕ) (path : List ℕ) : Type 0 where
   pub is_path : path ≡ request.file
   pub rose : Rose before now
 
--- what is answered, by the words, by what the files tell, and by the count of their faults before and after
+-- what is answered for a request, by what the files tell, and by the count of their faults before and after
+abbrev pub AskedGives : Asked → Option Contents → ℕ → ℕ → Result Text Stop → Type 0
+AskedGives request told before now (Ok text) = IsTranslated request told text
+AskedGives request told before now (Err S.Usage) = ⊥
+AskedGives request told before now (Err S.Memory) = Unit {0}
+AskedGives request told before now (Err (S.FileFault path)) = IsFaulty request before now path
+AskedGives request told before now (Err (S.Refused path refusal)) = IsRefused request told path refusal
+
+-- what is answered for the bytes of its file
+abbrev pub FileGives : Asked → List ℕ → Result Text Stop → Type 0
+FileGives request bytes (Ok text) = Translates request.top bytes text
+FileGives request bytes (Err S.Usage) = ⊥
+FileGives request bytes (Err S.Memory) = Unit {0}
+FileGives request bytes (Err (S.FileFault path)) = ⊥
+FileGives request bytes (Err (S.Refused path refusal)) = (path ≡ request.file) × Breaks request.top bytes refusal
+
+-- what is answered for words
+pub record Answers (words : List (List ℕ)) (told : Option Contents) (before now : ℕ) (result : Result Text Stop) : Type 0 where
+  pub request : Asked
+  pub asks : asked words ≡ Some request
+  pub gives : AskedGives request told before now result
+
 abbrev pub RunGives : List (List ℕ) → Option Contents → ℕ → ℕ → Result Text Stop → Type 0
-RunGives words told before now (Ok text) = IsTranslated words told text
+RunGives words told before now (Ok text) = Answers words told before now (Ok text)
 RunGives words told before now (Err S.Usage) = asked words ≡ None
 RunGives words told before now (Err S.Memory) = Unit {0}
-RunGives words told before now (Err (S.FileFault path)) = IsFaulty words before now path
-RunGives words told before now (Err (S.Refused path refusal)) = IsRefused words told path refusal
+RunGives words told before now (Err (S.FileFault path)) = Answers words told before now (Err (S.FileFault path))
+RunGives words told before now (Err (S.Refused path refusal)) = Answers words told before now (Err (S.Refused path refusal))

@@ -7,3 +7,4 @@ pub mod Agreement
 pub mod Translation
 pub mod Printable
 pub mod Headline
+pub mod Endings
