@@ -16,3 +16,6 @@ mod translation;
 mod v_tree;
 mod words;
 mod v_writer;
+
+pub use main_call::translate_main;
+pub use status::Status;
