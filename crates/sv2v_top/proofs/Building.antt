@@ -15,5 +15,5 @@ pub step-built : {A B : Type 0} (f : A → Option B) (made made' : List B) (xs :
 step-built f made made' xs i x y h is e grown =
     let next : drop i xs ≡ x ∷ drop (suc i) xs = drop-cons xs i x h ∙ ap (λ z. z ∷ drop (suc i) xs) (sym is) in
     (λ j. then_one (λ r. grown j ++ r) (each f (drop (add-one i j) xs)))
-      ∙ one-built f made x y (drop (suc i) xs) e
-      ∙ ap (λ zs. then_one (λ r. made ++ r) (each f zs)) (sym next)
+    ∙ one-built f made x y (drop (suc i) xs) e
+    ∙ ap (λ zs. then_one (λ r. made ++ r) (each f zs)) (sym next)

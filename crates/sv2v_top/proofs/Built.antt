@@ -57,8 +57,18 @@ built-parts m top e =
     let a2 = and_parts _ _ a3.0 in
     let a1 = and_parts _ _ a2.0 in
     record {
-      directed = h1.0; is_top = h1.1; names = h2.1; no_helpers = h3.1; ranges = t1.0; bits = t1.1; literals = t2.1;
-      targets_are_outputs = a1.0; one_target = a1.1; operands_are_ports = a2.1; operands_at_rest = a3.1; outputs_are_driven = a4.1
+      directed = h1.0;
+      is_top = h1.1;
+      names = h2.1;
+      no_helpers = h3.1;
+      ranges = t1.0;
+      bits = t1.1;
+      literals = t2.1;
+      targets_are_outputs = a1.0;
+      one_target = a1.1;
+      operands_are_ports = a2.1;
+      operands_at_rest = a3.1;
+      outputs_are_driven = a4.1;
     }
 
 pub all-member : {A : Type 0} (t : A → Bool) (xs : List A) (x : A) → list_all t xs ≡ true → Member xs x → t x ≡ true
@@ -92,8 +102,8 @@ pub position-there : (names : List (List ℕ)) (w : List ℕ) → among names w 
 position-there [] w e = absurd (false≢true e)
 position-there (v ∷ names) w e =
     elim (true_or_false (bytes_eq v w)) [
-      inl h ↦ ap (slice_get (v ∷ names)) (pick_true (bytes_eq v w) 0 _ h) ∙ ap Some (bytes_same v w h)
-    | inr h ↦ ap (slice_get (v ∷ names)) (pick_false (bytes_eq v w) 0 _ h) ∙ position-there names w (rest (or_cases (bytes_eq v w) (among names w) e) h)
+      | inl h ↦ ap (slice_get (v ∷ names)) (pick_true (bytes_eq v w) 0 _ h) ∙ ap Some (bytes_same v w h)
+      | inr h ↦ ap (slice_get (v ∷ names)) (pick_false (bytes_eq v w) 0 _ h) ∙ position-there names w (rest (or_cases (bytes_eq v w) (among names w) e) h)
     ]
   where
     rest : (bytes_eq v w ≡ true) ⊎ (among names w ≡ true) → bytes_eq v w ≡ false → among names w ≡ true
@@ -152,8 +162,8 @@ pub among-output : (ports : List Declared) (w : List ℕ) → among (outputs por
 among-output [] w e = absurd (false≢true e)
 among-output (q ∷ ports) w e =
     elim (if_output-split q.direction q.name.word (outputs ports) w e) [
-      inl h ↦ record { port = q; is_port = inl refl; is_output = h.0; is_named = h.1 }
-    | inr h ↦ (let o = among-output ports w h in record { port = o.port; is_port = inr o.is_port; is_output = o.is_output; is_named = o.is_named })
+      | inl h ↦ record { port = q; is_port = inl refl; is_output = h.0; is_named = h.1 }
+      | inr h ↦ (let o = among-output ports w h in record { port = o.port; is_port = inr o.is_port; is_output = o.is_output; is_named = o.is_named })
     ]
 
 -- what is a member stands at some place
@@ -185,7 +195,7 @@ module _ (ports : List Declared) (d : distinct (map word ports) ≡ true) where
       record {
         signal = signal_of o.port;
         is_there = subst (λ v. slice_get signals (position names v) ≡ Some (signal_of o.port)) o.is_named (port-signal o.port o.is_port);
-        is_kind = ap kind_of o.is_output
+        is_kind = ap kind_of o.is_output;
       }
 
   -- the name of an output's signal is among the outputs
@@ -208,10 +218,10 @@ module _ (ports : List Declared) (d : distinct (map word ports) ≡ true) where
     where
       by_direction : (p : Declared) → Member ports p → w ≡ word p → (direction : Direction) → p.direction ≡ direction → IsOfKind signals InputNet (position names w)
       by_direction p m e Input k = record {
-          signal = signal_of p;
-          is_there = subst (λ v. slice_get signals (position names v) ≡ Some (signal_of p)) (sym e) (port-signal p m);
-          is_kind = ap kind_of k
-        }
+        signal = signal_of p;
+        is_there = subst (λ v. slice_get signals (position names v) ≡ Some (signal_of p)) (sym e) (port-signal p m);
+        is_kind = ap kind_of k;
+      }
       by_direction p m e Output k = absurd (never (subst (λ v. among (outputs ports) v ≡ true) (sym e) (output-among ports p m k)))
 
 -- the numbers that an expression reads are positions of the names that it uses
@@ -226,8 +236,8 @@ pub reads-named : (names : List (List ℕ)) (x : Expr) (n : ℕ) → Member (exp
 reads-named names (Single a) n m = operand-named names a.primary n m
 reads-named names (Binary op a b) n m =
     elim (member-split (primary_signals (primary_of names a.primary)) (primary_signals (primary_of names b.primary)) n m) [
-      inl k ↦ (let o = operand-named names a.primary n k in (o.0, member-left _ _ o.0 o.1, o.2))
-    | inr k ↦ (let o = operand-named names b.primary n k in (o.0, member-right (primary_names a.primary) _ o.0 o.1, o.2))
+      | inl k ↦ (let o = operand-named names a.primary n k in (o.0, member-left _ _ o.0 o.1, o.2))
+      | inr k ↦ (let o = operand-named names b.primary n k in (o.0, member-right (primary_names a.primary) _ o.0 o.1, o.2))
     ]
 
 -- distinct names have distinct positions
@@ -235,12 +245,13 @@ pub distinct-positions : (names : List (List ℕ)) (ws : List (List ℕ)) → ((
     → distinct_numbers (map (position names) ws)
 distinct-positions ns [] there d = tt
 distinct-positions ns (w ∷ ws) there d =
-    let parts = and_parts _ _ d in
-    ((λ m.
-        let u = member-unmap (position ns) ws (position ns w) m in
-        let same : w ≡ u.0 = position-one ns w u.0 (there w (inl refl)) (there u.0 (inr u.1)) u.2 in
-        false≢true (sym (not_true _ parts.0) ∙ among-member ws w (subst (λ x. Member ws x) (sym same) u.1))),
-     distinct-positions ns ws (λ x m. there x (inr m)) parts.1)
+    let parts = and_parts _ _ d in (
+      (λ m.
+          let u = member-unmap (position ns) ws (position ns w) m in
+          let same : w ≡ u.0 = position-one ns w u.0 (there w (inl refl)) (there u.0 (inr u.1)) u.2 in
+          false≢true (sym (not_true _ parts.0) ∙ among-member ws w (subst (λ x. Member ws x) (sym same) u.1))),
+      distinct-positions ns ws (λ x m. there x (inr m)) parts.1,
+    )
 
 pub map-map : {A B C : Type 0} (f : B → C) (g : A → B) (xs : List A) → map f (map g xs) ≡ map (λ x. f (g x)) xs
 map-map f g [] = refl
@@ -277,34 +288,35 @@ module _ (m : Module) (top : List ℕ) (b : Built m top) where
   pub read-checked : (a : Assign) → Member m.assigns a → (y : Spot) → Member (expr_names a.value) y
       → (among (port_names m) y.word ≡ true) × (among (targets m.assigns) y.word ≡ false)
   read-checked a k y n =
-      let at : Member (reads a) y.word = member-map (λ (s : Spot). s.word) (expr_names a.value) y n in
-      (all-member _ (reads a) y.word (all-member _ m.assigns a b.operands_are_ports k) at,
-       not_true _ (all-member _ (reads a) y.word (all-member _ m.assigns a b.operands_at_rest k) at))
+      let at : Member (reads a) y.word = member-map (λ (s : Spot). s.word) (expr_names a.value) y n in (
+        all-member _ (reads a) y.word (all-member _ m.assigns a b.operands_are_ports k) at,
+        not_true _ (all-member _ (reads a) y.word (all-member _ m.assigns a b.operands_at_rest k) at),
+      )
 
   pub processes-targets : map (λ (p : Process). p.target) (map (process_of (port_names m)) m.assigns) ≡ map (position (port_names m)) (targets m.assigns)
   processes-targets = map-map (λ (p : Process). p.target) (process_of (port_names m)) m.assigns ∙ sym (map-map (position (port_names m)) target_word m.assigns)
 
   pub translatable : Translatable (design_of m)
   translatable = record {
-      names = ap distinct (map-map path signal_of ports ∙ words) ∙ b.names;
-      widths = λ s k. (let u = member-unmap signal_of ports s k in subst (λ (x : Signal). 1 ≤ x.width) (sym u.2) (wide u.0 (u.0).range));
-      targets = λ p k. (let u = member-unmap (process_of (port_names m)) m.assigns p k in
+    names = ap distinct (map-map path signal_of ports ∙ words) ∙ b.names;
+    widths = λ s k. (let u = member-unmap signal_of ports s k in subst (λ (x : Signal). 1 ≤ x.width) (sym u.2) (wide u.0 (u.0).range));
+    targets = λ p k. (let u = member-unmap (process_of (port_names m)) m.assigns p k in
         subst (λ (x : Process). IsOfKind (map signal_of ports) OutputVar x.target) (sym u.2)
-          (by-header OutputVar (target_word u.0) (output-signal ports distinct-words (target_word u.0) (assign-target u.0 u.1))));
-      one_driver = subst distinct_numbers (sym processes-targets)
+        (by-header OutputVar (target_word u.0) (output-signal ports distinct-words (target_word u.0) (assign-target u.0 u.1))));
+    one_driver = subst distinct_numbers (sym processes-targets)
         (distinct-positions (port_names m) (targets m.assigns) (λ w k. output-port w (all-member _ (targets m.assigns) w b.targets_are_outputs k)) b.one_target);
-      driven = λ n is. (let o = output-name ports distinct-words n is in
+    driven = λ n is. (let o = output-name ports distinct-words n is in
         subst (λ (ns : List ℕ). Member ns n) (sym processes-targets)
-          (subst (λ k. Member (map (position (port_names m)) (targets m.assigns)) k) (sym (ap (λ ns. position ns o.0) words) ∙ o.2)
-            (member-map (position (port_names m)) (targets m.assigns) o.0
-              (member-among (targets m.assigns) o.0 (all-member _ (outputs ports) o.0 b.outputs_are_driven (member-among (outputs ports) o.0 o.1))))));
-      operands = λ p k n r. (let u = member-unmap (process_of (port_names m)) m.assigns p k in
+        (subst (λ k. Member (map (position (port_names m)) (targets m.assigns)) k) (sym (ap (λ ns. position ns o.0) words) ∙ o.2)
+        (member-map (position (port_names m)) (targets m.assigns) o.0
+        (member-among (targets m.assigns) o.0 (all-member _ (outputs ports) o.0 b.outputs_are_driven (member-among (outputs ports) o.0 o.1))))));
+    operands = λ p k n r. (let u = member-unmap (process_of (port_names m)) m.assigns p k in
         let y = reads-named (port_names m) (u.0).value n (subst (λ (x : Process). Member (expr_signals x.value) n) u.2 r) in
         let c = read-checked u.0 u.1 y.0 y.1 in
         subst (λ j. IsOfKind (map signal_of ports) InputNet j) (sym y.2)
-          (by-header InputNet (y.0).word (input-signal ports distinct-words (y.0).word (ap (λ ns. among ns (y.0).word) words ∙ c.0)
-            (λ o. false≢true (sym c.1 ∙ all-member _ (outputs ports) (y.0).word b.outputs_are_driven (member-among (outputs ports) (y.0).word o))))))
-    }
+        (by-header InputNet (y.0).word (input-signal ports distinct-words (y.0).word (ap (λ ns. among ns (y.0).word) words ∙ c.0)
+        (λ o. false≢true (sym c.1 ∙ all-member _ (outputs ports) (y.0).word b.outputs_are_driven (member-among (outputs ports) (y.0).word o))))));
+  }
     where
       wide : (p : Declared) (range : Option Range) → 1 ≤ range_width range
       wide p None = omega arith

@@ -87,6 +87,7 @@ size-positive (c ∷ text) e =
   where
     other : (k : ℕ) → (c ≡ k → ⊥) → (c == k) ≡ false
     other k h = elim (true_or_false (c == k)) [ inl f ↦ absurd (h (eqb-true c k f)) | inr f ↦ f ]
+
     not_zero : (c == 48) ≡ false → c ≡ 48 → ⊥
     not_zero f g = false≢true (sym f ∙ eq-eqb c 48 g)
 
@@ -142,14 +143,14 @@ module _ (top bytes : List ℕ) (m : Module) (reads : ReadsAs (source_tokens byt
 
   pub printable : Printable (design_of m)
   printable = record {
-      top = simple m.name.word named.itself;
-      names = path-simple;
-      widths = λ s k. (let u = member-unmap signal_of (declared m) s k in
+    top = simple m.name.word named.itself;
+    names = path-simple;
+    widths = λ s k. (let u = member-unmap signal_of (declared m) s k in
         subst (λ (x : Signal). x.width ≤ 65536) (sym u.2) (width-printable (u.0).range (all-member (λ (p : Declared). is_plain_range p.range) (declared m) u.0 built.ranges u.1)));
-      values = λ p k. (let u = member-unmap (process_of (port_names m)) m.assigns p k in
+    values = λ p k. (let u = member-unmap (process_of (port_names m)) m.assigns p k in
         subst (λ (x : Process). IsPrintableExpr x.value) (sym u.2)
-          (expr-printable (source_tokens bytes) (port_names m) (u.0).value (all-member (λ (a : Assign). expr_is_plain a.value) m.assigns u.0 built.literals u.1) (all-holds (source_tokens bytes) (BitwiseAssign (source_tokens bytes) suc) m.assigns u.0 named.values u.1)))
-    }
+        (expr-printable (source_tokens bytes) (port_names m) (u.0).value (all-member (λ (a : Assign). expr_is_plain a.value) m.assigns u.0 built.literals u.1) (all-holds (source_tokens bytes) (BitwiseAssign (source_tokens bytes) suc) m.assigns u.0 named.values u.1)));
+  }
 
   pub few-bits : sum (map (λ (s : Signal). s.width) (design_of m).signals) ≤ 2 ^ 26
   few-bits = (let few = leb-true (total_bits (declared m)) (2 ^ 22) built.bits in let same = bits-summed (declared m) in omega arith)

@@ -61,12 +61,12 @@ module _ (t : List Row) (flat : list_all flat-row t ≡ true) where
       let deep = row-flat h i row is in
       let zero_level : m ≡ 0 = n ∙ level-flat p around turn parts.0 ∙ z in
       no-nesting inner (and_parts (not row.deep) (list_all flat-part row.parts) deep).1 (inside-flat row m deep zero_level)
-        (no-nesting more (after-flat p ps o) z r)
+      (no-nesting more (after-flat p ps o) z r)
   no-nesting (left_out {p = p} {ps = ps} e begun more) o z r = no-nesting more (and_parts (flat-part p) (list_all flat-part ps) o).1 z r
   no-nesting (empty {around = around} {h = h} {i = i} {p = p} {ps = ps} {row = row} e f begun is blank x inner more) o z r =
       let deep = row-flat h i row is in
       no-nesting inner (and_parts (not row.deep) (list_all flat-part row.parts) deep).1 (inside-flat row around deep z)
-        (no-nesting more (and_parts (flat-part p) (list_all flat-part ps) o).1 z r)
+      (no-nesting more (and_parts (flat-part p) (list_all flat-part ps) o).1 z r)
 
   pub text-flat : (w : List Nested) (tree : Tree) → IsText t w tree → NoNesting w
   text-flat w tree x = no-nesting x.reads refl refl tt

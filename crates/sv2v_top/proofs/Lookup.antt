@@ -152,8 +152,8 @@ length-more (n ∷ ns) w = omega (arith, length-more ns w)
 pub position-or : (ns : List (List ℕ)) (w : List ℕ) → unwrap_or (first_number ns w) (length ns) ≡ position ns w
 position-or ns w =
     elim (true_or_false (among ns w)) [
-      inl h ↦ ap (λ o. unwrap_or o (length ns)) (pick_true (among ns w) _ _ h)
-    | inr h ↦ ap (λ o. unwrap_or o (length ns)) (pick_false (among ns w) _ _ h) ∙ sym (position-absent ns w h)
+      | inl h ↦ ap (λ o. unwrap_or o (length ns)) (pick_true (among ns w) _ _ h)
+      | inr h ↦ ap (λ o. unwrap_or o (length ns)) (pick_false (among ns w) _ _ h) ∙ sym (position-absent ns w h)
     ]
   where
     position-absent : (ns : List (List ℕ)) (w : List ℕ) → among ns w ≡ false → position ns w ≡ length ns
@@ -164,6 +164,6 @@ pub position-within : (ns : List (List ℕ)) (w : List ℕ) → position ns w �
 position-within [] w = omega arith
 position-within (n ∷ ns) w =
     elim (true_or_false (bytes_eq n w)) [
-      inl h ↦ (let e = pick_true (bytes_eq n w) 0 (suc (position ns w)) h in omega arith)
-    | inr h ↦ (let e = pick_false (bytes_eq n w) 0 (suc (position ns w)) h in let more = position-within ns w in omega arith)
+      | inl h ↦ (let e = pick_true (bytes_eq n w) 0 (suc (position ns w)) h in omega arith)
+      | inr h ↦ (let e = pick_false (bytes_eq n w) 0 (suc (position ns w)) h in let more = position-within ns w in omega arith)
     ]

@@ -55,12 +55,12 @@ if-apart false k y f g e = g e
 pub word-is-no-name : (text : List ℕ) → word_symbol text ≡ NAME → ⊥
 word-is-no-name text =
     if-apart _ MODULE _ refl (if-apart _ ENDMODULE _ refl (if-apart _ INPUT _ refl (if-apart _ OUTPUT _ refl
-      (if-apart _ LOGIC _ refl (if-apart _ ASSIGN _ refl (not-name OTHER refl))))))
+    (if-apart _ LOGIC _ refl (if-apart _ ASSIGN _ refl (not-name OTHER refl))))))
 
 pub bracket-is-no-name : (c : ℕ) → bracket_symbol c ≡ NAME → ⊥
 bracket-is-no-name c =
     if-apart _ OPEN _ refl (if-apart _ CLOSE _ refl (if-apart _ COMMA _ refl (if-apart _ SEMICOLON _ refl
-      (if-apart _ LEFT _ refl (if-apart _ RIGHT _ refl (if-apart _ COLON _ refl (if-apart _ EQUALS _ refl (not-name OTHER refl))))))))
+    (if-apart _ LEFT _ refl (if-apart _ RIGHT _ refl (if-apart _ COLON _ refl (if-apart _ EQUALS _ refl (not-name OTHER refl))))))))
 
 pub mark-is-no-name : (text : List ℕ) → mark_symbol text ≡ NAME → ⊥
 mark-is-no-name [] e = not-name OTHER refl e
@@ -146,9 +146,9 @@ module _ (tokens : List Token) (d : ℕ → ℕ) where
 
   pub step : {at s n : ℕ} {w : List Nested} → Fits at (at_nesting s n ∷ w) → Fits (suc at) w
   step {at = at} {s = s} {w = w} f = record {
-      count = (let c = f.count in omega arith);
-      spelt = drop-tail (map symbol_of tokens) at s (map symbol_of_nested w) f.spelt
-    }
+    count = (let c = f.count in omega arith);
+    spelt = drop-tail (map symbol_of tokens) at s (map symbol_of_nested w) f.spelt;
+  }
 
   pub within : {at s n : ℕ} {w : List Nested} → Fits at (at_nesting s n ∷ w) → at < length tokens
   within f = (let c = f.count in omega arith)
@@ -173,7 +173,7 @@ module _ (tokens : List Token) (d : ℕ → ℕ) where
       let g = get-within tokens at h in
       record {
         value = record { at = at; place = g.value.place; word = g.value.text };
-        is = ap (λ t. spot_in tokens (out-Tree t)) e ∙ ap (spot_in tokens) (out-leaf at) ∙ ap (spot_at at) g.is
+        is = ap (λ t. spot_in tokens (out-Tree t)) e ∙ ap (spot_in tokens) (out-leaf at) ∙ ap (spot_at at) g.is;
       }
 
   pub name-spine : (at to : ℕ) (w rest : List Nested) (kids : List Tree) → Spine source_rows d (Term NAME ∷ []) at w kids to rest → Fits at w → Meant (primary_from tokens kids)
@@ -247,10 +247,11 @@ module _ (tokens : List Token) (d : ℕ → ℕ) where
   pub tail-meant : (left : Operand) (x : Tree) (at to : ℕ) (w rest : List Nested) → Node_of TAIL x at w to rest → Fits at w → MeantAs Bitwise (tail_from tokens left (row_of x) (kids_of x))
   tail-meant left x at to w rest n fits =
       at-kids-as Bitwise (tail_from tokens left (row_of x)) TAIL x at to w rest n
-        (subst (λ i. MeantAs Bitwise (tail_from tokens left i n.kids)) (sym (node-row x n.index n.kids n.is_node)) (by_row (row-among TAIL source_rows n.index n.row n.is_row)))
+      (subst (λ i. MeantAs Bitwise (tail_from tokens left i n.kids)) (sym (node-row x n.index n.kids n.is_node)) (by_row (row-among TAIL source_rows n.index n.row n.is_row)))
     where
       index-is : (i : ℕ) (r : Row) → ◌≡◌ {A = ℕ × Row} (n.index, n.row) (i, r) → n.index ≡ i
       index-is i r e = ap (λ (p : ℕ × Row). p.0) e
+
       by_row : Member (rows_headed TAIL 0 source_rows) (n.index, n.row) → MeantAs Bitwise (tail_from tokens left n.index n.kids)
       by_row (inl e) = no-tail n.index left at to w rest n.kids (node-spine source_rows d n _ _ e refl)
       by_row (inr (inl e)) = tail-spine AND n.index And left (ap operator_of (index-is _ _ e)) tt at to w rest n.kids (node-spine source_rows d n _ _ e refl) fits
@@ -311,6 +312,7 @@ module _ (tokens : List Token) (d : ℕ → ℕ) where
     where
       index-is : (i : ℕ) (r : Row) → ◌≡◌ {A = ℕ × Row} (n.index, n.row) (i, r) → n.index ≡ i
       index-is i r e = ap (λ (p : ℕ × Row). p.0) e
+
       by_row : Member (rows_headed DIRECTION 0 source_rows) (n.index, n.row) → Meant (direction_of n.index)
       by_row (inl e) = record { value = Input; is = ap direction_of (index-is _ _ e) }
       by_row (inr (inl e)) = record { value = Output; is = ap direction_of (index-is _ _ e) }
@@ -334,7 +336,7 @@ module _ (tokens : List Token) (d : ℕ → ℕ) where
       record {
         value = record { at = at; place = g.value.place; word = g.value.text };
         is = ap (λ t. spot_in tokens (out-Tree t)) e ∙ ap (spot_in tokens) (out-leaf at) ∙ ap (spot_at at) g.is;
-        holds = record { index = at; token = g.value; is_there = g.is; is_name = name-kind g.value symbol; is_word = refl }
+        holds = record { index = at; token = g.value; is_there = g.is; is_name = name-kind g.value symbol; is_word = refl };
       }
 
   -- a port has a name
@@ -355,7 +357,7 @@ module _ (tokens : List Token) (d : ℕ → ℕ) where
       record {
         value = headed_port head.value name.value;
         is = λ i. then_two headed_port (head.is i) (name.is i);
-        holds = name.holds
+        holds = name.holds;
       }
 
   pub port-meant : (x : Tree) (at to : ℕ) (w rest : List Nested) → Node_of PORT x at w to rest → Fits at w → MeantAs Named (port_of tokens x)
@@ -437,7 +439,7 @@ module _ (tokens : List Token) (d : ℕ → ℕ) where
       record {
         value = body_with ports.value items.value name.value;
         is = λ i. then_two (λ make name. make name) (then_two body_with (ports.is i) (items.is i)) (name.is i);
-        holds = record { itself = name.holds; ports = ports.holds; values = items.holds }
+        holds = record { itself = name.holds; ports = ports.holds; values = items.holds };
       }
 
   pub module-meant : (x : Tree) (at to : ℕ) (w rest : List Nested) → Node_of SOURCE x at w to rest → Fits at w → MeantAs NamedModule (module_of tokens x)
@@ -453,10 +455,13 @@ readable tokens limit tree r = from_spine (spine source_rows suc (Non r.is_text.
   where
     is_source : r.is_text.head ≡ SOURCE
     is_source = (let same : r.is_text.row ≡ first_row = cc in sym r.is_text.is_first.is_of ∙ ap (λ (x : Row). x.head) same)
+
     counted : length r.text ≡ length tokens
     counted = sym (length-map symbol_of_nested r.text) ∙ ap length r.spells ∙ length-map symbol_of tokens
+
     fits : Fits tokens suc 0 r.text
     fits = record { count = (let c = counted in omega arith); spelt = sym r.spells }
+
     from_spine : Spine source_rows suc (Non r.is_text.head ∷ []) 0 r.text (tree ∷ []) r.is_text.to [] → MeantAs (NamedModule tokens suc) (module_of tokens tree)
     from_spine (node {mid = mid} {u = u} n more) =
         module-meant tokens suc tree 0 mid r.text u (subst (λ h. Node_read source_rows suc h tree 0 r.text mid u) is_source n) fits

@@ -79,27 +79,27 @@ module _ (d : Design) (t : Translatable d) where
 
   pub shape : Shape d (lowered d)
   shape = record {
-      top = lowered_module d;
-      one_module = refl;
-      name = refl;
-      ports = refl;
-      signals = subst (λ ns. AllZip SameNet d.signals ns) (sym (nets-of d.signals d.signals d.processes)) (shape-nets d.signals t.widths);
-      processes = subst (λ ds. AllZip (SameProcess d) d.processes ds) (sym (drivers-of d.signals d.signals d.processes)) (shape-drivers d.processes)
-    }
+    top = lowered_module d;
+    one_module = refl;
+    name = refl;
+    ports = refl;
+    signals = subst (λ ns. AllZip SameNet d.signals ns) (sym (nets-of d.signals d.signals d.processes)) (shape-nets d.signals t.widths);
+    processes = subst (λ ds. AllZip (SameProcess d) d.processes ds) (sym (drivers-of d.signals d.signals d.processes)) (shape-drivers d.processes);
+  }
 
   abbrev pub same : Target.machine (lowered d) d.top ≡ Source.machine d
   same = target-machine d t
 
   pub right : Printable d → FitsTop (lowered d) d.top → Right d (text_of (lowered d)) (lowered d)
   right p fits = record {
-      reads = written-reads d t p;
-      only = λ f r. one-design (text_of (lowered d)) f (lowered d) r (written-reads d t p);
-      fits_top = fits;
-      shape = shape;
-      source_trace = λ rows. Laws.one_trace (Source.machine d) (sound d t) rows;
-      target_trace = λ rows. subst (λ (m : M.Machine). OneTrace m rows) (sym same) (Laws.one_trace (Source.machine d) (sound d t) rows);
-      forward = λ rows vs h. (vs, subst (λ (m : M.Machine). HasTrace m rows vs) (sym same) h, traces-agree vs);
-      back = λ rows us h. (us, subst (λ (m : M.Machine). HasTrace m rows us) same h, traces-agree us);
-      rounds = λ s base v h. subst (λ (m : M.Machine). Reaches m s base v) (sym same)
-        (Laws.rounds_reach (Source.machine d) (sound d t) s base v (subst (λ (m : M.Machine). Settled m s base v) same h))
-    }
+    reads = written-reads d t p;
+    only = λ f r. one-design (text_of (lowered d)) f (lowered d) r (written-reads d t p);
+    fits_top = fits;
+    shape = shape;
+    source_trace = λ rows. Laws.one_trace (Source.machine d) (sound d t) rows;
+    target_trace = λ rows. subst (λ (m : M.Machine). OneTrace m rows) (sym same) (Laws.one_trace (Source.machine d) (sound d t) rows);
+    forward = λ rows vs h. (vs, subst (λ (m : M.Machine). HasTrace m rows vs) (sym same) h, traces-agree vs);
+    back = λ rows us h. (us, subst (λ (m : M.Machine). HasTrace m rows us) same h, traces-agree us);
+    rounds = λ s base v h. subst (λ (m : M.Machine). Reaches m s base v) (sym same)
+        (Laws.rounds_reach (Source.machine d) (sound d t) s base v (subst (λ (m : M.Machine). Settled m s base v) same h));
+  }

@@ -46,9 +46,12 @@ module _ (t : List Row) (d : ℕ → ℕ) where
   node-read {h = h} {g = g} {i = i} {row = row} {kids = kids} e is x inner =
       let same : g ≡ h = cc in
       record {
-        index = i; row = row; kids = kids; is_node = x;
+        index = i;
+        row = row;
+        kids = kids;
+        is_node = x;
         is_row = subst (λ k. IsRowOf t k i row) same is;
-        inside = record { around = _; turn = _; reads = inner }
+        inside = record { around = _; turn = _; reads = inner };
       }
 
   -- parts that are read once each
@@ -131,7 +134,7 @@ headed h start (r ∷ rows) zero k row e f g =
     let same : r ≡ row = cc in
     let at : start ≡ k = omega arith in
     subst (λ (x : ℕ × Row). Member (rows_headed h start (r ∷ rows)) x) (λ j. (at j, same j))
-      (first-kept (r.head == h) start r (rows_headed h (start + 1) rows) (eq-eqb r.head h (ap (λ (x : Row). x.head) same ∙ f)))
+    (first-kept (r.head == h) start r (rows_headed h (start + 1) rows) (eq-eqb r.head h (ap (λ (x : Row). x.head) same ∙ f)))
 headed h start (r ∷ rows) (suc i) k row e f g =
     rest-kept (r.head == h) start r (rows_headed h (start + 1) rows) (k, row) (headed h (start + 1) rows i k row e f (omega arith))
 

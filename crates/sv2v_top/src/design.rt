@@ -18,7 +18,10 @@ fn primary(alloc: Global, ports: &Names, primary: &sv_tree::Primary) -> Result<P
 {
     match primary {
         sv_tree::Primary::Name(name) => Ok(Primary::Signal(ports.position(&name.word))),
-        sv_tree::Primary::Literal { digits, .. } => Ok(Primary::Literal(bits(alloc, digits.word.as_bytes())?)),
+        sv_tree::Primary::Literal { digits, .. } => Ok(Primary::Literal(bits(
+            alloc,
+            digits.word.as_bytes(),
+        )?)),
     }
 }
 
@@ -42,7 +45,11 @@ fn expr(alloc: Global, ports: &Names, value: &sv_tree::Expr) -> Result<Expr, All
         sv_tree::Expr::Binary { op, left, right } => {
             let left = operand(alloc, ports, left)?;
             let right = operand(alloc, ports, right)?;
-            Ok(Expr::Binary { op: *op, left, right })
+            Ok(Expr::Binary {
+                op: *op,
+                left,
+                right,
+            })
         }
     }
 }
@@ -58,7 +65,11 @@ fn process(alloc: Global, ports: &Names, assign: &sv_tree::Assign) -> Result<Pro
 }
 
 /// The continuous assignments in order.
-pub fn processes(alloc: Global, ports: &Names, assigns: &[sv_tree::Assign]) -> Result<Processes, AllocError>
+pub fn processes(
+    alloc: Global,
+    ports: &Names,
+    assigns: &[sv_tree::Assign],
+) -> Result<Processes, AllocError>
     requires { ports.now.next < 2 ^ 32 }
     ensures { IfOk result (λ ps. (names : List (List ℕ)) → Numbers ports.now names → ps ≡ map (process_of names) assigns.now) }
 {

@@ -292,21 +292,27 @@ fn reads_are_outside(names: &Names, value: &Expr) -> bool
 fn all_read_ports(ports: &Names, assigns: &[Assign]) -> bool
     ensures { result ≡ list_all (λ (a : SourceAssign). list_all (λ (s : SourceSpot). holds ports.now s.word) (expr_names a.value)) assigns.now }
 {
-    assigns.iter().all(|assign| reads_are_in(ports, &assign.value))
+    assigns
+        .iter()
+        .all(|assign| reads_are_in(ports, &assign.value))
 }
 
 /// Whether no assignment reads a signal that one drives.
 fn none_reads_driven(driven: &Names, assigns: &[Assign]) -> bool
     ensures { result ≡ list_all (λ (a : SourceAssign). list_all (λ (s : SourceSpot). not (holds driven.now s.word)) (expr_names a.value)) assigns.now }
 {
-    assigns.iter().all(|assign| reads_are_outside(driven, &assign.value))
+    assigns
+        .iter()
+        .all(|assign| reads_are_outside(driven, &assign.value))
 }
 
 /// Whether all assignments drive outputs.
 fn all_drive_outputs(outputs: &Names, assigns: &[Assign]) -> bool
     ensures { result ≡ list_all (λ (a : SourceAssign). holds outputs.now a.target.word) assigns.now }
 {
-    assigns.iter().all(|assign| outputs.number(&assign.target.word).is_some())
+    assigns
+        .iter()
+        .all(|assign| outputs.number(&assign.target.word).is_some())
 }
 
 /// Whether each output is driven.
@@ -351,7 +357,13 @@ fn types_fit(source: &Module, signals: &[Signal]) -> bool
 }
 
 /// Whether the assignments have built forms only, by the tables of the ports, the outputs and the driven signals.
-fn drivers_fit(source: &Module, ports: &Names, outputs: &Names, driven: &Names, signals: &[Signal]) -> bool
+fn drivers_fit(
+    source: &Module,
+    ports: &Names,
+    outputs: &Names,
+    driven: &Names,
+    signals: &[Signal],
+) -> bool
     requires ports { Numbers ports.now (port_names source.now) }
     requires outputs { Numbers outputs.now (output_paths signals.now) }
     requires driven { Numbers driven.now (targets source.now.assigns) }
@@ -368,7 +380,12 @@ fn drivers_fit(source: &Module, ports: &Names, outputs: &Names, driven: &Names, 
 }
 
 /// Whether the assignments have built forms only.
-fn assigns_fit(alloc: Global, source: &Module, ports: &Names, signals: &[Signal]) -> Result<bool, AllocError>
+fn assigns_fit(
+    alloc: Global,
+    source: &Module,
+    ports: &Names,
+    signals: &[Signal],
+) -> Result<bool, AllocError>
     requires ports { Numbers ports.now (port_names source.now) }
     requires signals { signals.now ≡ map signal_of (declared source.now) }
     ensures { IfOk result (λ b. b ≡ assigns_are_built source.now) }
@@ -379,7 +396,13 @@ fn assigns_fit(alloc: Global, source: &Module, ports: &Names, signals: &[Signal]
 }
 
 /// Whether the module has built forms only, where its ranges have.
-fn has_built_forms(alloc: Global, source: &Module, ports: &Names, signals: &[Signal], top: &[u8]) -> Result<bool, AllocError>
+fn has_built_forms(
+    alloc: Global,
+    source: &Module,
+    ports: &Names,
+    signals: &[Signal],
+    top: &[u8],
+) -> Result<bool, AllocError>
     requires ports { Numbers ports.now (port_names source.now) }
     requires plain { ranges_are_plain source.now.ports ≡ true }
     requires signals { signals.now ≡ map signal_of (declared source.now) }
@@ -397,7 +420,11 @@ fn undeclared_name(alloc: Global, name: &Spot) -> Result<Refusal, AllocError>
 {
     let word = name.word.copy(alloc)?;
     let place = name.place;
-    Ok(Refusal { rule: 401, place, word })
+    Ok(Refusal {
+        rule: 401,
+        place,
+        word,
+    })
 }
 
 /// The refusal of what isn't built yet.
@@ -405,8 +432,16 @@ pub fn not_built(alloc: Global) -> Result<Refusal, AllocError>
     ensures { IfOk result (λ r. r ≡ stage_refusal) }
 {
     let word = Text::from_bytes(alloc, b"stage")?;
-    let place = Place { file: 0, line: 1, col: 1 };
-    Ok(Refusal { rule: 999, place, word })
+    let place = Place {
+        file: 0,
+        line: 1,
+        col: 1,
+    };
+    Ok(Refusal {
+        rule: 999,
+        place,
+        word,
+    })
 }
 
 /// The design of a module, by the top's name. A name that isn't declared is refused with E401, and after that a form or a
@@ -426,5 +461,9 @@ pub fn elaborate(alloc: Global, source: &Module, top: &[u8]) -> Result<Design, F
     }
     let processes = processes(alloc, &ports, source.assigns.as_slice())?;
     let top = source.name.word.copy(alloc)?;
-    Ok(Design { top, signals, processes })
+    Ok(Design {
+        top,
+        signals,
+        processes,
+    })
 }

@@ -14,8 +14,8 @@ mod sv_tree;
 mod sv_types;
 mod translation;
 mod v_tree;
-mod words;
 mod v_writer;
+mod words;
 
 pub use main_call::translate_main;
 pub use status::Status;

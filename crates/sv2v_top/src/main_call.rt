@@ -10,7 +10,8 @@ use crate::status::Status;
 use std::alloc::Global;
 use std::string::String;
 use sv_source::{
-    Files, Put, Sink, Text, put_all, put_out_of_memory, put_read_fault, put_refusal, put_usage, put_write_fault,
+    Files, Put, Sink, Text, put_all, put_out_of_memory, put_read_fault, put_refusal, put_usage,
+    put_write_fault,
 };
 
 /// Puts the line of a stop on the error stream.

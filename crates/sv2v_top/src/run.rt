@@ -42,8 +42,16 @@ fn absent(alloc: Global, path: &[u8]) -> Result<Refusal, AllocError>
     ensures { IfOk result (λ r. r ≡ absent_refusal path.now) }
 {
     let word = Text::from_bytes(alloc, path)?;
-    let place = Place { file: 0, line: 1, col: 1 };
-    Ok(Refusal { rule: 101, place, word })
+    let place = Place {
+        file: 0,
+        line: 1,
+        col: 1,
+    };
+    Ok(Refusal {
+        rule: 101,
+        place,
+        word,
+    })
 }
 
 /// The translation of the bytes of a file.
@@ -54,12 +62,19 @@ fn translated(alloc: Global, asked: Asked<'_>, bytes: &[u8]) -> Result<Text, Sto
     match translate(alloc, asked.top, bytes) {
         Ok(text) => Ok(text),
         Err(Fail::Memory) => Err(Stop::Memory),
-        Err(Fail::Refused(refusal)) => Err(Stop::Refused(Text::from_bytes(alloc, asked.file)?, refusal)),
+        Err(Fail::Refused(refusal)) => Err(Stop::Refused(
+            Text::from_bytes(alloc, asked.file)?,
+            refusal,
+        )),
     }
 }
 
 /// The translation of the file that is asked for.
-fn load_and_translate<F: Files>(alloc: Global, asked: Asked<'_>, files: &mut F) -> Result<Text, Stop>
+fn load_and_translate<F: Files>(
+    alloc: Global,
+    asked: Asked<'_>,
+    files: &mut F,
+) -> Result<Text, Stop>
     ensures gives { AskedGives (seen_by asked.entry) (F.contents files.old) (F.faults files.old) (F.faults files.new) result }
     ensures later { F.faults files.old ≤ F.faults files.new }
 {

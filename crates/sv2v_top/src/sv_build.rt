@@ -31,18 +31,31 @@ fn source_reader(alloc: Global) -> Result<Ll1, AllocError>
 }
 
 /// The refusal of the token with this number, or of the end.
-fn syntax_refusal(alloc: Global, tokens: &[Token], last: Place, index: u32) -> Result<Refusal, AllocError>
+fn syntax_refusal(
+    alloc: Global,
+    tokens: &[Token],
+    last: Place,
+    index: u32,
+) -> Result<Refusal, AllocError>
     ensures { IfOk result (λ r. r ≡ syntax_refusal_at last (slice_get tokens.now index)) }
 {
     match at(tokens, index as usize) {
         None => {
             let word = Text::from_bytes(alloc, b"<end>")?;
-            Ok(Refusal { rule: 302, place: last, word })
+            Ok(Refusal {
+                rule: 302,
+                place: last,
+                word,
+            })
         }
         Some(token) => {
             let word = token.text.copy(alloc)?;
             let place = token.place;
-            Ok(Refusal { rule: 302, place, word })
+            Ok(Refusal {
+                rule: 302,
+                place,
+                word,
+            })
         }
     }
 }
@@ -61,7 +74,9 @@ pub fn read_source(alloc: Global, tokens: &[Token], last: Place) -> Result<Modul
             None => unreachable!(),
         },
         Err(ParseFail::Memory) => Err(Fail::Memory),
-        Err(ParseFail::NoText { at }) => Err(Fail::Refused(syntax_refusal(alloc, tokens, last, at)?)),
+        Err(ParseFail::NoText { at }) => Err(Fail::Refused(syntax_refusal(
+            alloc, tokens, last, at,
+        )?)),
         Err(ParseFail::Deep { .. }) => unreachable!(),
     }
 }

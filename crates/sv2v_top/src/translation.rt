@@ -43,7 +43,11 @@ pub fn translate(alloc: Global, top: &[u8], bytes: &[u8]) -> Result<Text, Fail>
     requires { length bytes.now ≤ 2 ^ 24 }
     ensures { TranslationGives top.now bytes.now result }
 {
-    let start = Place { file: 0, line: 1, col: 1 };
+    let start = Place {
+        file: 0,
+        line: 1,
+        col: 1,
+    };
     let tokens = lex(alloc, 0, bytes)?;
     let tokens = without_lines(alloc, tokens.as_slice())?;
     let source = read_source(alloc, tokens.as_slice(), place_behind(start, bytes))?;

@@ -57,10 +57,16 @@ fn names_file(word: &[u8]) -> bool
 }
 
 /// What two words ask for, the option first.
-fn asked_in<'a>(alloc: Global, option: &'a [u8], file: &'a [u8]) -> Result<Option<Asked<'a>>, AllocError>
+fn asked_in<'a>(
+    alloc: Global,
+    option: &'a [u8],
+    file: &'a [u8],
+) -> Result<Option<Asked<'a>>, AllocError>
     ensures { IfOk result (λ a. seen a ≡ asked_by option.now file.now) }
 {
-    let few = option.len() <= WORDS_LIMIT && file.len() <= WORDS_LIMIT && option.len() + file.len() <= WORDS_LIMIT;
+    let few = option.len() <= WORDS_LIMIT
+        && file.len() <= WORDS_LIMIT
+        && option.len() + file.len() <= WORDS_LIMIT;
     if !few || !names_top(option) || !names_file(file) {
         return Ok(None);
     }
@@ -84,7 +90,11 @@ pub fn read_words<'a>(alloc: Global, words: &'a [String]) -> Result<Option<Asked
 }
 
 /// What two words ask for in either order.
-fn either<'a>(alloc: Global, first: &'a [u8], second: &'a [u8]) -> Result<Option<Asked<'a>>, AllocError>
+fn either<'a>(
+    alloc: Global,
+    first: &'a [u8],
+    second: &'a [u8],
+) -> Result<Option<Asked<'a>>, AllocError>
     ensures { IfOk result (λ a. seen a ≡ or_else (asked_by first.now second.now) (asked_by second.now first.now)) }
 {
     match asked_in(alloc, first, second)? {

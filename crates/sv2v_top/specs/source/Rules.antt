@@ -105,10 +105,10 @@ types_are_built m = ranges_are_plain m.ports && nat_le (total_bits (declared m))
 abbrev pub assigns_are_built : Module → Bool
 assigns_are_built m =
     all_among (outputs (declared m)) (targets m.assigns)
-      && distinct (targets m.assigns)
-      && read_ports (port_names m) m.assigns
-      && read_rest (targets m.assigns) m.assigns
-      && all_among (targets m.assigns) (outputs (declared m))
+    && distinct (targets m.assigns)
+    && read_ports (port_names m) m.assigns
+    && read_rest (targets m.assigns) m.assigns
+    && all_among (targets m.assigns) (outputs (declared m))
 
 abbrev pub is_built : Module → List ℕ → Bool
 is_built m top = header_is_built m top && types_are_built m && assigns_are_built m

@@ -4,33 +4,50 @@ ghost use Rattle.std.specs.Prelude.{◌≡◌, ◌∷◌, ◌++◌, [], OnOk, If
 ghost use Rattle.sv2v_top.specs.source.Grammar.{row, module_rows, port_rows, range_rows, item_rows, expr_rows, operand_rows, source_rows};
 
 use super::symbols::{
-    AND, ASSIGN, BASED, CLOSE, COLON, COMMA, DECIMAL, ENDMODULE, EQUALS, INPUT, LEFT, LOGIC, MODULE, NAME, NOT, OPEN, OR, OUTPUT, RIGHT, SEMICOLON, XOR,
+    AND, ASSIGN, BASED, CLOSE, COLON, COMMA, DECIMAL, ENDMODULE, EQUALS, INPUT, LEFT, LOGIC,
+    MODULE, NAME, NOT, OPEN, OR, OUTPUT, RIGHT, SEMICOLON, XOR,
 };
 use ll_engine::Part::{Many, Non, Term};
 use ll_engine::{Part, Parts, Row, Table};
 use std::alloc::{AllocError, Global};
 
 pub const SOURCE: u16 = 0;
+
 pub const PORTS: u16 = 1;
+
 pub const PORT_LIST: u16 = 2;
+
 pub const MORE_PORTS: u16 = 3;
+
 pub const MORE_PORT: u16 = 4;
+
 pub const PORT: u16 = 5;
+
 pub const DIRECTION: u16 = 6;
+
 pub const RANGE: u16 = 7;
+
 pub const ITEMS: u16 = 8;
+
 pub const ITEM: u16 = 9;
+
 pub const EXPR: u16 = 10;
+
 pub const TAIL: u16 = 11;
+
 pub const OPERAND: u16 = 12;
+
 pub const PRIMARY: u16 = 13;
 
 /// The rows of the directions.
 pub const INPUT_ROW: u16 = 9;
+
 pub const OUTPUT_ROW: u16 = 10;
 /// The rows of the operators between operands.
 pub const AND_ROW: u16 = 17;
+
 pub const OR_ROW: u16 = 18;
+
 pub const XOR_ROW: u16 = 19;
 
 /// Adds a row.
@@ -49,9 +66,26 @@ fn add(alloc: Global, rows: &mut Table, head: u16, parts: &[Part]) -> Result<(),
 fn add_module_rows(alloc: Global, rows: &mut Table) -> Result<(), AllocError>
     ensures { OnOk result (rows.new ≡ rows.old ++ module_rows) }
 {
-    add(alloc, rows, SOURCE, &[Term(MODULE), Term(NAME), Non(PORTS), Term(SEMICOLON), Non(ITEMS), Term(ENDMODULE)])?;
+    add(
+        alloc,
+        rows,
+        SOURCE,
+        &[
+            Term(MODULE),
+            Term(NAME),
+            Non(PORTS),
+            Term(SEMICOLON),
+            Non(ITEMS),
+            Term(ENDMODULE),
+        ],
+    )?;
     add(alloc, rows, PORTS, &[])?;
-    add(alloc, rows, PORTS, &[Term(OPEN), Non(PORT_LIST), Term(CLOSE)])?;
+    add(
+        alloc,
+        rows,
+        PORTS,
+        &[Term(OPEN), Non(PORT_LIST), Term(CLOSE)],
+    )?;
     add(alloc, rows, PORT_LIST, &[])?;
     add(alloc, rows, PORT_LIST, &[Non(PORT), Non(MORE_PORTS)])?;
     add(alloc, rows, MORE_PORTS, &[Many(MORE_PORT)])?;
@@ -62,7 +96,12 @@ fn add_module_rows(alloc: Global, rows: &mut Table) -> Result<(), AllocError>
 fn add_port_rows(alloc: Global, rows: &mut Table) -> Result<(), AllocError>
     ensures { OnOk result (rows.new ≡ rows.old ++ port_rows) }
 {
-    add(alloc, rows, PORT, &[Non(DIRECTION), Term(LOGIC), Non(RANGE), Term(NAME)])?;
+    add(
+        alloc,
+        rows,
+        PORT,
+        &[Non(DIRECTION), Term(LOGIC), Non(RANGE), Term(NAME)],
+    )?;
     add(alloc, rows, PORT, &[Term(NAME)])?;
     add(alloc, rows, DIRECTION, &[Term(INPUT)])?;
     add(alloc, rows, DIRECTION, &[Term(OUTPUT)])?;
@@ -74,7 +113,18 @@ fn add_range_rows(alloc: Global, rows: &mut Table) -> Result<(), AllocError>
     ensures { OnOk result (rows.new ≡ rows.old ++ range_rows) }
 {
     add(alloc, rows, RANGE, &[])?;
-    add(alloc, rows, RANGE, &[Term(LEFT), Term(DECIMAL), Term(COLON), Term(DECIMAL), Term(RIGHT)])?;
+    add(
+        alloc,
+        rows,
+        RANGE,
+        &[
+            Term(LEFT),
+            Term(DECIMAL),
+            Term(COLON),
+            Term(DECIMAL),
+            Term(RIGHT),
+        ],
+    )?;
     Ok(())
 }
 
@@ -83,7 +133,18 @@ fn add_item_rows(alloc: Global, rows: &mut Table) -> Result<(), AllocError>
     ensures { OnOk result (rows.new ≡ rows.old ++ item_rows) }
 {
     add(alloc, rows, ITEMS, &[Many(ITEM)])?;
-    add(alloc, rows, ITEM, &[Term(ASSIGN), Term(NAME), Term(EQUALS), Non(EXPR), Term(SEMICOLON)])?;
+    add(
+        alloc,
+        rows,
+        ITEM,
+        &[
+            Term(ASSIGN),
+            Term(NAME),
+            Term(EQUALS),
+            Non(EXPR),
+            Term(SEMICOLON),
+        ],
+    )?;
     Ok(())
 }
 

@@ -3,30 +3,51 @@
 ghost use Rattle.std.specs.Prelude.{◌≡◌, map, IfOk};
 ghost use Rattle.sv2v_top.specs.source.Grammar.{word_symbol, bracket_symbol, operator_symbol, mark_symbol, symbol_of};
 
-use sv_source::{Kind, Text, Token};
 use std::alloc::{AllocError, Global};
+use sv_source::{Kind, Text, Token};
 
 pub const OTHER: u16 = 0;
+
 pub const NAME: u16 = 1;
+
 pub const DECIMAL: u16 = 2;
+
 pub const BASED: u16 = 3;
+
 pub const MODULE: u16 = 4;
+
 pub const ENDMODULE: u16 = 5;
+
 pub const INPUT: u16 = 6;
+
 pub const OUTPUT: u16 = 7;
+
 pub const LOGIC: u16 = 8;
+
 pub const ASSIGN: u16 = 9;
+
 pub const OPEN: u16 = 10;
+
 pub const CLOSE: u16 = 11;
+
 pub const COMMA: u16 = 12;
+
 pub const SEMICOLON: u16 = 13;
+
 pub const LEFT: u16 = 14;
+
 pub const RIGHT: u16 = 15;
+
 pub const COLON: u16 = 16;
+
 pub const EQUALS: u16 = 17;
+
 pub const AND: u16 = 18;
+
 pub const OR: u16 = 19;
+
 pub const XOR: u16 = 20;
+
 pub const NOT: u16 = 21;
 
 /// The symbol of a bracket, comma, colon, semicolon or `=`.

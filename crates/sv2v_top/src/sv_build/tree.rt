@@ -4,7 +4,9 @@ ghost use Rattle.std.specs.Prelude.{◌≡◌, IfOk};
 ghost use Rattle.sv2v_top.specs.source.Building as means;
 
 use super::grammar::{AND_ROW, INPUT_ROW, OR_ROW, OUTPUT_ROW, XOR_ROW};
-use crate::sv_tree::{Assign, Assigns, Direction, Expr, Module, Operand, Port, PortHead, Ports, Primary, Range};
+use crate::sv_tree::{
+    Assign, Assigns, Direction, Expr, Module, Operand, Port, PortHead, Ports, Primary, Range,
+};
 use b4_core::BinOp;
 use ll_engine::Tree;
 use std::alloc::{AllocError, Global};
@@ -42,7 +44,11 @@ fn spot(alloc: Global, tokens: &[Token], tree: &Tree) -> Result<Option<Spot>, Al
         Some(token) => {
             let word = token.text.copy(alloc)?;
             let place = token.place;
-            Ok(Some(Spot { at: *index, place, word }))
+            Ok(Some(Spot {
+                at: *index,
+                place,
+                word,
+            }))
         }
     }
 }
@@ -99,7 +105,12 @@ fn operator(row: u16) -> Option<BinOp>
 }
 
 /// An operand with what stands behind it.
-fn with_tail(alloc: Global, tokens: &[Token], left: Operand, tail: &Tree) -> Result<Option<Expr>, AllocError>
+fn with_tail(
+    alloc: Global,
+    tokens: &[Token],
+    left: Operand,
+    tail: &Tree,
+) -> Result<Option<Expr>, AllocError>
     ensures { IfOk result (λ x. x ≡ means.tail_from tokens.now left (means.row_of tail.now) (means.kids_of tail.now)) }
 {
     match kids(tail) {
@@ -219,7 +230,12 @@ fn more_port(alloc: Global, tokens: &[Token], tree: &Tree) -> Result<Option<Port
 }
 
 /// The first port and those behind commas.
-fn port_list(alloc: Global, tokens: &[Token], first: Port, more: &[Tree]) -> Result<Option<Ports>, AllocError>
+fn port_list(
+    alloc: Global,
+    tokens: &[Token],
+    first: Port,
+    more: &[Tree],
+) -> Result<Option<Ports>, AllocError>
     ensures { IfOk result (λ ps. ps ≡ means.then_one (means.ports_with first) (means.each (means.more_of tokens.now) more.now)) }
 {
     let mut ports = Items::new(alloc);
@@ -289,7 +305,11 @@ pub fn module(alloc: Global, tokens: &[Token], tree: &Tree) -> Result<Option<Mod
             let Some(name) = spot(alloc, tokens, name)? else {
                 return Ok(None);
             };
-            Ok(Some(Module { name, ports, assigns }))
+            Ok(Some(Module {
+                name,
+                ports,
+                assigns,
+            }))
         }
         _ => Ok(None),
     }

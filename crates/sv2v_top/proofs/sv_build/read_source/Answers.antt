@@ -29,5 +29,5 @@ unreachable-requires-in-Err-Deep c =
     let reader : c.in_ok-reader.reader ≡ source_rows = c.in_ok-reader.ensures in
     let at : ℕ = c.in-Err-Deep.field-0-0 in
     let given : PassesAt c.in_ok-reader.reader c.as_slice.result.now 256 at =
-        subst (λ f. ParseGives c.in_ok-reader.reader c.as_slice.result.now 256 (Err f)) c.in-Err-Deep.field-0-is c.in-Err-Deep.ensures in
+    subst (λ f. ParseGives c.in_ok-reader.reader c.as_slice.result.now 256 (Err f)) c.in-Err-Deep.field-0-is c.in-Err-Deep.ensures in
     never-deep source_rows refl c.as_slice.result.now 256 at (subst (λ (t : List Row). PassesAt t c.as_slice.result.now 256 at) reader given)

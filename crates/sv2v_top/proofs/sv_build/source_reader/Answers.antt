@@ -11,5 +11,5 @@ unreachable-requires c =
     let rows : c.in_ok-source_table.field-0 ≡ source_rows = c.in_ok-source_table.ensures in
     let at : ℕ = c.in-Err-Unfit.field-0-0 in
     let given : BreaksAt c.in_ok-source_table.field-0 at =
-        subst (λ f. NewGives c.in_ok-source_table.field-0 (Err f)) c.in-Err-Unfit.field-0-is c.in-Err-Unfit.ensures in
+    subst (λ f. NewGives c.in_ok-source_table.field-0 (Err f)) c.in-Err-Unfit.field-0-is c.in-Err-Unfit.ensures in
     never-unfit source_rows source-fit at (subst (λ (t : List Row). BreaksAt t at) rows given)

@@ -34,12 +34,12 @@ returns c =
     let design : c.in_ok-design.design ≡ design_of c.in_ok-source.source = c.in_ok-design.ensures.1 in
     let target : c.in_ok-target.target ≡ lowered c.in_ok-design.design = c.in_ok-target.ensures in
     let text : c.write_text.new.to ≡ text_of (lowered (design_of c.in_ok-source.source)) =
-        c.in_ok-write_text.ensures ∙ ap (λ (t : List ℕ). t ++ text_of c.in_ok-target.target) c.new-text.ensures ∙ ap text_of target ∙ ap (λ (d : Design). text_of (lowered d)) design in
+    c.in_ok-write_text.ensures ∙ ap (λ (t : List ℕ). t ++ text_of c.in_ok-target.target) c.new-text.ensures ∙ ap text_of target ∙ ap (λ (d : Design). text_of (lowered d)) design in
     let some = raw-some (tokens_of 0 bytes) (subst (λ ts. All IsRaw ts) all c.in_ok-tokens.ensures.raw) in
     record {
       source = design_of c.in_ok-source.source;
       accepted = record { source = c.in_ok-source.source; reads = reads; unbroken = c.in_ok-design.ensures.0; elaborates = refl };
       target = lowered (design_of c.in_ok-source.source);
       right = subst (λ t. Right (design_of c.in_ok-source.source) t (lowered (design_of c.in_ok-source.source))) (sym text)
-        (correct c.args.top.now bytes c.in_ok-source.source reads c.in_ok-design.ensures.0 some)
+          (correct c.args.top.now bytes c.in_ok-source.source reads c.in_ok-design.ensures.0 some);
     }

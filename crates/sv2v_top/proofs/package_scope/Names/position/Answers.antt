@@ -8,7 +8,7 @@ pub returns : goal.returns
 returns c = λ ns n.
     let w = c.args.name.now in
     let found : c.unwrap_or-number.result ≡ position ns w =
-      c.unwrap_or-number.ensures ∙ (λ i. unwrap_or ((c.number.ensures ∙ n.numbers w) i) (n.count i)) ∙ position-or ns w in
+    c.unwrap_or-number.ensures ∙ (λ i. unwrap_or ((c.number.ensures ∙ n.numbers w) i) (n.count i)) ∙ position-or ns w in
     let within = position-within ns w in
     let count = n.count in
     omega arith
