@@ -6,14 +6,8 @@ use sv2v_top::Status;
 #[test]
 fn texts_are_translated(rt: HostRuntime) -> Result<(), Fail> {
     let cases = [
-        (
-            "module m; endmodule\n",
-            "module m;\nendmodule\n",
-        ),
-        (
-            "module m(); endmodule",
-            "module m;\nendmodule\n",
-        ),
+        ("module m; endmodule\n", "module m;\nendmodule\n"),
+        ("module m(); endmodule", "module m;\nendmodule\n"),
         (
             "module m(input logic a); endmodule\n",
             "module m (a);\n  input a;\nendmodule\n",
@@ -96,8 +90,19 @@ fn texts_are_translated(rt: HostRuntime) -> Result<(), Fail> {
         ),
     ];
     for (text, out) in cases {
-        let want = Want { status: Status::Done, out, err: "" };
-        check(&rt, rt.alloc(), &["--top=m", "t.sv"], &[("t.sv", text)], NONE, want)?;
+        let want = Want {
+            status: Status::Done,
+            out,
+            err: "",
+        };
+        check(
+            &rt,
+            rt.alloc(),
+            &["--top=m", "t.sv"],
+            &[("t.sv", text)],
+            NONE,
+            want,
+        )?;
     }
     Ok(())
 }

@@ -2,8 +2,8 @@
 use std::alloc::{AllocError, Global};
 use std::process::Abort;
 use std::test::Fail;
-use sv2v_top::{Status, translate_main};
 use sv_source::{Entries, Entry, MemoryFiles, MemorySink, Text};
+use sv2v_top::{Status, translate_main};
 
 /// The room of a sink in bytes.
 const ROOM: u64 = 100_000;
@@ -17,7 +17,11 @@ pub struct Failing<'a> {
 }
 
 /// No call fails.
-pub const NONE: Failing<'static> = Failing { files: &[], out: &[], err: &[] };
+pub const NONE: Failing<'static> = Failing {
+    files: &[],
+    out: &[],
+    err: &[],
+};
 
 /// What a call is to leave.
 #[derive(Clone, Copy)]
