@@ -33,8 +33,8 @@ fn behind_byte(place: Place, byte: u8) -> Place
     }
 }
 
-// The place behind some bytes.
-fn behind(place: Place, bytes: &[u8]) -> Place
+/// The place behind some bytes that begin at this place: a newline begins the next line, columns count bytes.
+pub fn place_behind(place: Place, bytes: &[u8]) -> Place
     requires line { place.line + length bytes.now < 2 ^ 32 }
     requires col { place.col + length bytes.now < 2 ^ 32 }
     requires col_least { 1 ≤ place.col }
@@ -113,7 +113,7 @@ pub fn lex(alloc: Global, file: u32, bytes: &[u8]) -> Result<Tokens, AllocError>
         let piece = longest(&tables, rest, string);
         let (text, after) = rest.split_at(piece.len);
         push_token(alloc, &tables, &mut tokens, piece.kind, text, place)?;
-        let next = behind(place, text);
+        let next = place_behind(place, text);
         no_string = stays_open(no_string, rest, string, next.line == place.line);
         place = next;
         rest = after;

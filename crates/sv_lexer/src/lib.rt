@@ -9,4 +9,4 @@ mod piece;
 mod spans;
 mod tables;
 
-pub use lexing::lex;
+pub use lexing::{lex, place_behind};

@@ -19,11 +19,11 @@ loop-rest-preserved c =
     ≡ token_of c.longest-piece.result.kind c.split_at.result.0.now c.loop-rest.place ++ tokens_from 0 (behind_bytes c.loop-rest.place c.split_at.result.0.now) c.split_at.result.1.now =
     tokens_from-next c.loop-rest.place _ _ _ c.longest-piece.result split c.longest-piece.ensures.value c.longest-piece.ensures.some c.split_at.ensures.front_len in
     record {
-      value = rw (c.in_ok-push_token.ensures, c.behind-next.ensures.value, append_assoc, ← next) c.loop-rest.invariant.value;
+      value = rw (c.in_ok-push_token.ensures, c.place_behind-next.ensures.value, append_assoc, ← next) c.loop-rest.invariant.value;
       line = omega arith;
       col = omega arith;
       col_least = omega arith;
-      no_string = no_string-next c.loop-rest.place c.behind-next.result _ _ _ _ _ _ split c.behind-next.ensures.value string c.loop-rest.invariant.no_string c.stays_open-no_string.ensures;
+      no_string = no_string-next c.loop-rest.place c.place_behind-next.result _ _ _ _ _ _ split c.place_behind-next.ensures.value string c.loop-rest.invariant.no_string c.stays_open-no_string.ensures;
     }
 
 pub returns-clause-count : goal.returns-clause-count

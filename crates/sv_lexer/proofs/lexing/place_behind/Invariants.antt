@@ -1,6 +1,6 @@
 use Rattle.std.proofs.Common.{◌≡◌, ◌+◌, ◌≤◌, drop}
 use Rattle.sv_lexer.specs.Lexing.{behind_bytes}
-use Rattle.sv_lexer.proofs.lexing.behind.Given as goal
+use Rattle.sv_lexer.proofs.lexing.place_behind.Given as goal
 
 abbrev pub invariant-loop-byte : goal.invariant-loop-byte
 invariant-loop-byte l = record {

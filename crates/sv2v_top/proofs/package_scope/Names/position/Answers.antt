@@ -1,0 +1,14 @@
+use Rattle.std.proofs.Common.{◌≡◌, ◌≤◌, List, ℕ, ap, ◌∙◌, length, arith}
+use Rattle.std.specs.Option.{unwrap_or}
+use Rattle.sv2v_top.specs.source.Names.{position}
+use Rattle.sv2v_top.proofs.Lookup.{position-or, position-within}
+use Rattle.sv2v_top.proofs.package_scope.Names.position.Goals as goal
+
+pub returns : goal.returns
+returns c = λ ns n.
+    let w = c.args.name.now in
+    let found : c.unwrap_or-number.result ≡ position ns w =
+    c.unwrap_or-number.ensures ∙ (λ i. unwrap_or ((c.number.ensures ∙ n.numbers w) i) (n.count i)) ∙ position-or ns w in
+    let within = position-within ns w in
+    let count = n.count in
+    omega arith

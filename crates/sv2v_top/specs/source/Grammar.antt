@@ -1,0 +1,129 @@
+-- The grammar of the source texts that are read (IEEE 1800-2017 Annex A.1.2, A.1.3, A.6.1 and A.8.3): one module of
+-- continuous assignments. A group that may be left out is a head of its own with an empty row.
+use Rattle.std.specs.Prelude.{ℕ, ◌==◌, Bool, false, List, [], ◌∷◌, ◌++◌, if◌then◌else◌, codes, slice_index_or}
+use Rattle.std.specs.Str.{bytes_eq}
+use Rattle.sv_source.specs.declared.token.Kind.{Kind}
+use Rattle.sv_source.specs.declared.token.Kind.TheVariants as Kinds
+use Rattle.sv_source.specs.declared.token.Token.{Token}
+use Rattle.ll_engine.specs.declared.table.Part.{Part}
+use Rattle.ll_engine.specs.declared.table.Part.TheVariants.{Term, Non, Many}
+use Rattle.ll_engine.specs.declared.table.Row.{Row}
+use Rattle.sv2v_top.specs.declared.sv_build.symbols.TheConstants.{OTHER, NAME, DECIMAL, BASED, MODULE, ENDMODULE, INPUT, OUTPUT, LOGIC, ASSIGN, OPEN, CLOSE, COMMA, SEMICOLON, LEFT, RIGHT, COLON, EQUALS, AND, OR, XOR, NOT}
+use Rattle.sv2v_top.specs.declared.sv_build.grammar.TheConstants.{SOURCE, PORTS, PORT_LIST, MORE_PORTS, MORE_PORT, PORT, DIRECTION, RANGE, ITEMS, ITEM, EXPR, TAIL, OPERAND, PRIMARY}
+
+-- a reserved word of the grammar
+abbrev pub word_symbol : List ℕ → ℕ
+word_symbol text =
+    if bytes_eq text (codes "module") then MODULE
+    else (if bytes_eq text (codes "endmodule") then ENDMODULE
+    else (if bytes_eq text (codes "input") then INPUT
+    else (if bytes_eq text (codes "output") then OUTPUT
+    else (if bytes_eq text (codes "logic") then LOGIC
+    else (if bytes_eq text (codes "assign") then ASSIGN
+    else OTHER)))))
+
+-- a bracket, comma, colon, semicolon or `=`
+abbrev pub bracket_symbol : ℕ → ℕ
+bracket_symbol c =
+    if c == 40 then OPEN
+    else (if c == 41 then CLOSE
+    else (if c == 44 then COMMA
+    else (if c == 59 then SEMICOLON
+    else (if c == 91 then LEFT
+    else (if c == 93 then RIGHT
+    else (if c == 58 then COLON
+    else (if c == 61 then EQUALS
+    else OTHER)))))))
+
+-- an operator
+abbrev pub operator_symbol : ℕ → ℕ
+operator_symbol c =
+    if c == 38 then AND
+    else (if c == 124 then OR
+    else (if c == 94 then XOR
+    else (if c == 126 then NOT
+    else bracket_symbol c)))
+
+-- a mark of one byte; longer ones stand nowhere in the grammar
+abbrev pub mark_symbol : List ℕ → ℕ
+mark_symbol [] = OTHER
+mark_symbol (c ∷ []) = operator_symbol c
+mark_symbol (c ∷ d ∷ rest) = OTHER
+
+-- the symbol of a token by its kind
+abbrev pub symbol_by : Kind → List ℕ → ℕ
+symbol_by Kinds.Name text = NAME
+symbol_by Kinds.Reserved text = word_symbol text
+symbol_by Kinds.Decimal text = DECIMAL
+symbol_by Kinds.Based text = BASED
+symbol_by Kinds.Fill text = OTHER
+symbol_by Kinds.Mark text = mark_symbol text
+symbol_by Kinds.System text = OTHER
+symbol_by Kinds.Str text = OTHER
+symbol_by Kinds.Directive text = OTHER
+symbol_by Kinds.Paste text = OTHER
+symbol_by Kinds.Quote text = OTHER
+symbol_by Kinds.Line text = OTHER
+symbol_by Kinds.Continued text = OTHER
+symbol_by Kinds.Cut text = OTHER
+symbol_by Kinds.Bad text = OTHER
+symbol_by Kinds.End text = OTHER
+
+abbrev pub symbol_of : Token → ℕ
+symbol_of t = symbol_by t.kind t.text
+
+-- a row; none of this grammar counts as nesting
+abbrev pub row : ℕ → List Part → Row
+row head parts = record { head = head; parts = parts; deep = false }
+
+abbrev pub module_rows : List Row
+module_rows =
+    row SOURCE (Term MODULE ∷ Term NAME ∷ Non PORTS ∷ Term SEMICOLON ∷ Non ITEMS ∷ Term ENDMODULE ∷ [])
+    ∷ row PORTS []
+    ∷ row PORTS (Term OPEN ∷ Non PORT_LIST ∷ Term CLOSE ∷ [])
+    ∷ row PORT_LIST []
+    ∷ row PORT_LIST (Non PORT ∷ Non MORE_PORTS ∷ [])
+    ∷ row MORE_PORTS (Many MORE_PORT ∷ [])
+    ∷ row MORE_PORT (Term COMMA ∷ Non PORT ∷ [])
+    ∷ []
+
+abbrev pub port_rows : List Row
+port_rows =
+    row PORT (Non DIRECTION ∷ Term LOGIC ∷ Non RANGE ∷ Term NAME ∷ [])
+    ∷ row PORT (Term NAME ∷ [])
+    ∷ row DIRECTION (Term INPUT ∷ [])
+    ∷ row DIRECTION (Term OUTPUT ∷ [])
+    ∷ []
+
+abbrev pub range_rows : List Row
+range_rows =
+    row RANGE []
+    ∷ row RANGE (Term LEFT ∷ Term DECIMAL ∷ Term COLON ∷ Term DECIMAL ∷ Term RIGHT ∷ [])
+    ∷ []
+
+abbrev pub item_rows : List Row
+item_rows =
+    row ITEMS (Many ITEM ∷ [])
+    ∷ row ITEM (Term ASSIGN ∷ Term NAME ∷ Term EQUALS ∷ Non EXPR ∷ Term SEMICOLON ∷ [])
+    ∷ []
+
+abbrev pub expr_rows : List Row
+expr_rows =
+    row EXPR (Non OPERAND ∷ Non TAIL ∷ [])
+    ∷ row TAIL []
+    ∷ row TAIL (Term AND ∷ Non OPERAND ∷ [])
+    ∷ row TAIL (Term OR ∷ Non OPERAND ∷ [])
+    ∷ row TAIL (Term XOR ∷ Non OPERAND ∷ [])
+    ∷ []
+
+abbrev pub operand_rows : List Row
+operand_rows =
+    row OPERAND (Term NOT ∷ Non PRIMARY ∷ [])
+    ∷ row OPERAND (Non PRIMARY ∷ [])
+    ∷ row PRIMARY (Term NAME ∷ [])
+    ∷ row PRIMARY (Term DECIMAL ∷ Term BASED ∷ [])
+    ∷ []
+
+-- the table of the grammar
+abbrev pub source_rows : List Row
+source_rows = module_rows ++ port_rows ++ range_rows ++ item_rows ++ expr_rows ++ operand_rows

@@ -1,0 +1,10 @@
+pub mod Value
+pub mod Signals
+pub mod Machine
+pub mod Reserved
+pub mod Tokens
+pub mod Symbols
+pub mod Table
+pub mod Meaning
+pub mod Reading
+pub mod Layout

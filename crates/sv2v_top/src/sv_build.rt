@@ -1,0 +1,82 @@
+//! From the tokens of a source to its tree, by a table of the grammar.
+
+mod grammar;
+mod symbols;
+mod tree;
+
+ghost use Rattle.std.specs.Prelude.{◌≡◌, ◌^◌, ◌-◌, ◌<◌, length, slice_get, IfOk};
+ghost use Rattle.sv2v_top.specs.source.Grammar.{source_rows};
+ghost use Rattle.sv2v_top.specs.source.Reading.{syntax_refusal_at, ReadingGives};
+
+use crate::sv_tree::Module;
+use grammar::source_table;
+use ll_engine::{Ll1, NewFail, ParseFail};
+use std::alloc::{AllocError, Global};
+use sv_source::{Fail, Place, Refusal, Text, Token, at};
+use symbols::symbols;
+use tree::module;
+
+/// How deep a text may nest. No text of this grammar nests.
+const NESTING_LIMIT: u32 = 256;
+
+/// The reader of the grammar.
+fn source_reader(alloc: Global) -> Result<Ll1, AllocError>
+    ensures { IfOk result (λ r. r ≡ source_rows) }
+{
+    match Ll1::new(alloc, source_table(alloc)?) {
+        Ok(reader) => Ok(reader),
+        Err(NewFail::Memory) => Err(AllocError),
+        Err(NewFail::Unfit { .. }) => unreachable!(),
+    }
+}
+
+/// The refusal of the token with this number, or of the end.
+fn syntax_refusal(
+    alloc: Global,
+    tokens: &[Token],
+    last: Place,
+    index: u32,
+) -> Result<Refusal, AllocError>
+    ensures { IfOk result (λ r. r ≡ syntax_refusal_at last (slice_get tokens.now index)) }
+{
+    match at(tokens, index as usize) {
+        None => {
+            let word = Text::from_bytes(alloc, b"<end>")?;
+            Ok(Refusal {
+                rule: 302,
+                place: last,
+                word,
+            })
+        }
+        Some(token) => {
+            let word = token.text.copy(alloc)?;
+            let place = token.place;
+            Ok(Refusal {
+                rule: 302,
+                place,
+                word,
+            })
+        }
+    }
+}
+
+/// The module that the tokens read as. Where they have no reading by the grammar, E302 stands at the failing token, or behind
+/// the last byte: a text begins with the tokens before it, and none with it too.
+pub fn read_source(alloc: Global, tokens: &[Token], last: Place) -> Result<Module, Fail>
+    requires { length tokens.now < 2 ^ 32 - 1 }
+    ensures { ReadingGives tokens.now last result }
+{
+    let reader = source_reader(alloc)?;
+    let symbols = symbols(alloc, tokens)?;
+    match reader.parse(symbols.as_slice(), NESTING_LIMIT) {
+        Ok(tree) => match module(alloc, tokens, &tree)? {
+            Some(source) => Ok(source),
+            None => unreachable!(),
+        },
+        Err(ParseFail::Memory) => Err(Fail::Memory),
+        Err(ParseFail::NoText { at }) => Err(Fail::Refused(syntax_refusal(
+            alloc, tokens, last, at,
+        )?)),
+        Err(ParseFail::Deep { .. }) => unreachable!(),
+    }
+}

@@ -1,0 +1,11 @@
+//! Tests of sv2v_top.
+#![tactic(auto)]
+
+#[cfg(test)]
+mod accepted;
+#[cfg(test)]
+mod caller;
+#[cfg(test)]
+mod faults;
+#[cfg(test)]
+mod refused;
