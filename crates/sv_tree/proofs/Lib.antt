@@ -1,0 +1,3 @@
+pub mod class
+pub mod Written
+pub mod Fit

@@ -1,0 +1,5 @@
+//! Trees.
+#![tactic(auto)]
+
+mod codes;
+mod symbols;
