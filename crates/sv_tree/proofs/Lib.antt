@@ -1,3 +1,4 @@
 pub mod class
 pub mod Written
 pub mod Fit
+pub mod Positions

@@ -1,20 +1,26 @@
--- How the rows of the grammar stand in the code.
-use Rattle.std.specs.Prelude.{ℕ, Bool, List, [], ◌∷◌, ◌++◌, true, false, ◌==◌, ◌||◌, if◌then◌else◌}
+-- How the rows of the grammar stand in the code, as two lists of numbers.
+use Rattle.std.specs.Prelude.{ℕ, Bool, List, [], ◌∷◌, ◌++◌, ◌==◌, ◌||◌, if◌then◌else◌}
 use Rattle.ll_engine.specs.declared.table.Part.{Part}
 use Rattle.ll_engine.specs.declared.table.Part.TheVariants.{Term, Non, Maybe, Many, Chain}
 use Rattle.ll_engine.specs.declared.table.Row.{Row}
+use Rattle.sv_tree.specs.declared.codes.TheConstants.{ROW, DEEP_ROW, TERM, NON, MAYBE, MANY}
 
 abbrev pub part_of : ℕ → ℕ → Part
 part_of kind number =
-    if kind == 2 then Term number else (if kind == 3 then Non number else (if kind == 4 then Maybe number else (if kind == 5 then Many number else Chain number)))
+    if kind == TERM then Term number
+    else (if kind == NON then Non number
+    else (if kind == MAYBE then Maybe number
+    else (if kind == MANY then Many number
+    else Chain number)))
 
+-- a row of the head without a part
 abbrev pub fresh : ℕ → ℕ → Row
-fresh kind number = record { head = number; parts = []; deep = kind == 1 }
+fresh kind head = record { head = head; parts = []; deep = kind == DEEP_ROW }
 
 abbrev pub begins_row : ℕ → Bool
-begins_row kind = (kind == 0) || (kind == 1)
+begins_row kind = (kind == ROW) || (kind == DEEP_ROW)
 
--- the rows that begin with `row`, to which the parts in front belong
+-- the rows from `row` on, which has the parts before the lists
 abbrev pub rows_from : Row → List ℕ → List ℕ → List Row
 rows_from row [] numbers = row ∷ []
 rows_from row (kind ∷ kinds) [] = row ∷ []
