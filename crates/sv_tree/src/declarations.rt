@@ -68,6 +68,8 @@ pub struct ParameterDeclaration {
     pub keyword: ParameterKeyword,
     /// The parameters, at least one.
     pub bodies: ParameterBodies,
+    /// The `;`.
+    pub semicolon: u32,
 }
 
 /// A name that is imported, or all (IEEE 1800-2017 A.2.1.3 package_import_item).

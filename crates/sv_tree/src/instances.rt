@@ -93,6 +93,19 @@ pub struct Instance {
 /// Instances of one module, in order.
 pub type Instances = Items<Instance>;
 
+/// Instances of one module or interface (IEEE 1800-2017 A.4.1.1 module_instantiation).
+#[derive(Drop)]
+pub struct Instantiation {
+    /// The name of the module or interface.
+    pub of: u32,
+    /// What its parameters are set to.
+    pub parameters: Option<ParameterBinds>,
+    /// The instances, at least one.
+    pub instances: Instances,
+    /// The `;`.
+    pub semicolon: u32,
+}
+
 /// A member that a modport lists (IEEE 1800-2017 A.2.9 modport_simple_ports_declaration).
 #[derive(Clone, Copy)]
 pub struct ModportPort {
@@ -120,3 +133,14 @@ pub struct Modport {
 
 /// The modports of one declaration, in order.
 pub type Modports = Items<Modport>;
+
+/// Modports of an interface (IEEE 1800-2017 A.2.9 modport_declaration).
+#[derive(Drop)]
+pub struct ModportDeclaration {
+    /// The word `modport`.
+    pub keyword: u32,
+    /// The modports, at least one.
+    pub modports: Modports,
+    /// The `;`.
+    pub semicolon: u32,
+}

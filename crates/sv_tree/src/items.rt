@@ -4,12 +4,57 @@
 use crate::declarations::{Declarators, Import, ParameterDeclaration};
 use crate::expressions::{Expr, Exprs};
 use crate::functions::Function;
-use crate::instances::{Instances, Modports, ParameterBinds};
+use crate::instances::{Instantiation, ModportDeclaration};
 use crate::names::{Label, Names, NetOrVariable};
-use crate::processes::{Always, NetAssignments};
+use crate::processes::{Always, ContinuousAssign};
 use crate::statements::LoopStep;
 use crate::types::{TypeDeclaration, TypeText};
 use sv_source::{Boxed, Items};
+
+/// Nets or variables (IEEE 1800-2017 A.2.1.3 data_declaration and net_declaration).
+#[derive(Drop)]
+pub struct DataDeclaration {
+    /// The word `wire` or `var`, where it is written.
+    pub net: Option<NetOrVariable>,
+    /// The type.
+    pub of: TypeText,
+    /// The names, at least one.
+    pub declarators: Declarators,
+    /// The `;`.
+    pub semicolon: u32,
+}
+
+/// Names of generate loops (IEEE 1800-2017 A.2.1.3 genvar_declaration).
+#[derive(Drop)]
+pub struct GenvarDeclaration {
+    /// The word `genvar`.
+    pub keyword: u32,
+    /// The names, at least one.
+    pub names: Names,
+    /// The `;`.
+    pub semicolon: u32,
+}
+
+/// What stands between the parentheses of a generate loop (IEEE 1800-2017 A.4.2 loop_generate_construct).
+#[derive(Drop)]
+pub struct GenerateLoop {
+    /// The word `genvar`, where the name is declared here.
+    pub genvar: Option<u32>,
+    /// The name.
+    pub name: u32,
+    /// The `=`.
+    pub equals: u32,
+    /// Its first value.
+    pub first: Expr,
+    /// The `;` behind it.
+    pub first_semicolon: u32,
+    /// Whether there is another block.
+    pub test: Expr,
+    /// The `;` behind it.
+    pub test_semicolon: u32,
+    /// How the next value comes.
+    pub step: LoopStep,
+}
 
 /// The block of a generate construct (IEEE 1800-2017 A.4.2 generate_block).
 #[derive(Drop)]
@@ -22,7 +67,7 @@ pub enum GenerateBlock {
         /// The name behind it.
         label: Option<Label>,
         /// The items.
-        body: ModuleItems,
+        items: ModuleItems,
         /// The word `end`.
         end: u32,
         /// The name behind it.
@@ -74,47 +119,19 @@ pub type CaseGenerateItems = Items<CaseGenerateItem>;
 #[cycle(item)]
 pub enum Item {
     /// Parameters.
-    Parameters {
-        /// The parameters.
-        declaration: ParameterDeclaration,
-        /// The `;`.
-        semicolon: u32,
-    },
+    Parameters(ParameterDeclaration),
     /// A type's name.
     Typedef(TypeDeclaration),
     /// Names that are imported.
     Import(Import),
     /// A function.
     Function(Function),
-    /// Nets or variables (IEEE 1800-2017 A.2.1.3 data_declaration and net_declaration).
-    Data {
-        /// The word `wire` or `var`, where it is written.
-        net: Option<NetOrVariable>,
-        /// The type.
-        of: TypeText,
-        /// The names, at least one.
-        declarators: Declarators,
-        /// The `;`.
-        semicolon: u32,
-    },
-    /// `genvar names;`
-    Genvars {
-        /// The word `genvar`.
-        keyword: u32,
-        /// The names, at least one.
-        names: Names,
-        /// The `;`.
-        semicolon: u32,
-    },
-    /// `assign assignments;`
-    Assign {
-        /// The word `assign`.
-        keyword: u32,
-        /// The assignments, at least one.
-        assignments: NetAssignments,
-        /// The `;`.
-        semicolon: u32,
-    },
+    /// Nets or variables.
+    Data(DataDeclaration),
+    /// Names of generate loops.
+    Genvars(GenvarDeclaration),
+    /// Continuous assignments.
+    Assign(ContinuousAssign),
     /// A process.
     Always(Always),
     /// `generate items endgenerate`
@@ -122,32 +139,18 @@ pub enum Item {
         /// The word `generate`.
         keyword: u32,
         /// The items.
-        body: ModuleItems,
+        items: ModuleItems,
         /// The word `endgenerate`.
         end: u32,
     },
-    /// `for (name = first; test; step) block`
+    /// `for (control) block`
     LoopGenerate {
         /// The word `for`.
         keyword: u32,
         /// The `(`.
         opening: u32,
-        /// The word `genvar`, where the name is declared here.
-        genvar: Option<u32>,
-        /// The name.
-        name: u32,
-        /// The `=`.
-        equals: u32,
-        /// Its first value.
-        first: Expr,
-        /// The `;` behind it.
-        first_semicolon: u32,
-        /// Whether there is another block.
-        test: Expr,
-        /// The `;` behind it.
-        test_semicolon: u32,
-        /// How the next value comes.
-        step: LoopStep,
+        /// The name and its values.
+        control: GenerateLoop,
         /// The `)`.
         closing: u32,
         /// The block.
@@ -179,30 +182,14 @@ pub enum Item {
         /// The `)`.
         closing: u32,
         /// The items, at least one.
-        cases: CaseGenerateItems,
+        items: CaseGenerateItems,
         /// The word `endcase`.
         end: u32,
     },
-    /// `modport modports;`
-    Modports {
-        /// The word `modport`.
-        keyword: u32,
-        /// The modports, at least one.
-        modports: Modports,
-        /// The `;`.
-        semicolon: u32,
-    },
-    /// Instances of a module or an interface (IEEE 1800-2017 A.4.1.1 module_instantiation).
-    Instances {
-        /// The name of the module or interface.
-        of: u32,
-        /// What its parameters are set to.
-        parameters: Option<ParameterBinds>,
-        /// The instances, at least one.
-        instances: Instances,
-        /// The `;`.
-        semicolon: u32,
-    },
+    /// Modports.
+    Modports(ModportDeclaration),
+    /// Instances of a module or an interface.
+    Instances(Instantiation),
     /// `;`
     Empty {
         /// The `;`.

@@ -19,6 +19,17 @@ pub struct NetAssignment {
 /// The assignments behind one `assign`, in order.
 pub type NetAssignments = Items<NetAssignment>;
 
+/// Continuous assignments (IEEE 1800-2017 A.6.1 continuous_assign).
+#[derive(Drop)]
+pub struct ContinuousAssign {
+    /// The word `assign`.
+    pub keyword: u32,
+    /// The assignments, at least one.
+    pub assignments: NetAssignments,
+    /// The `;`.
+    pub semicolon: u32,
+}
+
 /// Which change of a signal is an event (IEEE 1800-2017 A.7.4 edge_identifier), with its word.
 #[derive(Clone, Copy)]
 pub enum EdgeKeyword {

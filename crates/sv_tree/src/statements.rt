@@ -146,12 +146,7 @@ pub enum BlockItem {
     /// A statement.
     Statement(Stmt),
     /// Parameters.
-    Parameters {
-        /// The parameters.
-        declaration: ParameterDeclaration,
-        /// The `;`.
-        semicolon: u32,
-    },
+    Parameters(ParameterDeclaration),
     /// Variables.
     Variables {
         /// The word `automatic`, where it is written.

@@ -16,12 +16,7 @@ pub enum PackageItem {
     /// A type's name.
     Typedef(TypeDeclaration),
     /// Parameters.
-    Parameters {
-        /// The parameters.
-        declaration: ParameterDeclaration,
-        /// The `;`.
-        semicolon: u32,
-    },
+    Parameters(ParameterDeclaration),
     /// A function.
     Function(Function),
     /// `;`
@@ -82,12 +77,7 @@ pub enum Unit {
     /// A type's name.
     Typedef(TypeDeclaration),
     /// Parameters.
-    Parameters {
-        /// The parameters.
-        declaration: ParameterDeclaration,
-        /// The `;`.
-        semicolon: u32,
-    },
+    Parameters(ParameterDeclaration),
     /// A function.
     Function(Function),
     /// `;`
