@@ -7,9 +7,9 @@ use Rattle.sv_tree.specs.Table.{table}
 
 pub table_fits : IsFit table
 unfolding table
-table_fits = fits_is table 4 176 refl
+table_fits = fits_is table 4 207 refl
 
-pub table_length : length table ≡ 354
+pub table_length : length table ≡ 419
 unfolding table
 table_length = refl
 

@@ -10,521 +10,614 @@ description = 1
 abbrev pub package_declaration : ℕ
 package_declaration = 2
 
-abbrev pub end_label : ℕ
-end_label = 3
+abbrev pub package_items : ℕ
+package_items = 3
 
 abbrev pub package_item : ℕ
 package_item = 4
 
+abbrev pub optional_label : ℕ
+optional_label = 5
+
+abbrev pub optional_lifetime : ℕ
+optional_lifetime = 6
+
 abbrev pub package_import_declaration : ℕ
-package_import_declaration = 5
+package_import_declaration = 7
+
+abbrev pub package_import_items : ℕ
+package_import_items = 8
 
 abbrev pub next_package_import_item : ℕ
-next_package_import_item = 6
+next_package_import_item = 9
 
 abbrev pub package_import_item : ℕ
-package_import_item = 7
+package_import_item = 10
 
 abbrev pub imported_name : ℕ
-imported_name = 8
-
-abbrev pub lifetime : ℕ
-lifetime = 9
+imported_name = 11
 
 abbrev pub module_declaration : ℕ
-module_declaration = 10
+module_declaration = 12
 
 abbrev pub interface_declaration : ℕ
-interface_declaration = 11
+interface_declaration = 13
 
-abbrev pub header_and_items : ℕ
-header_and_items = 12
+abbrev pub header : ℕ
+header = 14
 
-abbrev pub parameter_port_list : ℕ
-parameter_port_list = 13
+abbrev pub header_imports : ℕ
+header_imports = 15
 
-abbrev pub parameter_ports : ℕ
-parameter_ports = 14
+abbrev pub optional_parameter_port_list : ℕ
+optional_parameter_port_list = 16
+
+abbrev pub optional_parameter_ports : ℕ
+optional_parameter_ports = 17
 
 abbrev pub next_parameter_port : ℕ
-next_parameter_port = 15
-
-abbrev pub list_of_port_declarations : ℕ
-list_of_port_declarations = 16
-
-abbrev pub port_declarations : ℕ
-port_declarations = 17
-
-abbrev pub next_port_declaration : ℕ
-next_port_declaration = 18
-
-abbrev pub parameter_declaration : ℕ
-parameter_declaration = 19
-
-abbrev pub parameter_keyword : ℕ
-parameter_keyword = 20
-
-abbrev pub next_parameter_body : ℕ
-next_parameter_body = 21
+next_parameter_port = 18
 
 abbrev pub parameter_port_declaration : ℕ
-parameter_port_declaration = 22
+parameter_port_declaration = 19
+
+abbrev pub optional_port_list : ℕ
+optional_port_list = 20
+
+abbrev pub optional_ports : ℕ
+optional_ports = 21
+
+abbrev pub next_port : ℕ
+next_port = 22
+
+abbrev pub parameter_declaration : ℕ
+parameter_declaration = 23
+
+abbrev pub parameter_keyword : ℕ
+parameter_keyword = 24
+
+abbrev pub optional_parameter_keyword : ℕ
+optional_parameter_keyword = 25
+
+abbrev pub parameter_bodies : ℕ
+parameter_bodies = 26
+
+abbrev pub next_parameter_body : ℕ
+next_parameter_body = 27
 
 abbrev pub parameter_body : ℕ
-parameter_body = 23
-
-abbrev pub initializer : ℕ
-initializer = 24
+parameter_body = 28
 
 abbrev pub parameter_name_rest : ℕ
-parameter_name_rest = 25
+parameter_name_rest = 29
 
-abbrev pub declarator : ℕ
-declarator = 26
+abbrev pub optional_initializer : ℕ
+optional_initializer = 30
 
 abbrev pub declarators : ℕ
-declarators = 27
+declarators = 31
 
 abbrev pub next_declarator : ℕ
-next_declarator = 28
+next_declarator = 32
+
+abbrev pub declarator : ℕ
+declarator = 33
+
+abbrev pub dimensions : ℕ
+dimensions = 34
 
 abbrev pub dimension : ℕ
-dimension = 29
+dimension = 35
 
-abbrev pub right_bound : ℕ
-right_bound = 30
+abbrev pub optional_right_bound : ℕ
+optional_right_bound = 36
 
 abbrev pub port_declaration : ℕ
-port_declaration = 31
+port_declaration = 37
 
 abbrev pub port_direction : ℕ
-port_direction = 32
+port_direction = 38
+
+abbrev pub optional_port_direction : ℕ
+optional_port_direction = 39
 
 abbrev pub net_or_variable : ℕ
-net_or_variable = 33
+net_or_variable = 40
+
+abbrev pub optional_net_or_variable : ℕ
+optional_net_or_variable = 41
 
 abbrev pub port_type : ℕ
-port_type = 34
+port_type = 42
 
 abbrev pub port_name_rest : ℕ
-port_name_rest = 35
+port_name_rest = 43
 
-abbrev pub dimensioned_name : ℕ
-dimensioned_name = 36
+abbrev pub optional_dimensioned_name : ℕ
+optional_dimensioned_name = 44
 
 abbrev pub keyword_type : ℕ
-keyword_type = 37
+keyword_type = 45
 
 abbrev pub type_keyword : ℕ
-type_keyword = 38
+type_keyword = 46
 
 abbrev pub signing : ℕ
-signing = 39
+signing = 47
+
+abbrev pub optional_signing : ℕ
+optional_signing = 48
 
 abbrev pub data_type : ℕ
-data_type = 40
+data_type = 49
 
-abbrev pub scoped_name : ℕ
-scoped_name = 41
+abbrev pub optional_scoped_name : ℕ
+optional_scoped_name = 50
 
 abbrev pub aggregate_type : ℕ
-aggregate_type = 42
+aggregate_type = 51
 
 abbrev pub struct_union : ℕ
-struct_union = 43
+struct_union = 52
 
-abbrev pub packing : ℕ
-packing = 44
+abbrev pub optional_packing : ℕ
+optional_packing = 53
 
-abbrev pub enum_base_type : ℕ
-enum_base_type = 45
-
-abbrev pub enum_name_declaration : ℕ
-enum_name_declaration = 46
-
-abbrev pub next_enum_name : ℕ
-next_enum_name = 47
+abbrev pub struct_union_members : ℕ
+struct_union_members = 54
 
 abbrev pub struct_union_member : ℕ
-struct_union_member = 48
+struct_union_member = 55
+
+abbrev pub dimensioned_names : ℕ
+dimensioned_names = 56
 
 abbrev pub next_dimensioned_name : ℕ
-next_dimensioned_name = 49
+next_dimensioned_name = 57
+
+abbrev pub dimensioned_name : ℕ
+dimensioned_name = 58
+
+abbrev pub optional_enum_base_type : ℕ
+optional_enum_base_type = 59
+
+abbrev pub enum_names : ℕ
+enum_names = 60
+
+abbrev pub next_enum_name : ℕ
+next_enum_name = 61
+
+abbrev pub enum_name_declaration : ℕ
+enum_name_declaration = 62
 
 abbrev pub type_declaration : ℕ
-type_declaration = 50
+type_declaration = 63
+
+abbrev pub module_items : ℕ
+module_items = 64
 
 abbrev pub module_item : ℕ
-module_item = 51
+module_item = 65
+
+abbrev pub names : ℕ
+names = 66
 
 abbrev pub next_name : ℕ
-next_name = 52
+next_name = 67
+
+abbrev pub net_assignments : ℕ
+net_assignments = 68
 
 abbrev pub next_net_assignment : ℕ
-next_net_assignment = 53
+next_net_assignment = 69
 
 abbrev pub net_assignment : ℕ
-net_assignment = 54
+net_assignment = 70
 
 abbrev pub data_declaration : ℕ
-data_declaration = 55
+data_declaration = 71
 
 abbrev pub variable_type : ℕ
-variable_type = 56
+variable_type = 72
 
 abbrev pub variable_name_rest : ℕ
-variable_name_rest = 57
+variable_name_rest = 73
 
 abbrev pub item_name_rest : ℕ
-item_name_rest = 58
+item_name_rest = 74
 
 abbrev pub declared_name_rest : ℕ
-declared_name_rest = 59
+declared_name_rest = 75
 
-abbrev pub parameter_assignments : ℕ
-parameter_assignments = 60
+abbrev pub next_declarators : ℕ
+next_declarators = 76
+
+abbrev pub optional_parameter_assignments : ℕ
+optional_parameter_assignments = 77
 
 abbrev pub next_parameter_assignment : ℕ
-next_parameter_assignment = 61
-
-abbrev pub hierarchical_instance : ℕ
-hierarchical_instance = 62
-
-abbrev pub next_instance : ℕ
-next_instance = 63
-
-abbrev pub port_connections : ℕ
-port_connections = 64
-
-abbrev pub next_port_connection : ℕ
-next_port_connection = 65
+next_parameter_assignment = 78
 
 abbrev pub parameter_assignment : ℕ
-parameter_assignment = 66
+parameter_assignment = 79
+
+abbrev pub hierarchical_instances : ℕ
+hierarchical_instances = 80
+
+abbrev pub next_instances : ℕ
+next_instances = 81
+
+abbrev pub next_instance : ℕ
+next_instance = 82
+
+abbrev pub hierarchical_instance : ℕ
+hierarchical_instance = 83
+
+abbrev pub optional_port_connections : ℕ
+optional_port_connections = 84
+
+abbrev pub next_port_connection : ℕ
+next_port_connection = 85
 
 abbrev pub port_connection : ℕ
-port_connection = 67
+port_connection = 86
 
-abbrev pub connected_expression : ℕ
-connected_expression = 68
+abbrev pub optional_connected_expression : ℕ
+optional_connected_expression = 87
 
 abbrev pub loop_generate_construct : ℕ
-loop_generate_construct = 69
+loop_generate_construct = 88
 
-abbrev pub genvar_keyword : ℕ
-genvar_keyword = 70
+abbrev pub optional_genvar_keyword : ℕ
+optional_genvar_keyword = 89
 
 abbrev pub if_generate_construct : ℕ
-if_generate_construct = 71
+if_generate_construct = 90
 
-abbrev pub else_generate_block : ℕ
-else_generate_block = 72
+abbrev pub generate_else : ℕ
+generate_else = 91
 
 abbrev pub case_generate_construct : ℕ
-case_generate_construct = 73
+case_generate_construct = 92
+
+abbrev pub case_generate_body : ℕ
+case_generate_body = 93
 
 abbrev pub case_generate_items : ℕ
-case_generate_items = 74
+case_generate_items = 94
 
-abbrev pub default_and_generate_items : ℕ
-default_and_generate_items = 75
+abbrev pub optional_case_generate_default : ℕ
+optional_case_generate_default = 95
 
 abbrev pub case_generate_default : ℕ
-case_generate_default = 76
+case_generate_default = 96
 
-abbrev pub colon : ℕ
-colon = 77
+abbrev pub optional_colon : ℕ
+optional_colon = 97
 
 abbrev pub case_generate_item : ℕ
-case_generate_item = 78
+case_generate_item = 98
+
+abbrev pub expressions : ℕ
+expressions = 99
 
 abbrev pub next_expression : ℕ
-next_expression = 79
+next_expression = 100
+
+abbrev pub optional_expression : ℕ
+optional_expression = 101
 
 abbrev pub generate_block : ℕ
-generate_block = 80
+generate_block = 102
 
 abbrev pub modport_declaration : ℕ
-modport_declaration = 81
+modport_declaration = 103
+
+abbrev pub modport_items : ℕ
+modport_items = 104
 
 abbrev pub next_modport_item : ℕ
-next_modport_item = 82
+next_modport_item = 105
 
 abbrev pub modport_item : ℕ
-modport_item = 83
+modport_item = 106
+
+abbrev pub modport_ports : ℕ
+modport_ports = 107
 
 abbrev pub next_modport_port : ℕ
-next_modport_port = 84
+next_modport_port = 108
 
 abbrev pub modport_port : ℕ
-modport_port = 85
+modport_port = 109
 
 abbrev pub function_declaration : ℕ
-function_declaration = 86
-
-abbrev pub tf_port_list : ℕ
-tf_port_list = 87
-
-abbrev pub tf_ports : ℕ
-tf_ports = 88
-
-abbrev pub next_tf_port : ℕ
-next_tf_port = 89
+function_declaration = 110
 
 abbrev pub function_type : ℕ
-function_type = 90
+function_type = 111
 
 abbrev pub function_name_rest : ℕ
-function_name_rest = 91
+function_name_rest = 112
 
-abbrev pub declared_name : ℕ
-declared_name = 92
+abbrev pub optional_name : ℕ
+optional_name = 113
+
+abbrev pub optional_tf_port_list : ℕ
+optional_tf_port_list = 114
+
+abbrev pub optional_tf_ports : ℕ
+optional_tf_ports = 115
+
+abbrev pub next_tf_port : ℕ
+next_tf_port = 116
 
 abbrev pub tf_port_item : ℕ
-tf_port_item = 93
+tf_port_item = 117
 
-abbrev pub input_direction : ℕ
-input_direction = 94
+abbrev pub optional_input : ℕ
+optional_input = 118
 
 abbrev pub always_construct : ℕ
-always_construct = 95
+always_construct = 119
 
 abbrev pub event_control : ℕ
-event_control = 96
+event_control = 120
 
 abbrev pub event_control_rest : ℕ
-event_control_rest = 97
+event_control_rest = 121
 
 abbrev pub event_expression : ℕ
-event_expression = 98
+event_expression = 122
 
-abbrev pub next_edge_event : ℕ
-next_edge_event = 99
+abbrev pub next_event_edge : ℕ
+next_event_edge = 123
 
 abbrev pub event_separator : ℕ
-event_separator = 100
+event_separator = 124
 
-abbrev pub edge_event : ℕ
-edge_event = 101
+abbrev pub event_edge : ℕ
+event_edge = 125
 
 abbrev pub edge_identifier : ℕ
-edge_identifier = 102
+edge_identifier = 126
 
-abbrev pub event_member : ℕ
-event_member = 103
+abbrev pub optional_event_member : ℕ
+optional_event_member = 127
 
 abbrev pub statement : ℕ
-statement = 104
+statement = 128
+
+abbrev pub block_items : ℕ
+block_items = 129
 
 abbrev pub block_item : ℕ
-block_item = 105
+block_item = 130
 
 abbrev pub automatic_declaration : ℕ
-automatic_declaration = 106
+automatic_declaration = 131
 
 abbrev pub block_name_rest : ℕ
-block_name_rest = 107
+block_name_rest = 132
 
 abbrev pub block_select_rest : ℕ
-block_select_rest = 108
+block_select_rest = 133
 
 abbrev pub statement_item : ℕ
-statement_item = 109
-
-abbrev pub unique_priority : ℕ
-unique_priority = 110
+statement_item = 134
 
 abbrev pub conditional_statement : ℕ
-conditional_statement = 111
+conditional_statement = 135
+
+abbrev pub unique_priority : ℕ
+unique_priority = 136
 
 abbrev pub else_statement : ℕ
-else_statement = 112
+else_statement = 137
 
 abbrev pub case_keyword : ℕ
-case_keyword = 113
+case_keyword = 138
+
+abbrev pub case_body : ℕ
+case_body = 139
 
 abbrev pub case_items : ℕ
-case_items = 114
+case_items = 140
 
-abbrev pub default_and_items : ℕ
-default_and_items = 115
+abbrev pub optional_case_default : ℕ
+optional_case_default = 141
 
 abbrev pub case_default : ℕ
-case_default = 116
+case_default = 142
 
 abbrev pub case_item : ℕ
-case_item = 117
+case_item = 143
 
 abbrev pub for_initialization : ℕ
-for_initialization = 118
+for_initialization = 144
 
 abbrev pub for_step : ℕ
-for_step = 119
+for_step = 145
 
 abbrev pub assignment_rest : ℕ
-assignment_rest = 120
+assignment_rest = 146
 
 abbrev pub inc_or_dec_operator : ℕ
-inc_or_dec_operator = 121
+inc_or_dec_operator = 147
 
 abbrev pub assignment_operator : ℕ
-assignment_operator = 122
+assignment_operator = 148
 
 abbrev pub variable_lvalue : ℕ
-variable_lvalue = 123
+variable_lvalue = 149
 
 abbrev pub lvalue_concatenation : ℕ
-lvalue_concatenation = 124
+lvalue_concatenation = 150
+
+abbrev pub variable_lvalues : ℕ
+variable_lvalues = 151
 
 abbrev pub next_lvalue : ℕ
-next_lvalue = 125
+next_lvalue = 152
+
+abbrev pub selects : ℕ
+selects = 153
 
 abbrev pub select : ℕ
-select = 126
+select = 154
 
-abbrev pub part_select_rest : ℕ
-part_select_rest = 127
+abbrev pub optional_part_select_rest : ℕ
+optional_part_select_rest = 155
 
 abbrev pub part_select_operator : ℕ
-part_select_operator = 128
+part_select_operator = 156
 
 abbrev pub expression : ℕ
-expression = 129
+expression = 157
 
-abbrev pub conditional_rest : ℕ
-conditional_rest = 130
+abbrev pub optional_conditional_rest : ℕ
+optional_conditional_rest = 158
 
 abbrev pub logical_or : ℕ
-logical_or = 131
+logical_or = 159
 
 abbrev pub logical_or_rest : ℕ
-logical_or_rest = 132
+logical_or_rest = 160
 
 abbrev pub logical_and : ℕ
-logical_and = 133
+logical_and = 161
 
 abbrev pub logical_and_rest : ℕ
-logical_and_rest = 134
+logical_and_rest = 162
 
 abbrev pub bitwise_or : ℕ
-bitwise_or = 135
+bitwise_or = 163
 
 abbrev pub bitwise_or_rest : ℕ
-bitwise_or_rest = 136
+bitwise_or_rest = 164
 
 abbrev pub bitwise_xor : ℕ
-bitwise_xor = 137
+bitwise_xor = 165
 
 abbrev pub bitwise_xor_rest : ℕ
-bitwise_xor_rest = 138
+bitwise_xor_rest = 166
 
 abbrev pub xor_operator : ℕ
-xor_operator = 139
+xor_operator = 167
 
 abbrev pub bitwise_and : ℕ
-bitwise_and = 140
+bitwise_and = 168
 
 abbrev pub bitwise_and_rest : ℕ
-bitwise_and_rest = 141
+bitwise_and_rest = 169
 
 abbrev pub equality : ℕ
-equality = 142
+equality = 170
 
 abbrev pub equality_rest : ℕ
-equality_rest = 143
+equality_rest = 171
 
 abbrev pub equality_operator : ℕ
-equality_operator = 144
+equality_operator = 172
 
 abbrev pub relation : ℕ
-relation = 145
+relation = 173
 
 abbrev pub relation_rest : ℕ
-relation_rest = 146
+relation_rest = 174
 
 abbrev pub relation_operator : ℕ
-relation_operator = 147
+relation_operator = 175
+
+abbrev pub value_ranges : ℕ
+value_ranges = 176
 
 abbrev pub next_value_range : ℕ
-next_value_range = 148
+next_value_range = 177
 
 abbrev pub value_range : ℕ
-value_range = 149
+value_range = 178
 
 abbrev pub shift : ℕ
-shift = 150
+shift = 179
 
 abbrev pub shift_rest : ℕ
-shift_rest = 151
+shift_rest = 180
 
 abbrev pub shift_operator : ℕ
-shift_operator = 152
+shift_operator = 181
 
 abbrev pub sum : ℕ
-sum = 153
+sum = 182
 
 abbrev pub sum_rest : ℕ
-sum_rest = 154
+sum_rest = 183
 
 abbrev pub sum_operator : ℕ
-sum_operator = 155
+sum_operator = 184
 
 abbrev pub product : ℕ
-product = 156
+product = 185
 
 abbrev pub product_rest : ℕ
-product_rest = 157
+product_rest = 186
 
 abbrev pub product_operator : ℕ
-product_operator = 158
+product_operator = 187
 
 abbrev pub power : ℕ
-power = 159
+power = 188
 
 abbrev pub power_rest : ℕ
-power_rest = 160
+power_rest = 189
 
 abbrev pub unary : ℕ
-unary = 161
+unary = 190
 
 abbrev pub unary_operator : ℕ
-unary_operator = 162
+unary_operator = 191
 
 abbrev pub primary : ℕ
-primary = 163
+primary = 192
 
-abbrev pub size_rest : ℕ
-size_rest = 164
+abbrev pub optional_size_rest : ℕ
+optional_size_rest = 193
 
 abbrev pub concatenation_rest : ℕ
-concatenation_rest = 165
+concatenation_rest = 194
+
+abbrev pub next_expressions : ℕ
+next_expressions = 195
 
 abbrev pub primary_name_rest : ℕ
-primary_name_rest = 166
+primary_name_rest = 196
 
 abbrev pub arguments_or_selects : ℕ
-arguments_or_selects = 167
+arguments_or_selects = 197
 
-abbrev pub arguments : ℕ
-arguments = 168
+abbrev pub optional_arguments : ℕ
+optional_arguments = 198
+
+abbrev pub optional_cast : ℕ
+optional_cast = 199
 
 abbrev pub cast : ℕ
-cast = 169
+cast = 200
 
 abbrev pub cast_operand : ℕ
-cast_operand = 170
+cast_operand = 201
 
 abbrev pub pattern_items : ℕ
-pattern_items = 171
+pattern_items = 202
 
 abbrev pub pattern_rest : ℕ
-pattern_rest = 172
+pattern_rest = 203
 
 abbrev pub next_pattern_item : ℕ
-next_pattern_item = 173
+next_pattern_item = 204
 
 abbrev pub pattern_item : ℕ
-pattern_item = 174
+pattern_item = 205
 
-abbrev pub pattern_value : ℕ
-pattern_value = 175
+abbrev pub optional_pattern_value : ℕ
+optional_pattern_value = 206
