@@ -1,7 +1,7 @@
 -- The table of the source grammar is of the class that is read with one symbol of look-ahead.
-use Rattle.std.proofs.Common.{◌≡◌, ◌<◌, ◌≤◌, ℕ, List, length, refl, arith}
+use Rattle.std.proofs.Common.{◌≡◌, ℕ, List, length, refl, arith}
 use Rattle.ll_engine.specs.declared.table.Row.{Row}
-use Rattle.ll_engine.specs.Class.{IsFit, Keeps, BreaksAt, no_rows, at_row}
+use Rattle.ll_engine.specs.Class.{IsFit, BreaksAt, no_rows, at_row}
 use Rattle.sv_tree.proofs.class.Sets.{fits_is}
 use Rattle.sv_tree.specs.Table.{table}
 

@@ -1,5 +1,5 @@
 -- What the heads of a table begin with and which can be empty, from sets that a computation checks.
-use Rattle.std.proofs.Common.{◌≡◌, ℕ, zero, suc, ◌^◌, ◌==◌, Bool, true, false, not, cond, ◌&&◌, ◌||◌, List, [], ◌∷◌, slice_get, Some, refl, sym, subst, eqb-true}
+use Rattle.std.proofs.Common.{◌≡◌, ℕ, zero, suc, ◌^◌, Bool, true, false, not, cond, ◌&&◌, ◌||◌, List, [], ◌∷◌, slice_get, Some, refl, sym, subst}
 use Rattle.std.specs.List.{list_all}
 use Rattle.std.specs.Int.Bits.{bit_or}
 use Rattle.std.proofs.lemmas.Bool.{and_parts, false≢true}

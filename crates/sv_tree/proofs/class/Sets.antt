@@ -1,5 +1,5 @@
 -- The sets by which a table is found to be of the class. One number is kept for each head, and passes over the rows make it grow.
-use Rattle.std.proofs.Common.{◌≡◌, ℕ, zero, suc, max, min, ◌<◌, ◌==◌, nat_lt, ltb-true, Bool, true, cond, ◌&&◌, List, [], ◌∷◌, get_or, set, replicate, reverse, length, Option, Some, None}
+use Rattle.std.proofs.Common.{◌≡◌, ℕ, zero, suc, max, min, ◌==◌, nat_lt, ltb-true, Bool, true, cond, ◌&&◌, List, [], ◌∷◌, get_or, set, replicate, reverse, length, Option, Some, None}
 use Rattle.std.specs.List.{list_all}
 use Rattle.std.specs.Int.Bits.{bit_or}
 use Rattle.std.proofs.lemmas.Bool.{and_parts}

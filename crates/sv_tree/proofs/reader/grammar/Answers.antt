@@ -1,4 +1,4 @@
-use Rattle.std.proofs.Common.{◌≡◌, ◌≤◌, List, ℕ, length, Ok, Err, sym, ap, subst, ◌∙◌, arith}
+use Rattle.std.proofs.Common.{◌≡◌, List, ℕ, length, Ok, Err, ap, subst, ◌∙◌, arith}
 use Rattle.ll_engine.specs.declared.table.Row.{Row}
 use Rattle.ll_engine.specs.Class.{BreaksAt}
 use Rattle.ll_engine.specs.Answers.{NewGives}
