@@ -3,10 +3,11 @@ use Rattle.std.proofs.Common.{◌≡◌, ℕ, List, length, refl, arith}
 use Rattle.ll_engine.specs.declared.table.Row.{Row}
 use Rattle.ll_engine.specs.Class.{IsFit, BreaksAt, no_rows, at_row}
 use Rattle.sv_tree.proofs.class.Sets.{fits_is}
+use Rattle.sv_tree.specs.Symbols.{mark_symbol, word_symbol}
 use Rattle.sv_tree.specs.Table.{table}
 
 pub table_fits : IsFit table
-unfolding table
+unfolding table mark_symbol word_symbol
 table_fits = fits_is table 4 207 refl
 
 pub table_length : length table ≡ 419

@@ -2,3 +2,4 @@ pub mod class
 pub mod Written
 pub mod Fit
 pub mod Positions
+pub mod Lines

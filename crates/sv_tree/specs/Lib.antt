@@ -1,4 +1,4 @@
 pub mod Heads
 pub mod Symbols
 pub mod Table
-pub mod Codes
+pub mod Rows

@@ -22,10 +22,10 @@ place_among words text = position (λ word. bytes_eq word text) words
 abbrev pub symbol_among : ℕ → List (List ℕ) → List ℕ → ℕ
 symbol_among first words text = numbered first (place_among words text)
 
-abbrev pub mark_symbol : List ℕ → ℕ
+unfoldable pub mark_symbol : List ℕ → ℕ
 mark_symbol text = symbol_among FIRST_MARK (words_of MARKS.now) text
 
-abbrev pub word_symbol : List ℕ → ℕ
+unfoldable pub word_symbol : List ℕ → ℕ
 word_symbol text = symbol_among FIRST_WORD (words_of WORDS.now) text
 
 -- a system function of the grammar

@@ -1,7 +1,6 @@
 //! The grammar of the source language, and the trees of its texts.
 #![tactic(auto)]
 
-mod codes;
 mod declarations;
 mod expressions;
 mod functions;
@@ -12,6 +11,7 @@ mod operators;
 mod ports;
 mod processes;
 mod reader;
+mod rows;
 mod statements;
 mod symbols;
 mod types;

@@ -49,7 +49,7 @@ fn place_among(words: &'static str, text: &[u8]) -> Option<usize>
 
 /// The place of the text among the words, counted from `first`, or `OTHER` where it is none of them.
 #[tactic(auto, using(crate::proofs::Positions::place_within))]
-fn symbol_among(first: u16, words: &'static str, text: &[u8]) -> u16
+pub fn symbol_among(first: u16, words: &'static str, text: &[u8]) -> u16
     requires { first + length (words_of words.now) ≤ 2 ^ 16 }
     ensures { result ≡ symbol_among first (words_of words.now) text.now }
 {
@@ -60,21 +60,23 @@ fn symbol_among(first: u16, words: &'static str, text: &[u8]) -> u16
 }
 
 /// The symbol of a mark.
-fn mark(text: &Text) -> u16
+#[tactic(auto, unfolding(crate::specs::Symbols::mark_symbol))]
+pub fn mark_symbol(text: &[u8]) -> u16
     ensures { result ≡ mark_symbol text.now }
 {
-    symbol_among(FIRST_MARK, MARKS, text.as_bytes())
+    symbol_among(FIRST_MARK, MARKS, text)
 }
 
 /// The symbol of a reserved word.
-fn word(text: &Text) -> u16
+#[tactic(auto, unfolding(crate::specs::Symbols::word_symbol))]
+pub fn word_symbol(text: &[u8]) -> u16
     ensures { result ≡ word_symbol text.now }
 {
-    symbol_among(FIRST_WORD, WORDS, text.as_bytes())
+    symbol_among(FIRST_WORD, WORDS, text)
 }
 
 /// The symbol of a system name.
-fn system(text: &Text) -> u16
+fn system_symbol(text: &Text) -> u16
     ensures { result ≡ system_symbol text.now }
 {
     if text.is(b"$bits") {
@@ -96,12 +98,12 @@ pub fn symbol_of(token: &Token) -> u16
 {
     match token.kind {
         Kind::Name => IDENTIFIER,
-        Kind::Reserved => word(&token.text),
+        Kind::Reserved => word_symbol(token.text.as_bytes()),
         Kind::Decimal => DECIMAL,
         Kind::Based => BASED,
         Kind::Fill => FILL,
-        Kind::Mark => mark(&token.text),
-        Kind::System => system(&token.text),
+        Kind::Mark => mark_symbol(token.text.as_bytes()),
+        Kind::System => system_symbol(&token.text),
         Kind::End => END,
         _ => OTHER,
     }
