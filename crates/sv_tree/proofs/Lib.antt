@@ -1,0 +1,5 @@
+pub mod class
+pub mod Written
+pub mod Fit
+pub mod Positions
+pub mod Lines

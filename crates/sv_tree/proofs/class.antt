@@ -1,0 +1,4 @@
+pub mod BitSets
+pub mod Firsts
+pub mod Keeping
+pub mod Sets

@@ -1,0 +1,4 @@
+pub mod Heads
+pub mod Symbols
+pub mod Table
+pub mod Rows
