@@ -17,16 +17,16 @@ use Rattle.sv2v_top.specs.declared.sv_tree.Expr.{Expr}
 use Rattle.sv2v_top.specs.declared.sv_tree.Expr.TheVariants.{Single, Binary}
 use Rattle.sv2v_top.specs.declared.sv_tree.Assign.{Assign}
 use Rattle.sv2v_top.specs.declared.sv_tree.Module.{Module}
-use Rattle.sv2v_top.specs.declared.sv_types.SignalKind.{SignalKind}
-use Rattle.sv2v_top.specs.declared.sv_types.SignalKind.TheVariants.{InputNet, OutputVar}
-use Rattle.sv2v_top.specs.declared.sv_types.Signal.{Signal}
-use Rattle.sv2v_top.specs.declared.sv_types.Process.{Process}
+use Rattle.sv_types.specs.declared.design.SignalKind.{SignalKind}
+use Rattle.sv_types.specs.declared.design.SignalKind.TheVariants.{InputNet, OutputVar}
+use Rattle.sv_types.specs.declared.design.Signal.{Signal}
+use Rattle.sv_types.specs.declared.design.Process.{Process}
 use Rattle.sv2v_top.specs.source.Literals.{decimal}
 use Rattle.sv2v_top.specs.source.Names.{Declared, declared, declared_from, direction_after, range_after, port_word, port_names, position, among, primary_names, expr_names}
 use Rattle.sv2v_top.specs.source.Rules.{first_is_directed, distinct, no_helper_names, ranges_are_plain, range_width, total_bits, expr_is_plain, all_among, read_ports, read_rest, targets, if_output, outputs, reads, is_built}
 use Rattle.sv2v_top.specs.source.Elaboration.{kind_of, signal_of, primary_of, operand_of, expr_of, process_of, design_of}
-use Rattle.sv2v_top.specs.source.Translatable.{Translatable, IsOfKind, primary_signals, expr_signals, distinct_numbers}
-use Rattle.sv2v_top.proofs.Names.{path, same_bytes, bytes_same, true_or_false, not_true, among-member, member-among, member-at, member-map, member-unmap, pick_true, pick_false, first_differs, member-split, member-left, member-right}
+use Rattle.lower_design.specs.Translatable.{Translatable, IsOfKind, primary_signals, expr_signals, distinct_numbers}
+use Rattle.lower_design.proofs.Names.{path, same_bytes, bytes_same, true_or_false, not_true, among-member, member-among, member-at, member-map, member-unmap, pick_true, pick_false, first_differs, member-split, member-left, member-right}
 
 -- the conditions one by one
 pub record Built (m : Module) (top : List ℕ) : Type 0 where

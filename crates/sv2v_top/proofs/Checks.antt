@@ -11,7 +11,7 @@ use Rattle.sv_source.specs.declared.token.Spot.{Spot}
 use Rattle.sv2v_top.specs.declared.sv_tree.Direction.{Direction}
 use Rattle.sv2v_top.specs.declared.sv_tree.Direction.TheVariants.{Input, Output}
 use Rattle.sv2v_top.specs.declared.sv_tree.Assign.{Assign}
-use Rattle.sv2v_top.specs.declared.sv_types.Signal.{Signal}
+use Rattle.sv_types.specs.declared.design.Signal.{Signal}
 use Rattle.sv2v_top.specs.declared.package_scope.Names.{Names}
 use Rattle.sv2v_top.specs.declared.sv_tree.Range.{Range}
 use Rattle.sv2v_top.specs.declared.sv_tree.Port.{Port}

@@ -20,8 +20,8 @@ use Rattle.sv2v_top.specs.declared.sv_tree.Expr.{Expr}
 use Rattle.sv2v_top.specs.declared.sv_tree.Expr.TheVariants.{Single, Binary}
 use Rattle.sv2v_top.specs.declared.sv_tree.Assign.{Assign}
 use Rattle.sv2v_top.specs.declared.sv_tree.Module.{Module}
-use Rattle.sv2v_top.specs.declared.sv_types.Signal.{Signal}
-use Rattle.sv2v_top.specs.declared.sv_types.Process.{Process}
+use Rattle.sv_types.specs.declared.design.Signal.{Signal}
+use Rattle.sv_types.specs.declared.design.Process.{Process}
 use Rattle.sv2v_top.specs.source.Literals.{decimal, with_digit, is_plain_literal, is_plain_size, has_binary_base, are_bit_digits, behind_base, literal_bits, bit_of_digit}
 use Rattle.sv2v_top.specs.source.Names.{Declared, declared, port_word, port_names}
 use Rattle.sv2v_top.specs.source.Rules.{is_plain_range, range_width, ranges_are_plain, total_bits, primary_is_plain, expr_is_plain, is_built}
@@ -29,18 +29,18 @@ use Rattle.sv2v_top.specs.source.Elaboration.{signal_of, primary_of, expr_of, pr
 use Rattle.sv2v_top.specs.source.Answers.{refusal_of, refusal_or}
 use Rattle.sv2v_top.specs.source.Reading.{ReadsAs}
 use Rattle.sv2v_top.specs.source.Building.{module_of}
-use Rattle.sv2v_top.specs.source.Translatable.{Translatable}
-use Rattle.sv2v_top.specs.Lowering.{lowered}
-use Rattle.sv2v_top.specs.Printable.{Printable, IsPrintablePrimary, IsPrintableOperator, IsPrintableExpr}
-use Rattle.sv2v_top.specs.target.Tokens.{is_simple}
-use Rattle.sv2v_top.specs.target.Layout.{text_of}
+use Rattle.lower_design.specs.Translatable.{Translatable}
+use Rattle.lower_design.specs.Lowering.{lowered}
+use Rattle.lower_design.specs.Printable.{Printable, IsPrintablePrimary, IsPrintableOperator, IsPrintableExpr}
+use Rattle.v_tree.specs.Tokens.{is_simple}
+use Rattle.v_writer.specs.Layout.{text_of}
 use Rattle.sv2v_top.specs.Translation.{is_line, kept_tokens, source_tokens, Right}
-use Rattle.sv2v_top.proofs.Names.{path, member-at, member-map, member-unmap, true_or_false, not_true, pick_false}
+use Rattle.lower_design.proofs.Names.{path, member-at, member-map, member-unmap, true_or_false, not_true, pick_false}
 use Rattle.sv2v_top.proofs.Built.{Built, built-parts, translatable, words, word, map-map, all-member}
 use Rattle.sv2v_top.proofs.Checks.{bits-summed}
 use Rattle.sv2v_top.proofs.Readable.{MeantAs, IsName, NamedModule, Bitwise, BitwiseAssign, AllOf, readable, length-map}
-use Rattle.sv2v_top.proofs.ReadsBack.{fits-top}
-use Rattle.sv2v_top.proofs.Right.{right}
+use Rattle.v_writer.proofs.ReadsBack.{fits-top}
+use Rattle.lower_design.proofs.Right.{right}
 use Rattle.sv2v_top.proofs.SimpleNames.{name-is-simple}
 
 -- kept tokens are tokens of the file

@@ -10,7 +10,7 @@ use Rattle.ll_engine.specs.declared.tree.Tree.{Tree}
 use Rattle.ll_engine.specs.Grammar.{IsRowOf}
 use Rattle.ll_engine.specs.Reading.{Nested, at_nesting, Reads, ended, symbol, taken, left_out, empty, level, inside, left_after}
 use Rattle.ll_engine.specs.Texts.{IsText, PassesFirst, PassesAt}
-use Rattle.sv2v_top.proofs.Names.{member-at, not_true}
+use Rattle.lower_design.proofs.Names.{member-at, not_true}
 use Rattle.sv2v_top.proofs.Built.{all-member}
 
 abbrev pub flat-part : Part → Bool

@@ -1,8 +1,8 @@
 -- The names of the outputs, signal by signal.
 use Rattle.std.proofs.Common.{◌≡◌, ℕ, zero, suc, ◌+◌, ◌<◌, ◌≤◌, List, [], ◌∷◌, ◌++◌, take, length, slice_index_or, map, refl, sym, ap, ◌∙◌, arith, add-one, append_assoc}
-use Rattle.sv2v_top.specs.declared.sv_types.SignalKind.{SignalKind}
-use Rattle.sv2v_top.specs.declared.sv_types.SignalKind.TheVariants.{InputNet, OutputVar}
-use Rattle.sv2v_top.specs.declared.sv_types.Signal.{Signal}
+use Rattle.sv_types.specs.declared.design.SignalKind.{SignalKind}
+use Rattle.sv_types.specs.declared.design.SignalKind.TheVariants.{InputNet, OutputVar}
+use Rattle.sv_types.specs.declared.design.Signal.{Signal}
 use Rattle.sv2v_top.specs.source.Elaboration.{if_output_path, output_paths}
 
 pub if_output_path-append : (kind : SignalKind) (path : List ℕ) (xs ys : List (List ℕ)) → if_output_path kind path (xs ++ ys) ≡ if_output_path kind path xs ++ ys

@@ -16,7 +16,7 @@ use Rattle.sv_source.specs.declared.token.Kind.TheVariants as Kinds
 use Rattle.sv2v_top.specs.declared.sv_tree.Module.{Module}
 use Rattle.sv2v_top.specs.declared.sv_tree.Expr.{Expr}
 use Rattle.sv2v_top.specs.declared.sv_tree.Assign.{Assign}
-use Rattle.sv2v_top.specs.Printable.{IsPrintableOperator}
+use Rattle.lower_design.specs.Printable.{IsPrintableOperator}
 use Rattle.sv2v_top.proofs.Built.{map-get}
 use Rattle.row_machine.specs.Valuation.{Member}
 use Rattle.b4_core.specs.declared.operators.BinOp.{BinOp}

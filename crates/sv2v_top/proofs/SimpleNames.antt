@@ -13,9 +13,9 @@ use Rattle.sv_lexer.specs.Spans.{white_span, name_span, run}
 use Rattle.sv_lexer.specs.Pieces.{gap, longer, pieces, longest}
 use Rattle.sv_lexer.specs.Tables.{reserved_words as source_words, is_reserved as is_source_reserved}
 use Rattle.sv_lexer.specs.Lexing.{behind_byte, kind_of, token_of, tokens_from, tokens_of}
-use Rattle.sv2v_top.specs.target.Reserved.{reserved_words as target_words, is_reserved}
-use Rattle.sv2v_top.specs.target.Tokens.{is_letter, is_word, is_simple}
-use Rattle.sv2v_top.proofs.Names.{member-split}
+use Rattle.v_tree.specs.Reserved.{reserved_words as target_words, is_reserved}
+use Rattle.v_tree.specs.Tokens.{is_letter, is_word, is_simple}
+use Rattle.lower_design.proofs.Names.{member-split}
 
 -- source and target have the same reserved words
 words-agree : source_words ≡ target_words

@@ -18,24 +18,24 @@ use Rattle.sv_source.specs.declared.refusal.Fail.{Fail}
 use Rattle.sv_source.specs.declared.refusal.Fail.TheVariants.{Memory, Refused}
 use Rattle.sv_lexer.specs.Lexing.{tokens_of, behind_bytes}
 use Rattle.sv2v_top.specs.declared.sv_tree.Module.{Module}
-use Rattle.sv2v_top.specs.declared.sv_types.Signal.{Signal}
-use Rattle.sv2v_top.specs.declared.sv_types.SignalKind.{SignalKind}
-use Rattle.sv2v_top.specs.declared.sv_types.SignalKind.TheVariants.{InputNet, OutputVar}
-use Rattle.sv2v_top.specs.declared.sv_types.Process.{Process}
-use Rattle.sv2v_top.specs.declared.sv_types.Design.{Design}
-use Rattle.sv2v_top.specs.declared.v_tree.VModule.{VModule}
-use Rattle.sv2v_top.specs.declared.v_tree.VDesign.{VDesign}
+use Rattle.sv_types.specs.declared.design.Signal.{Signal}
+use Rattle.sv_types.specs.declared.design.SignalKind.{SignalKind}
+use Rattle.sv_types.specs.declared.design.SignalKind.TheVariants.{InputNet, OutputVar}
+use Rattle.sv_types.specs.declared.design.Process.{Process}
+use Rattle.sv_types.specs.declared.design.Design.{Design}
+use Rattle.v_tree.specs.declared.tree.VModule.{VModule}
+use Rattle.v_tree.specs.declared.tree.VDesign.{VDesign}
 use Rattle.sv2v_top.specs.source.Reading.{ReadsAs, SyntaxBreak}
 use Rattle.sv2v_top.specs.source.Elaboration.{design_of}
 use Rattle.sv2v_top.specs.source.Answers.{refusal_of}
-use Rattle.sv2v_top.specs.source.Machine as Source
-use Rattle.sv2v_top.specs.source.Translatable.{expr_signals}
-use Rattle.sv2v_top.specs.target.Value.{Name, meaning}
-use Rattle.sv2v_top.specs.target.Signals.{Net, nets, Driver, drivers}
-use Rattle.sv2v_top.specs.target.Reading.{VReads, FitsTop}
-use Rattle.sv2v_top.specs.target.Machine as Target
-use Rattle.sv2v_top.specs.Lowering.{name_of}
-use Rattle.sv2v_top.specs.Agreement.{TracesAgree}
+use Rattle.sv_types.specs.Machine as Source
+use Rattle.lower_design.specs.Translatable.{expr_signals}
+use Rattle.v_tree.specs.Value.{Name, meaning}
+use Rattle.v_tree.specs.Signals.{Net, nets, Driver, drivers}
+use Rattle.v_tree.specs.Reading.{VReads, FitsTop}
+use Rattle.v_tree.specs.Machine as Target
+use Rattle.lower_design.specs.Lowering.{name_of}
+use Rattle.lower_design.specs.Agreement.{TracesAgree}
 
 -- newlines are no tokens of the grammar
 abbrev pub is_line : Kind → Bool

@@ -6,7 +6,7 @@ ghost use Rattle.std.specs.List.{list_all};
 ghost use Rattle.sv2v_top.specs.source.Names.{declared, declared_from, port_names, port_word, is_declared, undeclared, first_undeclared, primary_names, expr_names, among};
 ghost use Rattle.sv2v_top.specs.source.Rules.{targets, first_is_directed, is_plain_range, range_width, ranges_are_plain, is_helper_name, no_helper_ports, no_helper_names, primary_is_plain, expr_is_plain, header_is_built, types_are_built, assigns_are_built, is_built};
 ghost use Rattle.sv2v_top.specs.source.Elaboration.{output_paths};
-ghost use Rattle.sv2v_top.specs.declared.sv_types.Signal.{Signal as DesignSignal};
+ghost use Rattle.sv_types.specs.declared.design.Signal.{Signal as DesignSignal};
 ghost use Rattle.sv2v_top.specs.declared.sv_tree.Assign.{Assign as SourceAssign};
 ghost use Rattle.sv2v_top.specs.source.Elaboration.{kind_of, signal_of};
 ghost use Rattle.sv2v_top.specs.declared.sv_tree.Direction.TheVariants.{Input};

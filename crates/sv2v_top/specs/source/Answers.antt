@@ -5,7 +5,7 @@ use Rattle.sv_source.specs.declared.refusal.Refusal.{Refusal}
 use Rattle.sv_source.specs.declared.refusal.Fail.{Fail}
 use Rattle.sv_source.specs.declared.refusal.Fail.TheVariants.{Memory, Refused}
 use Rattle.sv2v_top.specs.declared.sv_tree.Module.{Module}
-use Rattle.sv2v_top.specs.declared.sv_types.Design.{Design}
+use Rattle.sv_types.specs.declared.design.Design.{Design}
 use Rattle.sv2v_top.specs.source.Names.{first_undeclared}
 use Rattle.sv2v_top.specs.source.Rules.{is_built}
 use Rattle.sv2v_top.specs.source.Elaboration.{design_of}

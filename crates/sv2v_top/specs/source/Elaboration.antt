@@ -9,16 +9,16 @@ use Rattle.sv2v_top.specs.declared.sv_tree.Expr as SourceExpr
 use Rattle.sv2v_top.specs.declared.sv_tree.Expr.TheVariants as E
 use Rattle.sv2v_top.specs.declared.sv_tree.Assign.{Assign}
 use Rattle.sv2v_top.specs.declared.sv_tree.Module.{Module}
-use Rattle.sv2v_top.specs.declared.sv_types.SignalKind.{SignalKind}
-use Rattle.sv2v_top.specs.declared.sv_types.SignalKind.TheVariants.{InputNet, OutputVar}
-use Rattle.sv2v_top.specs.declared.sv_types.Signal.{Signal}
-use Rattle.sv2v_top.specs.declared.sv_types.Primary.{Primary}
-use Rattle.sv2v_top.specs.declared.sv_types.Primary.TheVariants as P
-use Rattle.sv2v_top.specs.declared.sv_types.Operand.{Operand}
-use Rattle.sv2v_top.specs.declared.sv_types.Expr.{Expr}
-use Rattle.sv2v_top.specs.declared.sv_types.Expr.TheVariants as D
-use Rattle.sv2v_top.specs.declared.sv_types.Process.{Process}
-use Rattle.sv2v_top.specs.declared.sv_types.Design.{Design}
+use Rattle.sv_types.specs.declared.design.SignalKind.{SignalKind}
+use Rattle.sv_types.specs.declared.design.SignalKind.TheVariants.{InputNet, OutputVar}
+use Rattle.sv_types.specs.declared.design.Signal.{Signal}
+use Rattle.sv_types.specs.declared.design.Primary.{Primary}
+use Rattle.sv_types.specs.declared.design.Primary.TheVariants as P
+use Rattle.sv_types.specs.declared.design.Operand.{Operand}
+use Rattle.sv_types.specs.declared.design.Expr.{Expr}
+use Rattle.sv_types.specs.declared.design.Expr.TheVariants as D
+use Rattle.sv_types.specs.declared.design.Process.{Process}
+use Rattle.sv_types.specs.declared.design.Design.{Design}
 use Rattle.sv2v_top.specs.source.Literals.{literal_bits}
 use Rattle.sv2v_top.specs.source.Names.{Declared, declared, port_names, position}
 use Rattle.sv2v_top.specs.source.Rules.{range_width}

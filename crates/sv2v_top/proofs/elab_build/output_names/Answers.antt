@@ -1,11 +1,11 @@
 use Rattle.std.proofs.Common.{◌≡◌, ◌++◌, ◌∷◌, ◌+◌, [], take, sym, ap, ◌∙◌, subst, arith}
-use Rattle.sv2v_top.specs.declared.sv_types.SignalKind.{SignalKind}
-use Rattle.sv2v_top.specs.declared.sv_types.SignalKind.TheVariants.{InputNet, OutputVar}
+use Rattle.sv_types.specs.declared.design.SignalKind.{SignalKind}
+use Rattle.sv_types.specs.declared.design.SignalKind.TheVariants.{InputNet, OutputVar}
 use Rattle.sv2v_top.specs.declared.package_scope.Names.{Names}
 use Rattle.sv2v_top.specs.source.Elaboration.{if_output_path, output_paths}
 use Rattle.sv2v_top.specs.source.Lookup.{Numbers}
 use Rattle.sv2v_top.proofs.Outputs.{outputs-more, outputs-length}
-use Rattle.sv2v_top.proofs.Names.{append-nil}
+use Rattle.lower_design.proofs.Names.{append-nil}
 use Rattle.sv2v_top.proofs.elab_build.output_names.Goals as goal
 use Rattle.sv2v_top.proofs.elab_build.output_names.Goals.{in-InputNet, in-OutputVar+in_ok-add-in-OutputVar}
 

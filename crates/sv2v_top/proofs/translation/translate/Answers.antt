@@ -4,13 +4,13 @@ use Rattle.sv_lexer.specs.Facts.{IsRaw}
 use Rattle.row_machine.specs.Valuation.{Member}
 use Rattle.sv_source.specs.declared.token.Token.{Token}
 use Rattle.sv_lexer.specs.Lexing.{tokens_of}
-use Rattle.sv2v_top.specs.declared.v_tree.VDesign.{VDesign}
-use Rattle.sv2v_top.specs.declared.sv_types.Design.{Design}
+use Rattle.v_tree.specs.declared.tree.VDesign.{VDesign}
+use Rattle.sv_types.specs.declared.design.Design.{Design}
 use Rattle.sv2v_top.specs.source.Reading.{ReadsAs}
 use Rattle.sv2v_top.specs.source.Elaboration.{design_of}
 use Rattle.sv2v_top.specs.source.Answers.{refusal_of}
-use Rattle.sv2v_top.specs.Lowering.{lowered}
-use Rattle.sv2v_top.specs.target.Layout.{text_of}
+use Rattle.lower_design.specs.Lowering.{lowered}
+use Rattle.v_writer.specs.Layout.{text_of}
 use Rattle.sv2v_top.specs.Translation.{kept_tokens, source_tokens, Right}
 use Rattle.sv2v_top.proofs.Correct.{kept-fewer, correct, raw-some}
 use Rattle.sv2v_top.proofs.translation.translate.Goals as goal
