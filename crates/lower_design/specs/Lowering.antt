@@ -1,69 +1,32 @@
--- The target design of an elaborated design: one module, a declaration for each port and an `assign` for each process.
-use Rattle.std.specs.Prelude.{ℕ, ◌-◌, ◌==◌, Bool, true, false, List, [], ◌∷◌, ◌++◌, map, slice_get, Option, Some, None, if◌then◌else◌}
-use Rattle.b4_core.specs.declared.operators.UnOp.TheVariants.{Not}
-use Rattle.sv_types.specs.declared.design.SignalKind.{SignalKind}
-use Rattle.sv_types.specs.declared.design.SignalKind.TheVariants.{InputNet, OutputVar}
-use Rattle.sv_types.specs.declared.design.Signal.{Signal}
-use Rattle.sv_types.specs.declared.design.Primary.{Primary}
-use Rattle.sv_types.specs.declared.design.Primary.TheVariants as P
-use Rattle.sv_types.specs.declared.design.Operand.{Operand}
-use Rattle.sv_types.specs.declared.design.Expr.{Expr}
-use Rattle.sv_types.specs.declared.design.Expr.TheVariants as D
-use Rattle.sv_types.specs.declared.design.Process.{Process}
+-- What a target design is for its source.
+use Rattle.std.specs.Prelude.{◌≡◌, true, List}
+use Rattle.row_machine.specs.Valuation.{Valuation}
+use Rattle.row_machine.specs.Machine.{Started}
+use Rattle.row_machine.specs.Settle.{Settled}
+use Rattle.row_machine.specs.Trace.{HasTrace, OneTrace}
+use Rattle.row_machine.specs.Rounds.{Reaches}
 use Rattle.sv_types.specs.declared.design.Design.{Design}
-use Rattle.v_tree.specs.declared.tree.VPrim.{VPrim}
-use Rattle.v_tree.specs.declared.tree.VPrim.TheVariants.{Number, Name, Paren}
-use Rattle.v_tree.specs.declared.tree.VExpr.{VExpr}
-use Rattle.v_tree.specs.declared.tree.VExpr.TheVariants.{Prim, Unary, Binary}
-use Rattle.v_tree.specs.declared.tree.VItem.{VItem}
-use Rattle.v_tree.specs.declared.tree.VItem.TheVariants.{Input, Output, Assign}
-use Rattle.v_tree.specs.declared.tree.VModule.{VModule}
+use Rattle.sv_types.specs.Machine as Source
 use Rattle.v_tree.specs.declared.tree.VDesign.{VDesign}
+use Rattle.v_tree.specs.Grammatical.{is_of_grammar}
+use Rattle.v_tree.specs.Machine as Target
+use Rattle.v_tree.specs.Reading.{WellFormed, FitsTop}
+use Rattle.lower_design.specs.Agreement.{TracesAgree}
+use Rattle.lower_design.specs.Shape.{Shape}
 
--- the printed name of a signal: its path inside its module
-abbrev pub path_or_nothing : Option Signal → List ℕ
-path_or_nothing (Some s) = s.path
-path_or_nothing None = []
-
-abbrev pub name_of : List Signal → ℕ → List ℕ
-name_of signals n = path_or_nothing (slice_get signals n)
-
--- one bit is declared without a range
-abbrev pub range_of : ℕ → Option ℕ
-range_of width = if width == 1 then None else Some (width - 1)
-
-abbrev pub declaration_of : Signal → VItem
-declaration_of s = elim s.kind [ InputNet ↦ Input (range_of s.width) s.path | OutputVar ↦ Output (range_of s.width) s.path ]
-
-abbrev pub lowered_primary : List Signal → Primary → VPrim
-lowered_primary signals (P.Signal n) = Name (name_of signals n)
-lowered_primary signals (P.Literal bits) = Number bits
-
--- an operand of an operator stands in parentheses where it is an operation itself
-abbrev pub parenthesized : Bool → VPrim → VPrim
-parenthesized true p = Paren (Unary Not p)
-parenthesized false p = p
-
-abbrev pub alone : Bool → VPrim → VExpr
-alone true p = Unary Not p
-alone false p = Prim p
-
-abbrev pub lowered_operand : List Signal → Operand → VPrim
-lowered_operand signals a = parenthesized a.inverted (lowered_primary signals a.primary)
-
-abbrev pub lowered_expr : List Signal → Expr → VExpr
-lowered_expr signals (D.Single a) = alone a.inverted (lowered_primary signals a.primary)
-lowered_expr signals (D.Binary op a b) = Binary op (lowered_operand signals a) (lowered_operand signals b)
-
-abbrev pub lowered_process : List Signal → Process → VItem
-lowered_process signals p = Assign (name_of signals p.target) (lowered_expr signals p.value)
-
-abbrev pub lowered_module : Design → VModule
-lowered_module d = record {
-  name = d.top;
-  ports = map (λ (s : Signal). s.path) d.signals;
-  items = map declaration_of d.signals ++ map (lowered_process d.signals) d.processes;
-}
-
-abbrev pub lowered : Design → VDesign
-lowered d = record { modules = lowered_module d ∷ [] }
+-- The target design is right for the source design.
+pub record Lowers (d : Design) (e : VDesign) : Type 0 where
+  -- it is a tree of the target grammar within the rules, with the top or without
+  pub of_grammar : is_of_grammar e ≡ true
+  pub well_formed : WellFormed e
+  pub fits_top : FitsTop e d.top
+  -- it has the source's shape
+  pub shape : Shape d e
+  -- any rows have exactly one trace on each side
+  pub source_trace : (rows : List Valuation) → OneTrace (Source.machine d) rows
+  pub target_trace : (rows : List Valuation) → OneTrace (Target.machine e d.top) rows
+  -- and these agree after each row, in every signal
+  pub forward : (rows vs : List Valuation) → HasTrace (Source.machine d) rows vs → (us : List Valuation) × HasTrace (Target.machine e d.top) rows us × TracesAgree d e vs us
+  pub back : (rows us : List Valuation) → HasTrace (Target.machine e d.top) rows us → (vs : List Valuation) × HasTrace (Source.machine d) rows vs × TracesAgree d e vs us
+  -- in each settling of the target the rounds reach the settled valuation
+  pub rounds : (s : Started) (base v : Valuation) → Settled (Target.machine e d.top) s base v → Reaches (Target.machine e d.top) s base v

@@ -1,6 +1,9 @@
--- How far a run of statements has come (IEEE 1800-2017 clauses 10.4.1 and 10.4.2).
-use Rattle.std.specs.Prelude.{List, [], ◌∷◌, Option, Some, None}
+-- What runs of statements and waits for edges are made of (IEEE 1800-2017 clauses 9.4.2, 10.4.1, 10.4.2 and 12.4).
+use Rattle.std.specs.Prelude.{Bool, true, false, List, [], ◌∷◌, Option, Some, None}
 use Rattle.b4_core.specs.declared.bit.Bit4.{Bit4}
+use Rattle.b4_core.specs.declared.bit.Bit4.TheVariants.{Zero, One, X, Z}
+use Rattle.b4_core.specs.declared.bit.Edge.{Edge}
+use Rattle.b4_core.specs.declared.bit.Edge.TheVariants as E
 use Rattle.row_machine.specs.Valuation.{Valuation, Changes, put}
 
 -- what the bits hold now, what blocking assignments have written, and the pending updates of nonblocking ones
@@ -37,3 +40,19 @@ assign_later c p = record { now = p.now; written = p.written; pending = then_cha
 abbrev pub in_order : List (Progress → Progress) → Progress → Progress
 in_order [] p = p
 in_order (s ∷ ss) p = in_order ss (s p)
+
+-- an unknown condition isn't true
+abbrev pub is_one : Bit4 → Bool
+is_one Zero = false
+is_one One = true
+is_one X = false
+is_one Z = false
+
+-- whether an edge is the one that is waited for: `posedge`, or else `negedge`
+abbrev pub is_edge : Bool → Edge → Bool
+is_edge true E.Pos = true
+is_edge true E.Neg = false
+is_edge true E.None = false
+is_edge false E.Pos = false
+is_edge false E.Neg = true
+is_edge false E.None = false

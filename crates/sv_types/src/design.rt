@@ -1,15 +1,17 @@
 //! Elaborated designs: signals, and the processes that drive them.
 
 use b4_core::{BinOp, Vec4};
-use sv_source::{Items, Text};
+use sv_source::{Boxed, Items, Text};
 
-/// What kind of signal a port declares (IEEE 1800-2017 clause 23.2.2.3).
+/// What kind of signal a declaration makes (IEEE 1800-2017 clauses 6.5 and 23.2.2.3).
 #[derive(Clone, Copy, PartialEq, Eq)]
 pub enum SignalKind {
     /// A net that is an input port.
     InputNet,
-    /// An output port. It is a variable in the source; one that a continuous assignment drives whole behaves as a net does.
+    /// A variable that is an output port.
     OutputVar,
+    /// A variable inside the module.
+    Variable,
 }
 
 /// A signal of a four-state unsigned vector type.
@@ -57,13 +59,65 @@ pub enum Expr {
     },
 }
 
-/// A continuous assignment to a whole signal.
+/// Statements in order.
+pub type Stmts = Items<Stmt>;
+
+/// A statement.
+#[cycle(statement)]
+#[derive(Drop)]
+pub enum Stmt {
+    /// The statements of a block, in order (clause 9.3.1).
+    Block(Stmts),
+    /// `if` (clause 12.4)
+    If {
+        /// The condition.
+        on: Expr,
+        /// What runs where the condition is true.
+        body: Boxed<Stmt>,
+        /// What runs where it is false or unknown, if there is an `else`.
+        other: Option<Boxed<Stmt>>,
+    },
+    /// An assignment to a whole signal (clause 10.4).
+    Assign {
+        /// The number of the signal.
+        to: u32,
+        /// The value.
+        value: Expr,
+        /// Whether the assignment is nonblocking.
+        later: bool,
+    },
+}
+
+/// An edge that an edge process waits for (clause 9.4.2).
+#[derive(Drop)]
+pub struct EdgeOn {
+    /// The number of the signal, which has one bit.
+    pub signal: u32,
+    /// Whether it is `posedge`; else it is `negedge`.
+    pub rising: bool,
+}
+
+/// Edges in the order of the source.
+pub type EdgeList = Items<EdgeOn>;
+
+/// What starts a process.
+#[derive(Drop)]
+pub enum ProcessKind {
+    /// A continuous assignment (clause 10.3).
+    Continuous,
+    /// `always_comb` (clause 9.2.2.2)
+    Comb,
+    /// `always_ff` (clause 9.2.2.4)
+    Edges(EdgeList),
+}
+
+/// A process.
 #[derive(Drop)]
 pub struct Process {
-    /// The number of the signal that it drives.
-    pub target: u32,
-    /// The value that it drives.
-    pub value: Expr,
+    /// What starts it.
+    pub kind: ProcessKind,
+    /// What it runs; for a continuous assignment a blocking assignment to the signal that it drives.
+    pub body: Stmt,
 }
 
 /// Signals by number.
@@ -77,8 +131,8 @@ pub type Processes = Items<Process>;
 pub struct Design {
     /// The name of the top module.
     pub top: Text,
-    /// The top's ports in order. There are no other signals.
+    /// The top's ports in order, and then its variables in order.
     pub signals: Signals,
-    /// The continuous assignments in order.
+    /// The processes in order.
     pub processes: Processes,
 }

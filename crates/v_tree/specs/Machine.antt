@@ -5,13 +5,11 @@ use Rattle.std.specs.Str.{bytes_eq}
 use Rattle.b4_core.specs.declared.bit.Bit4.{Bit4}
 use Rattle.b4_core.specs.declared.bit.Bit4.TheVariants.{Zero, One, X, Z}
 use Rattle.b4_core.specs.Bitwise.{edge_of}
-use Rattle.b4_core.specs.declared.bit.Edge.{Edge}
-use Rattle.b4_core.specs.declared.bit.Edge.TheVariants as E
 use Rattle.row_machine.specs.Valuation.{Place, Valuation, has}
 use Rattle.row_machine.specs.Machine as M
 use Rattle.row_machine.specs.Settle.{same_bit}
 use Rattle.row_machine.specs.Places.{places_of, without}
-use Rattle.row_machine.specs.Steps.{Progress, begun}
+use Rattle.row_machine.specs.Steps.{begun, is_edge}
 use Rattle.v_tree.specs.Names.{Name, once}
 use Rattle.v_tree.specs.Value.{meaning}
 use Rattle.v_tree.specs.Signals.{Kind, input_net, net, variable, Signal, Process, assign, star, on_edges, InitialValue, signals, processes, initials, number_of, places_named, items_of}
@@ -25,15 +23,6 @@ use Rattle.v_tree.specs.declared.tree.VExpr.{VExpr}
 -- (IEEE 1364-2005 clause 4.2.2).
 abbrev pub initial : Valuation
 initial q = X
-
--- whether an edge is the one that is waited for (clause 9.7.2)
-abbrev pub is_edge : Bool → Edge → Bool
-is_edge true E.Pos = true
-is_edge true E.Neg = false
-is_edge true E.None = false
-is_edge false E.Pos = false
-is_edge false E.Neg = true
-is_edge false E.None = false
 
 module _ (ss : List Signal) where
   -- the places of the signals with these names

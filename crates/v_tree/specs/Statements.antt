@@ -1,12 +1,11 @@
 -- What statements of a target text read, write and do (IEEE 1364-2005 clauses 9.2, 9.4 and 9.8.1).
 use Rattle.std.specs.Prelude.{ℕ, max, Bool, true, false, List, [], ◌∷◌, ◌++◌, flat_map, map, Option, Some, None, cond}
 use Rattle.b4_core.specs.declared.bit.Bit4.{Bit4}
-use Rattle.b4_core.specs.declared.bit.Bit4.TheVariants.{Zero, One, X, Z}
 use Rattle.b4_core.specs.Bitwise.{truth_of}
 use Rattle.b4_core.specs.Vectors.{ext}
 use Rattle.row_machine.specs.Valuation.{Valuation, Changes}
 use Rattle.row_machine.specs.Places.{assigned}
-use Rattle.row_machine.specs.Steps.{Progress, assign_now, assign_later, in_order}
+use Rattle.row_machine.specs.Steps.{Progress, assign_now, assign_later, in_order, is_one}
 use Rattle.v_tree.specs.Names.{Name}
 use Rattle.v_tree.specs.Value.{meaning}
 use Rattle.v_tree.specs.Signals.{Signal, number_of, width_named, held_named}
@@ -26,12 +25,6 @@ abbrev pub changes_of : List Signal → Name → VExpr → Valuation → Changes
 changes_of ss target value v = assigned (number_of ss target) (width_named ss target) (value_for ss target value v)
 
 -- a condition is true where a bit of it is 1; where none is and one is x or z, it is unknown (clause 9.4)
-abbrev pub is_one : Bit4 → Bool
-is_one Zero = false
-is_one One = true
-is_one X = false
-is_one Z = false
-
 abbrev pub is_true : List Signal → VExpr → Valuation → Bool
 is_true ss on v = is_one (truth_of ((meaning on).value (held_named ss v) ((meaning on).width (width_named ss))))
 

@@ -1,0 +1,4 @@
+pub mod Translatable
+pub mod Agreement
+pub mod Shape
+pub mod Lowering

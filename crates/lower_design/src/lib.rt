@@ -1,0 +1,2 @@
+//! The lowering of an elaborated design to a target design.
+#![tactic(auto)]
