@@ -26,3 +26,4 @@ pub mod AskedFor
 pub mod SimpleNames
 pub mod Correct
 pub mod Runs
+pub mod Promises

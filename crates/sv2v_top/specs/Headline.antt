@@ -1,6 +1,6 @@
 -- What a run of the translator answers.
 use Rattle.std.specs.Prelude.{◌≡◌, ◌^◌, ◌<◌, ◌≤◌, ◌⊎◌, ℕ, List, [], ◌∷◌, length, Option, Some, None, Result, Ok, Err}
-use Rattle.sv_source.specs.Faults.{Rose}
+use Rattle.sv_source.specs.Faults.{Rose, NotRaised}
 use Rattle.sv_source.specs.Loading.{Contents}
 use Rattle.sv_source.specs.declared.text.Text.{Text}
 use Rattle.sv_source.specs.declared.refusal.Refusal.{Refusal}
@@ -55,7 +55,7 @@ AskedGives request told before now (Ok text) = IsTranslated request told text
 AskedGives request told before now (Err S.Usage) = ⊥
 AskedGives request told before now (Err S.Memory) = Unit {0}
 AskedGives request told before now (Err (S.FileFault path)) = IsFaulty request before now path
-AskedGives request told before now (Err (S.Refused path refusal)) = IsRefused request told path refusal
+AskedGives request told before now (Err (S.Refused path refusal)) = IsRefused request told path refusal × NotRaised before now
 
 -- what is answered for the bytes of its file
 abbrev pub FileGives : Asked → List ℕ → Result Text Stop → Type 0

@@ -8,3 +8,4 @@ pub mod Translation
 pub mod Printable
 pub mod Headline
 pub mod Endings
+pub mod Promises

@@ -2,6 +2,7 @@
 
 ghost use Rattle.std.specs.Prelude.{◌≡◌, ◌≤◌, map, string_bytes};
 ghost use Rattle.sv2v_top.specs.Endings.{Says, Writes, Runs, line_of, status_of};
+ghost use Rattle.sv2v_top.specs.Promises.{call, sink, OnDone, OnRefused, OnUsage, OnMemory, OnFileFault, OnSinkFault, UsageComes, DoneComes, RefusalComes, NeverUnsettled};
 ghost use Rattle.sv_source.specs.Putting.{Gains, PutCause};
 ghost use Rattle.sv2v_top.specs.declared.status.Status.TheVariants.{SinkFault};
 
@@ -66,6 +67,25 @@ fn write_out<O: Sink, E: Sink>(text: &Text, out: &mut O, err: &mut E) -> Status
     }
 }
 
+/// The whole run: what the words and files give, and how it ends on the sinks.
+fn answer<F: Files, O: Sink, E: Sink>(
+    alloc: Global,
+    words: &[String],
+    files: &mut F,
+    out: &mut O,
+    err: &mut E,
+) -> Status
+    ensures runs { Runs (map string_bytes words.now) (F.contents files.old) (F.faults files.old) (F.faults files.new) (sink (O.written out.old) (O.written out.new) (O.faults out.old) (O.faults out.new)) (sink (E.written err.old) (E.written err.new) (E.faults err.old) (E.faults err.new)) result }
+    ensures files_later { F.faults files.old ≤ F.faults files.new }
+    ensures out_later { O.faults out.old ≤ O.faults out.new }
+    ensures err_later { E.faults err.old ≤ E.faults err.new }
+{
+    match run(alloc, words, files) {
+        Ok(text) => write_out(&text, out, err),
+        Err(stop) => say(&stop, err),
+    }
+}
+
 /// sv2v as a call: reads the words `--top=NAME FILE`, loads the file, translates it, and puts the text on `out`.
 ///
 /// Answers `Done` with the whole text on `out`; `Refused`, `Usage`, `Memory` or `FileFault` with nothing on `out` and one
@@ -77,14 +97,29 @@ pub fn translate_main<F: Files, O: Sink, E: Sink>(
     out: &mut O,
     err: &mut E,
 ) -> Status
-    // The words and files have an answer, a right translation, a first break or a fault, and the run ends with it.
-    ensures answers { Runs (map string_bytes words.now) (F.contents files.old) (F.faults files.old) (F.faults files.new) (record { before = O.written out.old; after = O.written out.new; faults_before = O.faults out.old; faults_after = O.faults out.new }) (record { before = E.written err.old; after = E.written err.new; faults_before = E.faults err.old; faults_after = E.faults err.new }) result }
+    // A right translation of the file is on the output, whole.
+    ensures done { OnDone (call (map string_bytes words.now) (F.contents files.old) (F.faults files.old) (F.faults files.new) (sink (O.written out.old) (O.written out.new) (O.faults out.old) (O.faults out.new)) (sink (E.written err.old) (E.written err.new) (E.faults err.old) (E.faults err.new))) result }
+    // The first break of the file is said, with its rule, place and word, and the output is as it was.
+    ensures refused { OnRefused (call (map string_bytes words.now) (F.contents files.old) (F.faults files.old) (F.faults files.new) (sink (O.written out.old) (O.written out.new) (O.faults out.old) (O.faults out.new)) (sink (E.written err.old) (E.written err.new) (E.faults err.old) (E.faults err.new))) result }
+    // The words aren't of the form, and the usage line is said.
+    ensures usage { OnUsage (call (map string_bytes words.now) (F.contents files.old) (F.faults files.old) (F.faults files.new) (sink (O.written out.old) (O.written out.new) (O.faults out.old) (O.faults out.new)) (sink (E.written err.old) (E.written err.new) (E.faults err.old) (E.faults err.new))) result }
+    // Want of memory is said.
+    ensures memory { OnMemory (call (map string_bytes words.now) (F.contents files.old) (F.faults files.old) (F.faults files.new) (sink (O.written out.old) (O.written out.new) (O.faults out.old) (O.faults out.new)) (sink (E.written err.old) (E.written err.new) (E.faults err.old) (E.faults err.new))) result }
+    // The load of the named file failed, and its path is said.
+    ensures file_fault { OnFileFault (call (map string_bytes words.now) (F.contents files.old) (F.faults files.old) (F.faults files.new) (sink (O.written out.old) (O.written out.new) (O.faults out.old) (O.faults out.new)) (sink (E.written err.old) (E.written err.new) (E.faults err.old) (E.faults err.new))) result }
+    // A sink failed, with a front of what it was given.
+    ensures sink_fault { OnSinkFault (call (map string_bytes words.now) (F.contents files.old) (F.faults files.old) (F.faults files.new) (sink (O.written out.old) (O.written out.new) (O.faults out.old) (O.faults out.new)) (sink (E.written err.old) (E.written err.new) (E.faults err.old) (E.faults err.new))) result }
+    // Words that aren't of the form are answered so.
+    ensures usage_comes { UsageComes (call (map string_bytes words.now) (F.contents files.old) (F.faults files.old) (F.faults files.new) (sink (O.written out.old) (O.written out.new) (O.faults out.old) (O.faults out.new)) (sink (E.written err.old) (E.written err.new) (E.faults err.old) (E.faults err.new))) result }
+    // A file without a break is translated.
+    ensures done_comes { DoneComes (call (map string_bytes words.now) (F.contents files.old) (F.faults files.old) (F.faults files.new) (sink (O.written out.old) (O.written out.new) (O.faults out.old) (O.faults out.new)) (sink (E.written err.old) (E.written err.new) (E.faults err.old) (E.faults err.new))) result }
+    // A file with a break is refused with its first one.
+    ensures refusal_comes { RefusalComes (call (map string_bytes words.now) (F.contents files.old) (F.faults files.old) (F.faults files.new) (sink (O.written out.old) (O.written out.new) (O.faults out.old) (O.faults out.new)) (sink (E.written err.old) (E.written err.new) (E.faults err.old) (E.faults err.new))) result }
+    // No design is run.
+    ensures never_unsettled { NeverUnsettled result }
     ensures files_later { F.faults files.old ≤ F.faults files.new }
     ensures out_later { O.faults out.old ≤ O.faults out.new }
     ensures err_later { E.faults err.old ≤ E.faults err.new }
 {
-    match run(alloc, words, files) {
-        Ok(text) => write_out(&text, out, err),
-        Err(stop) => say(&stop, err),
-    }
+    answer(alloc, words, files, out, err)
 }
