@@ -13,7 +13,7 @@ use Rattle.sv2v_top.specs.Words.{Asked, asked}
 use Rattle.sv2v_top.specs.declared.run.Stop.{Stop}
 use Rattle.sv2v_top.specs.declared.run.Stop.TheVariants as S
 use Rattle.sv2v_top.specs.declared.sv_tree.Module.{Module}
-use Rattle.sv2v_top.specs.declared.sv_types.Design.{Design}
+use Rattle.sv_types.specs.declared.design.Design.{Design}
 use Rattle.sv2v_top.specs.declared.status.Status.{Status}
 use Rattle.sv2v_top.specs.declared.status.Status.TheVariants.{Done, Refused, Usage, Memory, FileFault, SinkFault, Unsettled}
 use Rattle.sv2v_top.specs.source.Grammar.{source_rows, symbol_of}
