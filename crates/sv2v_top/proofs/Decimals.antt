@@ -1,7 +1,7 @@
 -- Decimal numbers grow with their digits.
 use Rattle.std.proofs.Common.{◌≡◌, ℕ, ◌+◌, ◌-◌, ◌*◌, ◌==◌, ◌<◌, ◌≤◌, ◌⊎◌, Bool, true, false, if◌then◌else◌, List, [], ◌∷◌, drop, length, slice_index_or, refl, sym, ap, subst, ◌∙◌, inl, inr, arith, zero, suc, add-one, drop-cons}
 use Rattle.sv2v_top.specs.source.Literals.{with_digit, decimal_from}
-use Rattle.lower_design.proofs.Names.{true_or_false, pick_true, pick_false}
+use Rattle.sv2v_top.proofs.Names.{true_or_false, pick_true, pick_false}
 
 pub digit_grows : (n c : ℕ) → n ≤ with_digit n c
 digit_grows n c =

@@ -5,7 +5,7 @@ mod names;
 mod rules;
 mod signals;
 
-ghost use Rattle.std.specs.Prelude.{◌≡◌, ◌^◌, ◌<◌, ◌≤◌, ◌&&◌, not, map, nat_le, List, ℕ, IfOk};
+ghost use Rattle.std.specs.Prelude.{◌≡◌, ◌^◌, ◌<◌, ◌≤◌, ◌&&◌, not, true, map, nat_le, List, ℕ, IfOk};
 ghost use Rattle.std.specs.List.{list_all};
 ghost use Rattle.sv2v_top.specs.source.Names.{declared, signal_names};
 ghost use Rattle.sv2v_top.specs.source.Rules.{inputs, first_is_directed, header_holds, elaborates, is_built, ranges_hold, signal_of};
@@ -68,17 +68,17 @@ fn module_fits(
     alloc: Global,
     source: &Module,
     names: &Names,
-    inputs: &Names,
+    input_names: &Names,
     signals: &[Signal],
     top: &[u8],
 ) -> Result<bool, AllocError>
     requires names { Numbers names.now (signal_names source.now) }
-    requires inputs { Numbers inputs.now (inputs (declared source.now)) }
+    requires inputs { Numbers input_names.now (inputs (declared source.now)) }
     requires ranges { ranges_hold (declared source.now) ≡ true }
     requires signals { signals.now ≡ map signal_of (declared source.now) }
     ensures { IfOk result (λ b. b ≡ elaborates source.now top.now) }
 {
-    let items = items_fit(alloc, source.items.as_slice(), names, inputs)?;
+    let items = items_fit(alloc, source.items.as_slice(), names, input_names)?;
     let header = header_fits(source, names, signals, top);
     let few = fits_in_bits(signals);
     Ok(header & few & items)
@@ -89,19 +89,19 @@ fn module_is_built(
     alloc: Global,
     source: &Module,
     names: &Names,
-    inputs: &Names,
+    input_names: &Names,
     signals: &[Signal],
 ) -> Result<bool, AllocError>
     requires names { Numbers names.now (signal_names source.now) }
     requires few { names.now.next < 2 ^ 32 }
-    requires inputs { Numbers inputs.now (inputs (declared source.now)) }
+    requires inputs { Numbers input_names.now (inputs (declared source.now)) }
     requires signals { signals.now ≡ map signal_of (declared source.now) }
     ensures { IfOk result (λ b. b ≡ is_built source.now) }
 {
     let written = comb_table(alloc, source.items.as_slice())?;
     let tables = Tables {
         names,
-        inputs,
+        inputs: input_names,
         written: &written,
         signals,
     };

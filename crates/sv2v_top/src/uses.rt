@@ -157,7 +157,7 @@ impl Found {
 }
 
 /// What an item has.
-pub fn found(alloc: Global, item: &Item) -> Result<Found, AllocError>
+pub fn find_in(alloc: Global, item: &Item) -> Result<Found, AllocError>
     ensures names { IfOk result (λ f. f.names ≡ (item_parts item.now).names) }
     ensures literals { IfOk result (λ f. f.literals ≡ (item_parts item.now).literals) }
 {

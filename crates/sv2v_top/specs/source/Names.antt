@@ -77,17 +77,17 @@ signal_names m = map name_of (declared m)
 -- A name is declared at a place if a port or an earlier item declares it, or if it is the module's own in the compilation
 -- unit around it (clause 23.9).
 abbrev pub is_declared : List ℕ → List (List ℕ) → List ℕ → Bool
-is_declared module names name = among names name || bytes_eq module name
+is_declared own names name = among names name || bytes_eq own name
 
 -- the first of these names that isn't declared
 abbrev pub undeclared : List ℕ → List (List ℕ) → List Use → Option Use
-undeclared module names uses = find (λ (u : Use). not (is_declared module names u.name.word)) uses
+undeclared own names uses = find (λ (u : Use). not (is_declared own names u.name.word)) uses
 
 -- the first name that isn't declared where items use it
 abbrev pub undeclared_in : List ℕ → List (List ℕ) → List Item → Option Use
-undeclared_in module names [] = None
-undeclared_in module names (i ∷ items) =
-    option_or (undeclared module names (item_parts i).names) (undeclared_in module (names ++ map name_of (declared_by i)) items)
+undeclared_in own names [] = None
+undeclared_in own names (i ∷ items) =
+    option_or (undeclared own names (item_parts i).names) (undeclared_in own (names ++ map name_of (declared_by i)) items)
 
 -- E401: the first use of a name that isn't declared
 abbrev pub first_undeclared : Module → Option Use

@@ -10,7 +10,7 @@ ghost use Rattle.sv2v_top.specs.source.Answers.{undeclared_refusal, UndeclaredGi
 
 use crate::package_scope::Names;
 use crate::sv_tree::{Item, Module, Port};
-use crate::uses::{Use, found};
+use crate::uses::{Use, find_in};
 use std::alloc::{AllocError, Global};
 use sv_source::{Refusal, Spot, Text};
 
@@ -36,11 +36,11 @@ fn add_declared(alloc: Global, names: &mut Names, item: &Item) -> Result<(), All
 }
 
 /// The first of these uses whose name is neither in the table nor the module's own.
-fn first_unknown<'a>(module: &Text, names: &Names, uses: &'a [Use]) -> Option<&'a Use>
-    ensures { option_copied result ≡ find (λ (u : SourceUse). not (holds names.now u.name.word || bytes_eq module.now u.name.word)) uses.now }
+fn first_unknown<'a>(own: &Text, names: &Names, uses: &'a [Use]) -> Option<&'a Use>
+    ensures { option_copied result ≡ find (λ (u : SourceUse). not (holds names.now u.name.word || bytes_eq own.now u.name.word)) uses.now }
 {
     uses.iter()
-        .find(|item| names.number(&item.name.word).is_none() && *module != item.name.word)
+        .find(|item| names.number(&item.name.word).is_none() && *own != item.name.word)
 }
 
 /// The refusal of a name that isn't declared.
@@ -65,7 +65,7 @@ pub fn signal_table(
 {
     let mut names = port_table(alloc, source.ports.as_slice())?;
     for item in source.items.as_slice() {
-        let found = found(alloc, item)?;
+        let found = find_in(alloc, item)?;
         if let Some(unknown) = first_unknown(&source.name.word, &names, found.names.as_slice()) {
             return Ok(Err(undeclared_name(alloc, &unknown.name)?));
         }

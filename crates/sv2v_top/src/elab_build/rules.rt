@@ -14,7 +14,7 @@ ghost use Rattle.sv2v_top.specs.source.Lookup.{Numbers, holds};
 use crate::literals::{decimal_up_to, is_plain};
 use crate::package_scope::Names;
 use crate::sv_tree::{Item, Module, Stmt};
-use crate::uses::{Found, Literal, Role, Use, found, has_at_most};
+use crate::uses::{Found, Literal, Role, Use, find_in, has_at_most};
 use std::alloc::{AllocError, Global};
 use sv_source::{Items, Refusal, Spot, Text};
 use sv_types::{Signal, SignalKind};
@@ -97,7 +97,7 @@ pub fn items_fit(
     ensures { IfOk result (λ b. (ns is : List (List ℕ)) → Numbers names.now ns → Numbers inputs.now is → b ≡ list_all (item_holds ns is) items.now) }
 {
     for item in items {
-        let found = found(alloc, item)?;
+        let found = find_in(alloc, item)?;
         if !item_fits(&found, item, names, inputs) {
             return Ok(false);
         }
@@ -253,7 +253,7 @@ pub fn process_break(alloc: Global, items: &[Item]) -> Result<Option<Refusal>, A
 {
     let mut written = Names::new(alloc);
     for item in items {
-        let found = found(alloc, item)?;
+        let found = find_in(alloc, item)?;
         let always = always_table(alloc, item, found.names.as_slice())?;
         let first = first_write_break(alloc, &written, &always, found.names.as_slice())?;
         if first.is_some() {
@@ -278,7 +278,7 @@ pub fn comb_table(alloc: Global, items: &[Item]) -> Result<Names, AllocError>
     let mut names = Names::new(alloc);
     for item in items {
         if is_combinational(item) {
-            let found = found(alloc, item)?;
+            let found = find_in(alloc, item)?;
             add_targets(alloc, &mut names, found.names.as_slice())?;
         }
     }
@@ -345,7 +345,7 @@ pub fn items_are_built(
     ensures { IfOk result (λ b. (ns is ws : List (List ℕ)) → Numbers tables.now.names.now ns → Numbers tables.now.inputs.now is → Numbers tables.now.written.now ws → b ≡ list_all (item_is_built_among tables.now.signals.now ns is ws) items.now) }
 {
     for item in items {
-        let found = found(alloc, item)?;
+        let found = find_in(alloc, item)?;
         if !item_is_built_by(&found, item, tables) {
             return Ok(false);
         }
