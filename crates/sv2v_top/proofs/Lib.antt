@@ -2,6 +2,7 @@ pub mod Names
 pub mod Decimals
 pub mod Lookup
 pub mod Levels
+pub mod Checks
 pub mod Building
 pub mod Spines
 pub mod Readable

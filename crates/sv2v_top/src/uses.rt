@@ -199,11 +199,11 @@ fn left_behind(stmt: &Stmt, left: u32) -> Option<u32>
 fn left_behind_all(statements: &[Stmt], left: u32) -> Option<u32>
     ensures { MatchOption result (left < (sequence (map parts statements.now)).count) (λ n. n + (sequence (map parts statements.now)).count ≡ left) }
 {
-    let mut left = left;
+    let mut remaining = left;
     for stmt in statements {
-        left = left_behind(stmt, left)?;
+        remaining = left_behind(stmt, remaining)?;
     }
-    Some(left)
+    Some(remaining)
 }
 
 /// Whether an item has at most so many statements.

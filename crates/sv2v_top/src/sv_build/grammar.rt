@@ -221,7 +221,8 @@ fn add_process_rows(alloc: Global, rows: &mut Table) -> Result<(), AllocError>
             Term(CLOSE),
             Non(EDGE),
         ],
-    )
+    )?;
+    Ok(())
 }
 
 /// The rows of statements, by their heads and their assignment operator.
@@ -262,7 +263,8 @@ fn add_statement_rows(
     )?;
     add(alloc, rows, statements, &[Many(statement)])?;
     add(alloc, rows, otherwise, &[])?;
-    add(alloc, rows, otherwise, &[Term(ELSE), Non(statement)])
+    add(alloc, rows, otherwise, &[Term(ELSE), Non(statement)])?;
+    Ok(())
 }
 
 /// The table of the grammar.

@@ -318,6 +318,30 @@ fn conditional(
     Ok(Some(Stmt::If { on, body, other }))
 }
 
+/// A statement inside which statements nest at most so deep.
+#[cycle(statement)]
+fn stmt_around(
+    alloc: Global,
+    tokens: &[Token],
+    depth: u32,
+    tree: &Tree,
+) -> Result<Option<Stmt>, AllocError>
+    ensures { IfOk result (λ s. s ≡ means.stmt_from (means.stmt_within tokens.now depth) tokens.now (means.kids_of tree.now)) }
+{
+    match kids(tree) {
+        [_, list, _] => match block(alloc, tokens, depth, kids(list))? {
+            Some(statements) => Ok(Some(Stmt::Block(statements))),
+            None => Ok(None),
+        },
+        [target, _, value, _] => match assign(alloc, tokens, target, value)? {
+            Some(assign) => Ok(Some(Stmt::Assign(assign))),
+            None => Ok(None),
+        },
+        [_, _, on, _, body, other] => conditional(alloc, tokens, depth, on, body, other),
+        _ => Ok(None),
+    }
+}
+
 /// A statement in which statements nest at most so deep.
 #[cycle(statement)]
 fn stmt(
@@ -328,20 +352,9 @@ fn stmt(
 ) -> Result<Option<Stmt>, AllocError>
     ensures { IfOk result (λ s. s ≡ means.stmt_within tokens.now depth tree.now) }
 {
-    if depth == 0 {
-        return Ok(None);
-    }
-    match kids(tree) {
-        [_, list, _] => match block(alloc, tokens, depth - 1, kids(list))? {
-            Some(statements) => Ok(Some(Stmt::Block(statements))),
-            None => Ok(None),
-        },
-        [target, _, value, _] => match assign(alloc, tokens, target, value)? {
-            Some(assign) => Ok(Some(Stmt::Assign(assign))),
-            None => Ok(None),
-        },
-        [_, _, on, _, body, other] => conditional(alloc, tokens, depth - 1, on, body, other),
-        _ => Ok(None),
+    match depth.checked_sub(1) {
+        Some(inner) => stmt_around(alloc, tokens, inner, tree),
+        None => Ok(None),
     }
 }
 

@@ -1,0 +1,102 @@
+-- The checks by tables are those of the rules.
+use Rattle.std.proofs.Common.{◌≡◌, ◌≤◌, ◌^◌, ℕ, zero, suc, ◌+◌, Option, Some, None, length, Bool, true, false, not, cond, ◌&&◌, ◌||◌, List, [], ◌∷◌, ◌++◌, map, sum, find, take, slice_index_or, ◌<◌, refl, sym, ap, ◌∙◌, arith, add-one, append_assoc}
+use Rattle.std.specs.List.{list_all, fold, filter, flat_map}
+use Rattle.std.specs.Prelude.{IsTrue, ◌↔◌}
+use Rattle.std.specs.Bool.{Decides}
+use Rattle.std.specs.Str.{bytes_eq}
+use Rattle.std.specs.Option.{is_some}
+use Rattle.std.proofs.lemmas.Bool.Decides.{same_from_decides}
+use Rattle.std.proofs.lemmas.Slice.Eq.{bytes_eq-Decides}
+use Rattle.sv_source.specs.declared.token.Spot.{Spot}
+use Rattle.sv_types.specs.declared.design.SignalKind.{SignalKind}
+use Rattle.sv_types.specs.declared.design.SignalKind.TheVariants.{InputNet, OutputVar, Variable}
+use Rattle.sv_types.specs.declared.design.Signal.{Signal}
+use Rattle.lower_design.specs.Translatable.{is_helper_name}
+use Rattle.v_tree.specs.Names.{among}
+use Rattle.sv2v_top.specs.declared.uses.Use.{Use}
+use Rattle.sv2v_top.specs.declared.sv_tree.Direction.{Direction}
+use Rattle.sv2v_top.specs.declared.sv_tree.Range.{Range}
+use Rattle.sv2v_top.specs.declared.sv_tree.Port.{Port}
+use Rattle.sv2v_top.specs.declared.sv_tree.Item.{Item}
+use Rattle.sv2v_top.specs.declared.package_scope.Names.{Names}
+use Rattle.sv2v_top.specs.source.Names.{Declared, ports_from, direction_after, range_after, variables, declared_by, name_of}
+use Rattle.sv2v_top.specs.source.Rules.{range_width, total_bits, signal_of, width_of, is_plain_range, ranges_are_plain, inputs, if_input, input_paths, all_among, none_among}
+use Rattle.sv2v_top.specs.source.Lookup.{Numbers, holds}
+use Rattle.sv2v_top.proofs.Lookup.{some-among}
+
+pub all-append : {A : Type 0} (p : A → Bool) (xs ys : List A) → list_all p (xs ++ ys) ≡ (list_all p xs && list_all p ys)
+all-append p [] ys = refl
+all-append p (x ∷ xs) ys = ap (λ b. p x && b) (all-append p xs ys) ∙ and-assoc (p x) (list_all p xs) (list_all p ys)
+  where
+    and-assoc : (a b c : Bool) → (a && (b && c)) ≡ ((a && b) && c)
+    and-assoc true b c = refl
+    and-assoc false b c = refl
+
+-- no helper among the signals
+pub helpers-named : (ds : List Declared) → list_all (λ (s : Signal). not (is_helper_name s.path)) (map signal_of ds) ≡ list_all (λ name. not (is_helper_name name)) (map name_of ds)
+helpers-named [] = refl
+helpers-named (d ∷ ds) = ap (λ b. not (is_helper_name d.name.word) && b) (helpers-named ds)
+
+-- whether ranges are plain doesn't hang on directions
+pub plain-any : (a b : Direction) (range : Option Range) (ports : List Port) → ranges_are_plain (ports_from a range ports) ≡ ranges_are_plain (ports_from b range ports)
+plain-any a b range [] = refl
+plain-any a b range (p ∷ ports) = ap (λ r. is_plain_range (range_after range p.head) && r) (plain-any (direction_after a p.head) (direction_after b p.head) (range_after range p.head) ports)
+
+pub plain-items : (items : List Item) → list_all (λ i. ranges_are_plain (declared_by i)) items ≡ ranges_are_plain (variables items)
+plain-items [] = refl
+plain-items (i ∷ items) = ap (λ b. ranges_are_plain (declared_by i) && b) (plain-items items) ∙ sym (all-append _ (declared_by i) (variables items))
+
+-- the inputs, by their signals
+pub inputs-named : (ds : List Declared) → input_paths (map signal_of ds) ≡ inputs ds
+inputs-named [] = refl
+inputs-named (d ∷ ds) = ap (if_input d.kind d.name.word) (inputs-named ds)
+
+pub if_input-append : (kind : SignalKind) (path : List ℕ) (xs ys : List (List ℕ)) → if_input kind path (xs ++ ys) ≡ if_input kind path xs ++ ys
+if_input-append InputNet path xs ys = refl
+if_input-append OutputVar path xs ys = refl
+if_input-append Variable path xs ys = refl
+
+pub inputs-suc : (xs : List Signal) (i : ℕ) (x : Signal) → i < length xs → x ≡ slice_index_or xs i x → input_paths (take (suc i) xs) ≡ input_paths (take i xs) ++ if_input x.kind x.path []
+inputs-suc [] i x h e = absurd (omega arith)
+inputs-suc (y ∷ ys) zero x h e = ap (λ (z : Signal). if_input z.kind z.path []) (sym e)
+inputs-suc (y ∷ ys) (suc i) x h e = ap (if_input y.kind y.path) (inputs-suc ys i x (omega arith) e) ∙ if_input-append y.kind y.path _ _
+
+pub inputs-more : (xs : List Signal) (i : ℕ) (x : Signal) → i < length xs → x ≡ slice_index_or xs i x → input_paths (take (i + 1) xs) ≡ input_paths (take i xs) ++ if_input x.kind x.path []
+inputs-more xs i x h e = ap (λ k. input_paths (take k xs)) (add-one i) ∙ inputs-suc xs i x h e
+
+pub fold-from : (a : ℕ) (xs : List ℕ) → fold ◌+◌ a xs ≡ a + fold ◌+◌ 0 xs
+fold-from a [] = omega arith
+fold-from a (x ∷ xs) = (let first = fold-from (a + x) xs in let second = fold-from (0 + x) xs in omega arith)
+
+pub sum-cons : (x : ℕ) (xs : List ℕ) → sum (x ∷ xs) ≡ x + sum xs
+sum-cons x xs = (let e = fold-from (0 + x) xs in omega arith)
+
+pub bits-summed : (ds : List Declared) → sum (map (λ (s : Signal). s.width) (map signal_of ds)) ≡ total_bits ds
+bits-summed [] = refl
+bits-summed (d ∷ ds) = sum-cons (width_of d) (map (λ (s : Signal). s.width) (map signal_of ds)) ∙ ap (λ n. width_of d + n) (bits-summed ds) ∙ sym (sum-cons (width_of d) (map width_of ds))
+
+module _ (table : Names) (names : List (List ℕ)) (n : Numbers table names) where
+  -- the table has the names and no other
+  pub holds-among : (w : List ℕ) → holds table w ≡ among names w
+  holds-among w = ap is_some (n.numbers w) ∙ some-among names w
+
+  pub uses-held : (uses : List Use) → list_all (λ (u : Use). holds table u.name.word) uses ≡ all_among names uses
+  uses-held [] = refl
+  uses-held (u ∷ uses) = λ i. holds-among u.name.word i && uses-held uses i
+
+  pub spots-free : (spots : List Spot) → list_all (λ (s : Spot). not (holds table s.word)) spots ≡ none_among names spots
+  spots-free [] = refl
+  spots-free (s ∷ spots) = λ i. not (holds-among s.word i) && spots-free spots i
+
+  pub unknown-uses : (own : List ℕ) (uses : List Use)
+      → find (λ (u : Use). not (holds table u.name.word || bytes_eq own u.name.word)) uses ≡ find (λ (u : Use). not (among names u.name.word || bytes_eq own u.name.word)) uses
+  unknown-uses own [] = refl
+  unknown-uses own (u ∷ uses) = λ i. cond (not (holds-among u.name.word i || bytes_eq own u.name.word)) (Some u) (unknown-uses own uses i)
+
+  pub held-both : (xs : List (List ℕ)) → filter (λ w. holds table w) xs ≡ filter (λ w. among names w) xs
+  held-both [] = refl
+  held-both (x ∷ xs) = λ i. cond (holds-among x i) (x ∷ held-both xs i) (held-both xs i)
+
+-- the test of equal bytes
+pub is-bytes : (r : Bool) (a b : List ℕ) → (IsTrue r ↔ (a ≡ b)) → r ≡ bytes_eq a b
+is-bytes r a b e = same_from_decides r (bytes_eq a b) e (bytes_eq-Decides a b)
