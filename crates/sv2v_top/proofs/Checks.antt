@@ -1,5 +1,5 @@
 -- The checks by tables are those of the rules.
-use Rattle.std.proofs.Common.{◌≡◌, ◌≤◌, ◌^◌, ℕ, zero, suc, ◌+◌, Option, Some, None, length, Bool, true, false, not, cond, ◌&&◌, ◌||◌, List, [], ◌∷◌, ◌++◌, map, sum, find, take, slice_index_or, ◌<◌, refl, sym, ap, ◌∙◌, arith, add-one, append_assoc}
+use Rattle.std.proofs.Common.{◌≡◌, ◌≤◌, ◌^◌, ℕ, zero, suc, ◌+◌, Option, Some, None, length, Bool, true, false, not, cond, ◌&&◌, ◌||◌, List, [], ◌∷◌, ◌++◌, map, sum, find, take, drop, drop-cons, slice_index_or, ◌<◌, refl, sym, ap, ◌∙◌, arith, add-one, append_assoc}
 use Rattle.std.specs.List.{list_all, fold, filter, flat_map}
 use Rattle.std.specs.Prelude.{IsTrue, ◌↔◌}
 use Rattle.std.specs.Bool.{Decides}
@@ -14,15 +14,21 @@ use Rattle.sv_types.specs.declared.design.Signal.{Signal}
 use Rattle.lower_design.specs.Translatable.{is_helper_name}
 use Rattle.v_tree.specs.Names.{among}
 use Rattle.sv2v_top.specs.declared.uses.Use.{Use}
+use Rattle.sv2v_top.specs.declared.uses.Role.{Role}
+use Rattle.sv2v_top.specs.declared.uses.Role.TheVariants.{Target, Read, Clock}
 use Rattle.sv2v_top.specs.declared.sv_tree.Direction.{Direction}
+use Rattle.sv2v_top.specs.declared.sv_tree.Direction.TheVariants.{Input}
+use Rattle.sv2v_top.specs.declared.sv_tree.Module.{Module}
 use Rattle.sv2v_top.specs.declared.sv_tree.Range.{Range}
 use Rattle.sv2v_top.specs.declared.sv_tree.Port.{Port}
 use Rattle.sv2v_top.specs.declared.sv_tree.Item.{Item}
 use Rattle.sv2v_top.specs.declared.package_scope.Names.{Names}
-use Rattle.sv2v_top.specs.source.Names.{Declared, ports_from, direction_after, range_after, variables, declared_by, name_of}
+use Rattle.sv2v_top.specs.source.Names.{Declared, ports_from, direction_after, range_after, variables, declared_by, name_of, port_word, port_names, signal_names}
+use Rattle.sv2v_top.specs.source.Statements.{word_of, if_target, targets_in, in_both}
 use Rattle.sv2v_top.specs.source.Rules.{range_width, total_bits, signal_of, width_of, is_plain_range, ranges_are_plain, inputs, if_input, input_paths, all_among, none_among}
 use Rattle.sv2v_top.specs.source.Lookup.{Numbers, holds}
 use Rattle.sv2v_top.proofs.Lookup.{some-among}
+use Rattle.sv2v_top.proofs.Names.{append-nil}
 
 pub all-append : {A : Type 0} (p : A → Bool) (xs ys : List A) → list_all p (xs ++ ys) ≡ (list_all p xs && list_all p ys)
 all-append p [] ys = refl
@@ -96,6 +102,64 @@ module _ (table : Names) (names : List (List ℕ)) (n : Numbers table names) whe
   pub held-both : (xs : List (List ℕ)) → filter (λ w. holds table w) xs ≡ filter (λ w. among names w) xs
   held-both [] = refl
   held-both (x ∷ xs) = λ i. cond (holds-among x i) (x ∷ held-both xs i) (held-both xs i)
+
+pub plain-step : (range : Option Range) (ports : List Port) (i : ℕ) (p : Port) → i < length ports → p ≡ slice_index_or ports i p
+    → ranges_are_plain (ports_from Input range (drop i ports)) ≡ (is_plain_range (range_after range p.head) && ranges_are_plain (ports_from Input (range_after range p.head) (drop (i + 1) ports)))
+plain-step range ports i p h e =
+    ap (λ ps. ranges_are_plain (ports_from Input range ps)) (drop-cons ports i p h ∙ ap (λ q. q ∷ drop (suc i) ports) (sym e) ∙ ap (λ k. p ∷ drop k ports) (sym (add-one i)))
+    ∙ ap (λ b. is_plain_range (range_after range p.head) && b) (plain-any (direction_after Input p.head) Input (range_after range p.head) (drop (i + 1) ports))
+
+pub if_target-append : (u : Use) (xs ys : List Spot) → if_target u.role u.name (xs ++ ys) ≡ if_target u.role u.name xs ++ ys
+if_target-append u xs ys = by_role u.role
+  where
+    by_role : (r : Role) → if_target r u.name (xs ++ ys) ≡ if_target r u.name xs ++ ys
+    by_role Target = refl
+    by_role Read = refl
+    by_role Clock = refl
+
+pub targets-suc : (us : List Use) (i : ℕ) (u : Use) → i < length us → u ≡ slice_index_or us i u → targets_in (take (suc i) us) ≡ targets_in (take i us) ++ targets_in (u ∷ [])
+targets-suc [] i u h e = absurd (omega arith)
+targets-suc (v ∷ vs) zero u h e = ap (λ (z : Use). if_target z.role z.name []) (sym e)
+targets-suc (v ∷ vs) (suc i) u h e = ap (if_target v.role v.name) (targets-suc vs i u (omega arith) e) ∙ if_target-append v (targets_in (take i vs)) (targets_in (u ∷ []))
+
+pub map-append : {A B : Type 0} (f : A → B) (xs ys : List A) → map f (xs ++ ys) ≡ map f xs ++ map f ys
+map-append f [] ys = refl
+map-append f (x ∷ xs) ys = ap (λ zs. f x ∷ zs) (map-append f xs ys)
+
+pub targets-more : (ns : List (List ℕ)) (us : List Use) (i : ℕ) (u : Use) → i < length us → u ≡ slice_index_or us i u
+    → (ns ++ map word_of (targets_in (take i us))) ++ map word_of (targets_in (u ∷ [])) ≡ ns ++ map word_of (targets_in (take (i + 1) us))
+targets-more ns us i u h e =
+    append_assoc ns (map word_of (targets_in (take i us))) (map word_of (targets_in (u ∷ [])))
+    ∙ ap (λ ws. ns ++ ws) (sym (map-append word_of (targets_in (take i us)) (targets_in (u ∷ []))) ∙ ap (map word_of) (sym (targets-suc us i u h e)) ∙ ap (λ k. map word_of (targets_in (take k us))) (sym (add-one i)))
+
+-- variables of one more item
+pub variables-append : (xs ys : List Item) → variables (xs ++ ys) ≡ variables xs ++ variables ys
+variables-append [] ys = refl
+variables-append (x ∷ xs) ys = ap (λ zs. declared_by x ++ zs) (variables-append xs ys) ∙ sym (append_assoc (declared_by x) (variables xs) (variables ys))
+
+pub take-more : {A : Type 0} (xs : List A) (i : ℕ) (x : A) → i < length xs → x ≡ slice_index_or xs i x → take (i + 1) xs ≡ take i xs ++ x ∷ []
+take-more xs i x h e = ap (λ k. take k xs) (add-one i) ∙ go xs i x h e
+  where
+    go : {A : Type 0} (xs : List A) (i : ℕ) (x : A) → i < length xs → x ≡ slice_index_or xs i x → take (suc i) xs ≡ take i xs ++ x ∷ []
+    go [] i x h e = absurd (omega arith)
+    go (y ∷ ys) zero x h e = ap (λ z. z ∷ []) (sym e)
+    go (y ∷ ys) (suc i) x h e = ap (λ zs. y ∷ zs) (go ys i x (omega arith) e)
+
+pub named-more : (ports : List (List ℕ)) (items : List Item) (i : ℕ) (x : Item) → i < length items → x ≡ slice_index_or items i x
+    → (ports ++ map name_of (variables (take i items))) ++ map name_of (declared_by x) ≡ ports ++ map name_of (variables (take (i + 1) items))
+named-more ports items i x h e =
+    append_assoc ports (map name_of (variables (take i items))) (map name_of (declared_by x))
+    ∙ ap (λ ws. ports ++ ws) (sym (map-append name_of (variables (take i items)) (declared_by x))
+    ∙ ap (map name_of) (ap (λ ds. variables (take i items) ++ ds) (sym (append-nil (declared_by x))) ∙ sym (variables-append (take i items) (x ∷ [])) ∙ ap variables (sym (take-more items i x h e))))
+
+-- the names of the ports are those of what they declare
+pub ports-named : (direction : Direction) (range : Option Range) (ports : List Port) → map name_of (ports_from direction range ports) ≡ map port_word ports
+ports-named direction range [] = refl
+ports-named direction range (p ∷ ports) = ap (λ ws. p.name.word ∷ ws) (ports-named (direction_after direction p.head) (range_after range p.head) ports)
+
+pub signals-named : (m : Module) → port_names m ++ map name_of (variables m.items) ≡ signal_names m
+signals-named m =
+    ap (λ ws. ws ++ map name_of (variables m.items)) (sym (ports-named Input None m.ports)) ∙ sym (map-append name_of (ports_from Input None m.ports) (variables m.items))
 
 -- the test of equal bytes
 pub is-bytes : (r : Bool) (a b : List ℕ) → (IsTrue r ↔ (a ≡ b)) → r ≡ bytes_eq a b

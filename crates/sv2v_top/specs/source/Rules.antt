@@ -125,7 +125,7 @@ target_words i = map word_of (targets i)
 
 abbrev pub always_written : Item → List (List ℕ)
 always_written (I.Assign a) = target_words (I.Assign a)
-always_written (I.Logic d) = []
+always_written (I.Logic d) = target_words (I.Logic d)
 always_written (I.Comb body) = (item_parts (I.Comb body)).always
 always_written (I.Edge clock body) = target_words (I.Edge clock body)
 

@@ -1,6 +1,6 @@
 //! The rules on items: names, literals, and what processes write and read.
 
-ghost use Rattle.std.specs.Prelude.{◌≡◌, ◌^◌, ◌-◌, ◌<◌, ◌≤◌, ◌++◌, ◌&&◌, ◌||◌, not, List, ℕ, map, filter, length, nat_le, [], IfOk, OnOk};
+ghost use Rattle.std.specs.Prelude.{◌≡◌, ◌^◌, ◌-◌, ◌<◌, ◌≤◌, ◌++◌, ◌&&◌, ◌||◌, not, List, ℕ, map, length, nat_le, [], ◌∷◌, IfOk, OnOk};
 ghost use Rattle.std.specs.List.{list_all};
 ghost use Rattle.sv2v_top.specs.declared.uses.Use.{Use as SourceUse};
 ghost use Rattle.sv2v_top.specs.declared.uses.Literal.{Literal as SourceLiteral};
@@ -112,7 +112,7 @@ fn add_both(
     second: &Names,
     to: &mut Texts,
 ) -> Result<(), AllocError>
-    ensures { OnOk result (to.new ≡ to.old ++ filter (λ name. holds second.now name) first.now) }
+    ensures { OnOk result ((ns : List (List ℕ)) → Numbers second.now ns → to.new ≡ to.old ++ in_both first.now ns) }
 {
     for name in first {
         if second.number(name).is_some() {
@@ -131,24 +131,6 @@ fn table(alloc: Global, names: &[Text]) -> Result<Names, AllocError>
         table.add(alloc, name)?;
     }
     Ok(table)
-}
-
-/// Adds the names that two branches both write on every path.
-#[cycle(always)]
-fn add_choice(
-    alloc: Global,
-    body: &Stmt,
-    other: &Stmt,
-    to: &mut Texts,
-) -> Result<(), AllocError>
-    ensures { OnOk result (to.new ≡ to.old ++ in_both (parts body.now).always (parts other.now).always) }
-{
-    let mut second = Items::new(alloc);
-    add_always(alloc, other, &mut second)?;
-    let second = table(alloc, second.as_slice())?;
-    let mut first = Items::new(alloc);
-    add_always(alloc, body, &mut first)?;
-    add_both(alloc, first.as_slice(), &second, to)
 }
 
 /// Adds the names that statements write on every path.
@@ -176,10 +158,27 @@ fn add_always(alloc: Global, stmt: &Stmt, to: &mut Texts) -> Result<(), AllocErr
     match stmt {
         Stmt::Block(statements) => add_always_all(alloc, statements.as_slice(), to),
         Stmt::If { body, other, .. } => match other {
-            Some(other) => add_choice(alloc, body.get(), other.get(), to),
+            Some(other) => {
+                let mut second = Items::new(alloc);
+                add_always(alloc, other.get(), &mut second)?;
+                let second = table(alloc, second.as_slice())?;
+                let mut first = Items::new(alloc);
+                add_always(alloc, body.get(), &mut first)?;
+                add_both(alloc, first.as_slice(), &second, to)
+            }
             None => Ok(()),
         },
         Stmt::Assign(assign) => to.push(assign.target.word.copy(alloc)?),
+    }
+}
+
+/// Adds the name of a use, if it is assigned to.
+fn add_target(alloc: Global, names: &mut Names, item: &Use) -> Result<(), AllocError>
+    ensures { OnOk result ((ns : List (List ℕ)) → Numbers names.old ns → Numbers names.new (ns ++ map word_of (targets_in (item.now ∷ [])))) }
+{
+    match item.role {
+        Role::Target => names.add(alloc, &item.name.word),
+        Role::Read | Role::Clock => Ok(()),
     }
 }
 
@@ -188,11 +187,27 @@ fn add_targets(alloc: Global, names: &mut Names, uses: &[Use]) -> Result<(), All
     ensures { OnOk result ((ns : List (List ℕ)) → Numbers names.old ns → Numbers names.new (ns ++ map word_of (targets_in uses.now))) }
 {
     for item in uses {
-        if let Role::Target = item.role {
-            names.add(alloc, &item.name.word)?;
-        }
+        add_target(alloc, names, item)?;
     }
     Ok(())
+}
+
+/// The names that are assigned to.
+fn target_table(alloc: Global, uses: &[Use]) -> Result<Names, AllocError>
+    ensures { IfOk result (λ t. Numbers t (map word_of (targets_in uses.now))) }
+{
+    let mut names = Names::new(alloc);
+    add_targets(alloc, &mut names, uses)?;
+    Ok(names)
+}
+
+/// The names that a statement writes on every path.
+fn statement_table(alloc: Global, body: &Stmt) -> Result<Names, AllocError>
+    ensures { IfOk result (λ t. Numbers t (parts body.now).always) }
+{
+    let mut names = Items::new(alloc);
+    add_always(alloc, body, &mut names)?;
+    table(alloc, names.as_slice())
 }
 
 /// The names that an item must write: on every path of a combinational process those that it writes at all.
@@ -201,17 +216,10 @@ fn always_table(alloc: Global, item: &Item, uses: &[Use]) -> Result<Names, Alloc
     ensures { IfOk result (λ t. Numbers t (always_written item.now)) }
 {
     match item {
-        Item::Comb(body) => {
-            let mut names = Items::new(alloc);
-            add_always(alloc, body, &mut names)?;
-            table(alloc, names.as_slice())
-        }
-        Item::Assign(_) | Item::Edge { .. } => {
-            let mut names = Names::new(alloc);
-            add_targets(alloc, &mut names, uses)?;
-            Ok(names)
-        }
-        Item::Logic(_) => Ok(Names::new(alloc)),
+        Item::Comb(body) => statement_table(alloc, body),
+        Item::Assign(_) => target_table(alloc, uses),
+        Item::Logic(_) => target_table(alloc, uses),
+        Item::Edge { .. } => target_table(alloc, uses),
     }
 }
 

@@ -1,11 +1,11 @@
 //! The signals of a module: their kinds and widths (IEEE 1800-2017 clauses 6.9.1 and 23.2.2).
 
-ghost use Rattle.std.specs.Prelude.{◌≡◌, ◌≤◌, ◌^◌, ◌++◌, ◌&&◌, map, sum, nat_le, Some, None, true, false, IfOk, MatchOption};
+ghost use Rattle.std.specs.Prelude.{◌≡◌, ◌≤◌, ◌^◌, ◌++◌, ◌&&◌, map, sum, nat_le, [], List, ℕ, Some, None, true, false, IfOk, OnOk, MatchOption};
 ghost use Rattle.std.specs.List.{list_all};
 ghost use Rattle.sv_types.specs.declared.design.Signal.{Signal as DesignSignal};
 ghost use Rattle.sv2v_top.specs.declared.sv_tree.Direction.TheVariants.{Input};
-ghost use Rattle.sv2v_top.specs.source.Names.{kind_of, ports_from, variables, declared, declared_by, declared_variable};
-ghost use Rattle.sv2v_top.specs.source.Rules.{range_holds, range_width, is_plain_range, ranges_hold, ranges_are_plain, signal_of, input_paths};
+ghost use Rattle.sv2v_top.specs.source.Names.{kind_of, range_after, ports_from, variables, declared, declared_by, declared_variable};
+ghost use Rattle.sv2v_top.specs.source.Rules.{range_holds, range_width, is_plain_range, ranges_hold, ranges_are_plain, signal_of, if_input, input_paths};
 ghost use Rattle.sv2v_top.specs.source.Lookup.{Numbers};
 
 use crate::literals::decimal_up_to;
@@ -136,16 +136,23 @@ pub fn fits_in_bits(signals: &[Signal]) -> bool
     true
 }
 
+/// Adds the name of a signal, if it is an input.
+fn add_input(alloc: Global, names: &mut Names, signal: &Signal) -> Result<(), AllocError>
+    ensures { OnOk result ((ns : List (List ℕ)) → Numbers names.old ns → Numbers names.new (ns ++ if_input signal.now.kind signal.now.path [])) }
+{
+    match signal.kind {
+        SignalKind::InputNet => names.add(alloc, &signal.path),
+        SignalKind::OutputVar | SignalKind::Variable => Ok(()),
+    }
+}
+
 /// The names of the inputs, in order.
 pub fn input_table(alloc: Global, signals: &[Signal]) -> Result<Names, AllocError>
     ensures { IfOk result (λ names. Numbers names (input_paths signals.now)) }
 {
     let mut names = Names::new(alloc);
     for signal in signals {
-        match signal.kind {
-            SignalKind::InputNet => names.add(alloc, &signal.path)?,
-            SignalKind::OutputVar | SignalKind::Variable => {}
-        }
+        add_input(alloc, &mut names, signal)?;
     }
     Ok(names)
 }
@@ -163,15 +170,23 @@ fn range_is_plain(range: &Option<Range>) -> bool
     }
 }
 
-/// Whether the written ranges of ports are plain.
+/// The dimension that a port has, written or taken from the port before it.
+fn range_behind<'a>(range: &'a Option<Range>, port: &'a Port) -> &'a Option<Range>
+    ensures { result.now ≡ range_after range.now port.now.head }
+{
+    match &port.head {
+        Some(head) => &head.range,
+        None => range,
+    }
+}
+
+/// Whether the ranges of ports are plain.
 fn port_ranges_are_plain(ports: &[Port]) -> bool
     ensures { result ≡ ranges_are_plain (ports_from Input None ports.now) }
 {
     let mut range = &None;
     for port in ports {
-        if let Some(head) = &port.head {
-            range = &head.range;
-        }
+        range = range_behind(range, port);
         if !range_is_plain(range) {
             return false;
         }
@@ -189,11 +204,18 @@ fn item_range_is_plain(item: &Item) -> bool
     }
 }
 
+/// Whether the ranges of what items declare are plain.
+fn item_ranges_are_plain(items: &[Item]) -> bool
+    ensures { result ≡ list_all (λ i. ranges_are_plain (declared_by i)) items.now }
+{
+    items.iter().all(item_range_is_plain)
+}
+
 /// Whether all ranges of a module are plain.
 pub fn module_ranges_are_plain(source: &Module) -> bool
     ensures { result ≡ ranges_are_plain (declared source.now) }
 {
     let ports = port_ranges_are_plain(source.ports.as_slice());
-    let variables = source.items.as_slice().iter().all(item_range_is_plain);
-    ports && variables
+    let variables = item_ranges_are_plain(source.items.as_slice());
+    ports & variables
 }
