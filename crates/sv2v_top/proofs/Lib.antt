@@ -2,10 +2,14 @@ pub mod Names
 pub mod Decimals
 pub mod Lookup
 pub mod Levels
+pub mod Parts
+pub mod Processes
 pub mod Checks
 pub mod Building
 pub mod Spines
 pub mod Readable
+pub mod SimpleNames
+pub mod Built
 pub mod AskedFor
 pub mod Fit
 pub mod Runs
