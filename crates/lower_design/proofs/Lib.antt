@@ -1,2 +1,5 @@
 pub mod Induction
-
+pub mod Names
+pub mod Places
+pub mod Levels
+pub mod Meanings

@@ -1,0 +1,67 @@
+-- One level of a statement at a time: what a fold over statements gives for each variant.
+use Rattle.std.proofs.Common.{◌≡◌, ◌⊎◌, ℕ, Bool, List, [], ◌∷◌, map, Option, Some, None, refl, sym, ap, ◌∙◌, inl, inr}
+use Rattle.std.specs.Option.{option_map}
+use Rattle.sv_types.specs.declared.design.Expr.{Expr}
+use Rattle.sv_types.specs.declared.design.Stmt.{Stmt, Stmt-F, fold-Stmt, fold-roll-Stmt, out-Stmt, out-roll-Stmt}
+use Rattle.sv_types.specs.declared.design.Stmt.TheVariants.{Block, If, Assign, rolls-Block, rolls-If, rolls-Assign}
+use Rattle.v_tree.specs.Names.{Name}
+use Rattle.v_tree.specs.declared.tree.VExpr.{VExpr}
+use Rattle.v_tree.specs.declared.tree.VBranch.{VBranch, VBranch-F, fold-VBranch, fold-roll-VBranch}
+use Rattle.v_tree.specs.declared.tree.VBranch.TheVariants.{Statement, Empty, rolls-Statement, rolls-Empty}
+use Rattle.v_tree.specs.declared.tree.VStmt.{VStmt, VStmt-F, fold-VStmt, fold-roll-VStmt, roll-VStmt, out-VStmt, roll-out-VStmt}
+use Rattle.v_tree.specs.declared.tree.VStmt.TheVariants as V
+use Rattle.lower_design.specs.Lowered.{lines, lines_of}
+
+module _ (A : Type 0) (step : Stmt-F A → A) where
+  abbrev pub folded : Stmt → A
+  folded = fold-Stmt A step
+
+  pub block-level : (ss : List Stmt) → folded (Block ss) ≡ step (Stmt-F.Block (map folded ss))
+  block-level ss = ap folded (sym (rolls-Block ss)) ∙ fold-roll-Stmt A step (Stmt-F.Block ss)
+
+  pub alone-level : (on : Expr) (body : Stmt) → folded (If on body None) ≡ step (Stmt-F.If on (folded body) None)
+  alone-level on body = ap folded (sym (rolls-If on body None)) ∙ fold-roll-Stmt A step (Stmt-F.If on body None)
+
+  pub either-level : (on : Expr) (body other : Stmt) → folded (If on body (Some other)) ≡ step (Stmt-F.If on (folded body) (Some (folded other)))
+  either-level on body other = ap folded (sym (rolls-If on body (Some other))) ∙ fold-roll-Stmt A step (Stmt-F.If on body (Some other))
+
+  pub assign-level : (to : ℕ) (value : Expr) (later : Bool) → folded (Assign to value later) ≡ step (Stmt-F.Assign to value later)
+  assign-level to value later = ap folded (sym (rolls-Assign to value later)) ∙ fold-roll-Stmt A step (Stmt-F.Assign to value later)
+
+pub assign-out : (to : ℕ) (value : Expr) (later : Bool) → out-Stmt (Assign to value later) ≡ Stmt-F.Assign to value later
+assign-out to value later = ap out-Stmt (sym (rolls-Assign to value later)) ∙ out-roll-Stmt (Stmt-F.Assign to value later)
+
+module _ (A B : Type 0) (branch : VBranch-F A B → A) (step : VStmt-F A B → B) where
+  abbrev pub of_branch : VBranch → A
+  of_branch = fold-VBranch A B branch step
+
+  abbrev pub of_stmt : VStmt → B
+  of_stmt = fold-VStmt A B branch step
+
+  pub statement-target : (s : VStmt) → of_branch (Statement s) ≡ branch (VBranch-F.Statement (of_stmt s))
+  statement-target s = ap of_branch (sym (rolls-Statement s)) ∙ fold-roll-VBranch A B branch step (VBranch-F.Statement s)
+
+  pub empty-target : of_branch Empty ≡ branch VBranch-F.Empty
+  empty-target = ap of_branch (sym rolls-Empty) ∙ fold-roll-VBranch A B branch step VBranch-F.Empty
+
+  pub block-target : (ss : List VStmt) → of_stmt (V.Block ss) ≡ step (VStmt-F.Block (map of_stmt ss))
+  block-target ss = ap of_stmt (sym (V.rolls-Block ss)) ∙ fold-roll-VStmt A B branch step (VStmt-F.Block ss)
+
+  pub alone-target : (on : VExpr) (body : VBranch) → of_stmt (V.If on body None) ≡ step (VStmt-F.If on (of_branch body) None)
+  alone-target on body = ap of_stmt (sym (V.rolls-If on body None)) ∙ fold-roll-VStmt A B branch step (VStmt-F.If on body None)
+
+  pub either-target : (on : VExpr) (body other : VBranch) → of_stmt (V.If on body (Some other)) ≡ step (VStmt-F.If on (of_branch body) (Some (of_branch other)))
+  either-target on body other = ap of_stmt (sym (V.rolls-If on body (Some other))) ∙ fold-roll-VStmt A B branch step (VStmt-F.If on body (Some other))
+
+  pub assign-target : (target : Name) (value : VExpr) (later : Bool) → of_stmt (V.Assign target value later) ≡ step (VStmt-F.Assign target value later)
+  assign-target target value later = ap of_stmt (sym (V.rolls-Assign target value later)) ∙ fold-roll-VStmt A B branch step (VStmt-F.Assign target value later)
+
+-- a statement is a block of its lines, or is its line alone
+pub lines-are : (s : VStmt) → (s ≡ V.Block (lines s)) ⊎ (lines s ≡ s ∷ [])
+lines-are s = inner (out-VStmt s) refl
+  where
+    inner : (x : VStmt-F VBranch VStmt) → out-VStmt s ≡ x → (s ≡ V.Block (lines s)) ⊎ (lines s ≡ s ∷ [])
+    inner (VStmt-F.Block ss) e =
+        inl (sym (roll-out-VStmt s) ∙ ap roll-VStmt e ∙ V.rolls-Block ss ∙ ap V.Block (sym (ap (lines_of s) e)))
+    inner (VStmt-F.If on body other) e = inr (ap (lines_of s) e)
+    inner (VStmt-F.Assign target value later) e = inr (ap (lines_of s) e)
