@@ -3,3 +3,4 @@ pub mod Names
 pub mod Places
 pub mod Levels
 pub mod Meanings
+pub mod Runs
