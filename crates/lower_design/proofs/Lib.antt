@@ -4,3 +4,5 @@ pub mod Places
 pub mod Levels
 pub mod Meanings
 pub mod Runs
+pub mod Hangs
+pub mod Sound
