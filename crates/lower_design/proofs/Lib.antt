@@ -6,3 +6,4 @@ pub mod Meanings
 pub mod Runs
 pub mod Hangs
 pub mod Sound
+pub mod Refinement
