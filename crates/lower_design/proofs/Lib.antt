@@ -7,3 +7,4 @@ pub mod Runs
 pub mod Hangs
 pub mod Sound
 pub mod Refinement
+pub mod Items
