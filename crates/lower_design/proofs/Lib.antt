@@ -8,3 +8,4 @@ pub mod Hangs
 pub mod Sound
 pub mod Refinement
 pub mod Items
+pub mod Machines
