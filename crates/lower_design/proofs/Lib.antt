@@ -9,3 +9,4 @@ pub mod Sound
 pub mod Refinement
 pub mod Items
 pub mod Machines
+pub mod Extension

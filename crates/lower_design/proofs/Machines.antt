@@ -73,7 +73,7 @@ has-flat f (x ∷ xs) q e =
       | inr h ↦ (let r = has-flat f xs q h in (r.0, inr r.1, r.2))
     ]
 
-below-get : (ss : List Signal) (n : ℕ) (s : Signal) → slice_get ss n ≡ Some s → n < length ss
+pub below-get : (ss : List Signal) (n : ℕ) (s : Signal) → slice_get ss n ≡ Some s → n < length ss
 below-get [] n s e = cc
 below-get (t ∷ ss) zero s e = omega arith
 below-get (t ∷ ss) (suc n) s e = let r = below-get ss n s e in omega (arith, r)
