@@ -157,27 +157,38 @@ module _ (d : Design) (t : Translatable d) where
   abbrev procs : List T.Process
   procs = map (target ss) ps
 
-  -- all that a process uses is found
-  variable-found : (n : ℕ) → IsVariable ss n → Found ss us n
-  variable-found n v = found-at d t n v.signal v.is_there
+  abbrev pub AllBelow : List ℕ → Type 0
+  AllBelow ns = (n : ℕ) → Member ns n → n < length ss
 
-  pub uses : (p : Process) → Member ps p → Uses ss us (doing p.body)
-  uses p m = by_kind p.kind (t.kinds p m) (t.targets p m)
+  -- all that a process uses are signals
+  pub record UsesSignals (x : SD.Doing) : Type 0 where
+    pub reads : AllBelow x.reads
+    pub targets : AllBelow x.targets
+    pub later_targets : AllBelow x.later_targets
+
+  pub uses-signals : (p : Process) → Member ps p → UsesSignals (doing p.body)
+  uses-signals p m = by_kind p.kind (t.kinds p m) (λ n k. let v = t.targets p m n k in below-get ss n v.signal v.is_there)
     where
-      reads : AllFound ss us (doing p.body).reads
-      reads n k = found-below d t n (t.reads p m n k)
-
-      none : (ns : List ℕ) → ns ≡ [] → AllFound ss us ns
+      none : (ns : List ℕ) → ns ≡ [] → AllBelow ns
       none ns e n k = elim (subst (λ ks. Member ks n) e k) [ ]
 
-      by_kind : (kind : ProcessKind) → KindFits ss kind p.body → ((n : ℕ) → Member (targets_by kind p.body) n → IsVariable ss n) → Uses ss us (doing p.body)
-      by_kind Continuous fits vs = record {
-        reads = reads;
-        targets = λ n k. variable-found n (vs n k);
+      by_kind : (kind : ProcessKind) → KindFits ss kind p.body → AllBelow (targets_by kind p.body) → UsesSignals (doing p.body)
+      by_kind Continuous fits below = record {
+        reads = t.reads p m;
+        targets = below;
         later_targets = none _ (ap (λ s. (doing s).later_targets) fits.2 ∙ ap (λ (x : SD.Doing). x.later_targets) (assign-level SD.Doing stmt_doing fits.0 fits.1 false));
       }
-      by_kind Comb fits vs = record { reads = reads; targets = λ n k. variable-found n (vs n k); later_targets = none _ fits }
-      by_kind (Edges es) fits vs = record { reads = reads; targets = none _ fits.0; later_targets = λ n k. variable-found n (vs n k) }
+      by_kind Comb fits below = record { reads = t.reads p m; targets = below; later_targets = none _ fits }
+      by_kind (Edges es) fits below = record { reads = t.reads p m; targets = none _ fits.0; later_targets = below }
+
+  -- so it is found
+  pub uses : (p : Process) → Member ps p → Uses ss us (doing p.body)
+  uses p m =
+      let u = uses-signals p m in record {
+        reads = λ n k. found-below d t n (u.reads n k);
+        targets = λ n k. found-below d t n (u.targets n k);
+        later_targets = λ n k. found-below d t n (u.later_targets n k);
+      }
 
   -- the trigger starts what reads it
   first : has_comb ps ≡ true → Target.is_triggered us inits trigger ≡ true

@@ -5,7 +5,13 @@ use Rattle.sv_types.specs.declared.design.Expr.{Expr}
 use Rattle.sv_types.specs.declared.design.Stmt.{Stmt, Stmt-F, fold-Stmt, fold-roll-Stmt, out-Stmt, out-roll-Stmt}
 use Rattle.sv_types.specs.declared.design.Stmt.TheVariants.{Block, If, Assign, rolls-Block, rolls-If, rolls-Assign}
 use Rattle.v_tree.specs.Names.{Name}
-use Rattle.v_tree.specs.declared.tree.VExpr.{VExpr}
+use Rattle.b4_core.specs.declared.bit.Bit4.{Bit4}
+use Rattle.b4_core.specs.declared.operators.BinOp.{BinOp}
+use Rattle.b4_core.specs.declared.operators.UnOp.{UnOp}
+use Rattle.v_tree.specs.declared.tree.VPrim.{VPrim, fold-VPrim, VPrim-F, fold-roll-VPrim}
+use Rattle.v_tree.specs.declared.tree.VPrim.TheVariants as P
+use Rattle.v_tree.specs.declared.tree.VExpr.{VExpr, VExpr-F, fold-VExpr, fold-roll-VExpr}
+use Rattle.v_tree.specs.declared.tree.VExpr.TheVariants as E
 use Rattle.v_tree.specs.declared.tree.VBranch.{VBranch, VBranch-F, fold-VBranch, fold-roll-VBranch}
 use Rattle.v_tree.specs.declared.tree.VBranch.TheVariants.{Statement, Empty, rolls-Statement, rolls-Empty}
 use Rattle.v_tree.specs.declared.tree.VStmt.{VStmt, VStmt-F, fold-VStmt, fold-roll-VStmt, roll-VStmt, out-VStmt, roll-out-VStmt}
@@ -55,6 +61,31 @@ module _ (A B : Type 0) (branch : VBranch-F A B → A) (step : VStmt-F A B → B
 
   pub assign-target : (target : Name) (value : VExpr) (later : Bool) → of_stmt (V.Assign target value later) ≡ step (VStmt-F.Assign target value later)
   assign-target target value later = ap of_stmt (sym (V.rolls-Assign target value later)) ∙ fold-roll-VStmt A B branch step (VStmt-F.Assign target value later)
+
+module _ (A B : Type 0) (step : VExpr-F A B → A) (prim : VPrim-F A B → B) where
+  abbrev pub of_expr : VExpr → A
+  of_expr = fold-VExpr A B step prim
+
+  abbrev pub of_prim : VPrim → B
+  of_prim = fold-VPrim A B step prim
+
+  pub number-level : (bits : List Bit4) → of_prim (P.Number bits) ≡ prim (VPrim-F.Number bits)
+  number-level bits = ap of_prim (sym (P.rolls-Number bits)) ∙ fold-roll-VPrim A B step prim (VPrim-F.Number bits)
+
+  pub name-level : (n : Name) → of_prim (P.Name n) ≡ prim (VPrim-F.Name n)
+  name-level n = ap of_prim (sym (P.rolls-Name n)) ∙ fold-roll-VPrim A B step prim (VPrim-F.Name n)
+
+  pub paren-level : (x : VExpr) → of_prim (P.Paren x) ≡ prim (VPrim-F.Paren (of_expr x))
+  paren-level x = ap of_prim (sym (P.rolls-Paren x)) ∙ fold-roll-VPrim A B step prim (VPrim-F.Paren x)
+
+  pub prim-level : (p : VPrim) → of_expr (E.Prim p) ≡ step (VExpr-F.Prim (of_prim p))
+  prim-level p = ap of_expr (sym (E.rolls-Prim p)) ∙ fold-roll-VExpr A B step prim (VExpr-F.Prim p)
+
+  pub unary-level : (op : UnOp) (p : VPrim) → of_expr (E.Unary op p) ≡ step (VExpr-F.Unary op (of_prim p))
+  unary-level op p = ap of_expr (sym (E.rolls-Unary op p)) ∙ fold-roll-VExpr A B step prim (VExpr-F.Unary op p)
+
+  pub binary-level : (op : BinOp) (p q : VPrim) → of_expr (E.Binary op p q) ≡ step (VExpr-F.Binary op (of_prim p) (of_prim q))
+  binary-level op p q = ap of_expr (sym (E.rolls-Binary op p q)) ∙ fold-roll-VExpr A B step prim (VExpr-F.Binary op p q)
 
 -- a statement is a block of its lines, or is its line alone
 pub lines-are : (s : VStmt) → (s ≡ V.Block (lines s)) ⊎ (lines s ≡ s ∷ [])
