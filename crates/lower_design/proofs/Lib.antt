@@ -10,3 +10,4 @@ pub mod Refinement
 pub mod Items
 pub mod Machines
 pub mod Extension
+pub mod Forms
