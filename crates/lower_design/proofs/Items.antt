@@ -243,7 +243,7 @@ module _ (d : Design) (t : Translatable d) where
         width = ap (width_named ts) named ∙ width-found ts names-distinct n _ at ∙ range_keeps s.width (t.some_bits s (member-at d.signals n s e)) ∙ sym wide;
       }
 
-  get-below : (ss : List Signal) (n : ℕ) → n < length ss → (s : Signal) × (slice_get ss n ≡ Some s)
+  pub get-below : (ss : List Signal) (n : ℕ) → n < length ss → (s : Signal) × (slice_get ss n ≡ Some s)
   get-below [] n h = absurd (omega arith)
   get-below (s ∷ ss) zero h = (s, refl)
   get-below (s ∷ ss) (suc n) h = get-below ss n (omega arith)

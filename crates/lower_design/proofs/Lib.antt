@@ -11,3 +11,4 @@ pub mod Items
 pub mod Machines
 pub mod Extension
 pub mod Forms
+pub mod Grammar
