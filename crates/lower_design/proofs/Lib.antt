@@ -12,3 +12,4 @@ pub mod Machines
 pub mod Extension
 pub mod Forms
 pub mod Grammar
+pub mod WellFormed

@@ -83,7 +83,7 @@ module _ (ss : List Signal) (us : List T.Signal) where
   name n = name_of ss n
 
   -- found names differ where their numbers do
-  names-apart : (k n : ℕ) → Found ss us k → Found ss us n → name k ≡ name n → k ≡ n
+  pub names-apart : (k n : ℕ) → Found ss us k → Found ss us n → name k ≡ name n → k ≡ n
   names-apart k n f g e = sym f.number ∙ ap (number_of us) e ∙ g.number
 
   among-names : (ks : List ℕ) (n : ℕ) → AllFound ss us ks → Found ss us n → among (map name ks) (name n) ≡ holds ks n
