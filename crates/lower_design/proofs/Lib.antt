@@ -13,3 +13,5 @@ pub mod Extension
 pub mod Forms
 pub mod Grammar
 pub mod WellFormed
+pub mod Shapes
+pub mod Right

@@ -310,3 +310,79 @@ module _ (d : Design) (t : Translatable d) where
         where
           one : (a b : Signal) → Some a ≡ Some b → a ≡ b
           one a b e = cc
+
+  -- the `initial` is of the trigger, and gives it a value of its width
+  initial-is : (b : Bool) → has_comb ps ≡ b → (i : InitialValue) → Member (values b) i → (has_comb ps ≡ true) × (i ≡ trigger_value)
+  initial-is true e i (inl h) = (e, h)
+  initial-is true e i (inr m) = elim m [ ]
+  initial-is false e i m = elim m [ ]
+
+  trigger-named : has_comb ps ≡ true → (u : T.Signal) → Member us u → u.name ≡ trigger → u ≡ trigger_signal
+  trigger-named e u m named =
+      named-once us (names-distinct d t) u trigger_signal m
+      (member-back (images (is_driven ps) 0 ss) (helpers (has_comb ps)) trigger_signal (subst (λ b. Member (helpers b) trigger_signal) (sym e) (inl refl))) named
+
+  initial-fits : (i : InitialValue) → Member (values (has_comb ps)) i → InitialFits us i
+  initial-fits i m u mu named =
+      let r = initial-is (has_comb ps) refl i m in
+      let same = trigger-named r.0 u mu (named ∙ ap (λ (x : InitialValue). x.name) r.1) in
+      (ap (λ (x : T.Signal). x.kind) same, ap (λ (x : T.Signal). x.width) same ∙ ap (λ (x : InitialValue). length x.value) (sym r.1))
+
+  width-fits : (u : T.Signal) → Member us u → u.width ≤ 65536
+  width-fits u m =
+      elim (image-or-helper (is_driven ps) 0 ss (helpers (has_comb ps)) u m) [
+        | inl a ↦ (let l = member-at ss a.number a.signal a.is_there in
+            let w : u.width ≡ a.signal.width = ap (λ (x : T.Signal). x.width) a.is ∙ range_keeps a.signal.width (t.some_bits a.signal l) in
+            omega (arith, w, t.few_bits a.signal l))
+        | inr h ↦ of_helper (has_comb ps) h
+      ]
+    where
+      of_helper : (b : Bool) → Member (helpers b) u → u.width ≤ 65536
+      of_helper true (inl e) = let w : u.width ≡ 1 = ap (λ (x : T.Signal). x.width) e in omega (arith, w)
+      of_helper true (inr k) = elim k [ ]
+      of_helper false k = elim k [ ]
+
+  items : signals (lowered_items ss ps) ≡ us
+  items = all-signals ss ps
+
+  names-same : declared_names (lowered_items ss ps) ≡ map signal_name us
+  names-same = ap (map signal_name) items
+
+  declared-ports : declared_ports (lowered_items ss ps) ≡ (lowered_module d).ports
+  declared-ports = ap (λ xs. map signal_name (filter port_test xs)) items ∙ ports-same (is_driven ps) (has_comb ps) 0 ss
+
+  -- each process of the items is one of the lowered ones
+  each-keeps : (x : T.Process) → Member (processes (lowered_items ss ps)) x → Keeps x
+  each-keeps x m =
+      let r = map-member (target ss) ps x (subst (λ xs. Member xs x) (all-processes ss ps) m) in
+      subst Keeps (sym r.2) (keeps r.0 r.1)
+
+  module-well-formed : WellFormedModule (lowered_module d)
+  module-well-formed = record {
+    declared_once = ap distinct names-same ∙ names-distinct d t;
+    declared = λ x m n k. subst (λ ns. Member ns n) (sym names-same) ((each-keeps x m).declared n k);
+    initials_declared = λ i m.
+        let r = initial-is (has_comb ps) refl i (subst (λ xs. Member xs i) (all-initials ss ps) m) in
+        subst (λ ns. Member ns i.name) (sym names-same) (subst (λ n. Member (map signal_name us) n) (sym (ap (λ (x : InitialValue). x.name) r.1)) (trigger-declared r.0));
+    ports_once = distinct-filter source_port ss t.names;
+    ports_declared = λ n m. subst (λ ns. Member ns n) (sym declared-ports) m;
+    declared_are_ports = λ n m. subst (λ ns. Member ns n) declared-ports m;
+    widths = λ u m. width-fits u (subst (λ xs. Member xs u) items m);
+    process_rules = λ x m. subst (λ xs. KeepsRules xs x) (sym items) (each-keeps x m).rules;
+    initial_rules = λ i m. subst (λ xs. InitialFits xs i) (sym items) (initial-fits i (subst (λ xs. Member xs i) (all-initials ss ps) m));
+  }
+
+  pub well-formed : WellFormed (lowered d)
+  well-formed = record {
+    modules_once = refl;
+    modules = λ m k. elim k [ inl e ↦ subst WellFormedModule (sym e) module-well-formed | inr l ↦ elim l [ ] ];
+  }
+
+  pub fits-top : FitsTop (lowered d) d.top
+  fits-top = record {
+    present = inl refl;
+    bits =
+        (let e : sum (map (λ (s : T.Signal). s.width) (signals (items_of (lowered d).modules d.top))) ≡ sum (map (λ (s : T.Signal). s.width) us) =
+            ap (λ xs. sum (map (λ (s : T.Signal). s.width) (signals xs))) (top-items d) ∙ ap (λ xs. sum (map (λ (s : T.Signal). s.width) xs)) items in
+        omega (arith, e, sum-images (is_driven ps) (has_comb ps) 0 ss t.some_bits, t.all_bits));
+  }
