@@ -1,7 +1,7 @@
 -- The machine of the lowered design extends the source's.
-use Rattle.std.proofs.Common.{◌≡◌, ◌⊎◌, ℕ, zero, suc, ◌+◌, ◌==◌, ◌<◌, ◌≤◌, Bool, true, false, not, ◌&&◌, ◌||◌, cond, List, [], ◌∷◌, ◌++◌, map, flat_map, length, slice_index_or, Option, Some, None, refl, sym, ap, subst, ◌∙◌, inl, inr, arith, nat_lt}
+use Rattle.std.proofs.Common.{◌≡◌, ℕ, suc, ◌+◌, ◌<◌, ◌≤◌, Bool, true, false, not, ◌&&◌, ◌||◌, cond, List, [], ◌∷◌, ◌++◌, map, flat_map, length, slice_index_or, Some, refl, sym, ap, subst, ◌∙◌, inl, inr, arith}
 use Rattle.std.specs.List.{slice_get, list_any, AllZip}
-use Rattle.std.proofs.lemmas.Bool.{or_cases, or_left, or_right, and_parts, false≢true, eqb-true}
+use Rattle.std.proofs.lemmas.Bool.{or_cases, or_left, false≢true, eqb-true}
 use Rattle.b4_core.specs.declared.bit.Bit4.{Bit4}
 use Rattle.b4_core.specs.declared.bit.Bit4.TheVariants.{Zero, X, Z}
 use Rattle.b4_core.specs.Bitwise.{edge_of}
@@ -32,17 +32,17 @@ use Rattle.v_tree.specs.Signals as T
 use Rattle.v_tree.specs.Signals.{InitialValue, number_of, width_named, places_named, signals, processes, initials}
 use Rattle.v_tree.specs.Machine as Target
 use Rattle.v_tree.specs.Machine.{places_of_names, given, is_written}
-use Rattle.lower_design.specs.Translatable.{Translatable, KindFits, IsVariable, targets_by, targets_of, is_comb}
+use Rattle.lower_design.specs.Translatable.{Translatable, KindFits, targets_by, targets_of}
 use Rattle.lower_design.specs.Shape.{name_of, trigger}
-use Rattle.lower_design.specs.Lowered.{range_of, branch, lowered_expr, lowered_stmt, triggered, lowered_edge, is_driven, drives, drives_in, drives_by, is_triggered, lowered}
-use Rattle.lower_design.proofs.Names.{true_or_false, member-at}
+use Rattle.lower_design.specs.Lowered.{lowered_expr, is_driven, drives, drives_in, drives_by, is_triggered, lowered}
+use Rattle.lower_design.proofs.Names.{true_or_false}
 use Rattle.lower_design.proofs.Places.{has-append, has-signal, has-without-only}
 use Rattle.lower_design.proofs.Levels.{assign-level, assign-out}
-use Rattle.lower_design.proofs.Runs.{append-nil, Found, AllFound, Uses}
+use Rattle.lower_design.proofs.Runs.{append-nil, Uses}
 use Rattle.lower_design.proofs.Hangs.{stmt-tame}
-use Rattle.lower_design.proofs.Sound.{at-number, at-once, comb-member, comb-writes, edge-member, edge-writes, sound, IsEdges}
+use Rattle.lower_design.proofs.Sound.{at-number, comb-member, comb-writes, edge-member, edge-writes, sound}
 use Rattle.lower_design.proofs.Refinement.{ReadsMore, CombBelow, EdgeBelow, SameBelow, Extends, under_own, translates}
-use Rattle.lower_design.proofs.Items.{kind_of, image_of, images, helpers, values, target_in, target_by, target, has_comb, all-signals, all-initials, all-processes, top-items, range_keeps, ts, found-at, found-below, trigger-found}
+use Rattle.lower_design.proofs.Items.{image_of, images, helpers, values, target_in, target_by, target, has_comb, all-signals, all-initials, all-processes, top-items, range_keeps, ts, found-at, found-below, trigger-found}
 use Rattle.lower_design.proofs.Machines.{has-flat, below-get, edge-same, driver-same, comb-same}
 
 -- the inputs are the same
@@ -290,7 +290,7 @@ module _ (d : Design) (t : Translatable d) where
         | inl h ↦ (let o = net-at (is_driven ps) (has_comb ps) 0 ss wide q h in
             let index : 0 + o.number ≡ o.number = omega arith in
             let w : is_written us procs q ≡ true = driven-written o.number o.signal q o.is_there
-                (subst (λ k. is_driven ps k ≡ true) index o.is_driven) (subst (λ k. has (places_of k o.signal.width) q ≡ true) index o.is_at) in
+            (subst (λ k. is_driven ps k ≡ true) index o.is_driven) (subst (λ k. has (places_of k o.signal.width) q ≡ true) index o.is_at) in
             ap (λ b. cond (has (Target.places_from Target.is_net 0 us) q && not b) Z (given us inits q)) w
             ∙ never_z (has (Target.places_from Target.is_net 0 us) q) (given us inits q) ∙ given-below q low)
       ]

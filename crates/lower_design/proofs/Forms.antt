@@ -1,8 +1,6 @@
 -- Lowered expressions and statements are of the target grammar, and nest little deeper than their sources.
-use Rattle.std.proofs.Common.{◌≡◌, ◌⊎◌, ℕ, zero, suc, ◌+◌, ◌*◌, ◌≤◌, max, nat_le, Bool, true, false, ◌&&◌, List, [], ◌∷◌, ◌++◌, map, length, Option, Some, None, refl, sym, ap, subst, ◌∙◌, inl, inr, arith}
-use Rattle.std.specs.List.{list_all}
+use Rattle.std.proofs.Common.{◌≡◌, ℕ, suc, ◌+◌, ◌*◌, ◌≤◌, max, nat_le, Bool, true, false, ◌&&◌, List, [], ◌∷◌, ◌++◌, map, length, Some, None, refl, sym, ap, subst, ◌∙◌, inl, inr, arith}
 use Rattle.std.proofs.lemmas.Bool.{le-leb}
-use Rattle.b4_core.specs.declared.bit.Bit4.{Bit4}
 use Rattle.b4_core.specs.declared.operators.BinOp.{BinOp}
 use Rattle.b4_core.specs.declared.operators.BinOp.TheVariants.{And, Or, Xor, Xnor, Add, Sub, Mul, Div, Rem}
 use Rattle.b4_core.specs.declared.operators.UnOp.TheVariants.{Not}
@@ -14,18 +12,17 @@ use Rattle.sv_types.specs.declared.design.Primary.TheVariants as P
 use Rattle.sv_types.specs.declared.design.Operand.{Operand}
 use Rattle.sv_types.specs.declared.design.Expr.{Expr}
 use Rattle.sv_types.specs.declared.design.Expr.TheVariants.{Single, Binary}
-use Rattle.sv_types.specs.declared.design.Stmt.{Stmt, Stmt-F}
+use Rattle.sv_types.specs.declared.design.Stmt.{Stmt}
 use Rattle.sv_types.specs.declared.design.Stmt.TheVariants as S
 use Rattle.sv_types.specs.Statements.{Doing, sequence, choice, assignment, idle, stmt_doing, doing, primary_signals, expr_signals}
 use Rattle.v_tree.specs.Names.{Name}
 use Rattle.v_tree.specs.Reserved.{reserved_words}
 use Rattle.v_tree.specs.Tokens.{is_simple}
-use Rattle.v_tree.specs.Grammatical.{is_number, is_binary, Form, prim_form, expr_form, form, all_fit, deepest, branch_form, stmt_form, if_form, form_of_branch}
-use Rattle.v_tree.specs.declared.tree.VPrim.{VPrim, VPrim-F, fold-VPrim}
+use Rattle.v_tree.specs.Grammatical.{is_binary, Form, prim_form, expr_form, form, all_fit, deepest, branch_form, stmt_form, if_form, form_of_branch}
+use Rattle.v_tree.specs.declared.tree.VPrim.{VPrim, fold-VPrim}
 use Rattle.v_tree.specs.declared.tree.VPrim.TheVariants as V
-use Rattle.v_tree.specs.declared.tree.VExpr.{VExpr, VExpr-F}
+use Rattle.v_tree.specs.declared.tree.VExpr.{VExpr-F}
 use Rattle.v_tree.specs.declared.tree.VExpr.TheVariants as E
-use Rattle.v_tree.specs.declared.tree.VBranch.{VBranch, VBranch-F}
 use Rattle.v_tree.specs.declared.tree.VBranch.TheVariants.{Statement, Empty}
 use Rattle.v_tree.specs.declared.tree.VStmt.{VStmt, VStmt-F, fold-VStmt}
 use Rattle.v_tree.specs.declared.tree.VStmt.TheVariants as T
@@ -193,7 +190,7 @@ module _ (ss : List Signal) where
 
   either-fine : (on : Expr) (body other : Stmt) → IsFine body → IsFine other → Ready (choice on (doing body) (doing other)) (on ∷ ((inside body).exprs ++ (inside other).exprs))
       → Fine (twice (suc (max (inside body).depth (inside other).depth)))
-          (if_form (lowered_expr ss on) (form_of_branch (branch (lowers body))) (Some (form_of_branch (branch (lowers other)))))
+      (if_form (lowered_expr ss on) (form_of_branch (branch (lowers body))) (Some (form_of_branch (branch (lowers other)))))
   either-fine on body other h k r =
       let e = expr-fine on (r.exprs on (inl refl)) (λ n m. r.reads n (member-front (expr_signals on) _ n m)) in
       let f = branch-fine (twice (inside body).depth) (lowers body) (h (record {

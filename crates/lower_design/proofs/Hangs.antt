@@ -1,21 +1,19 @@
 -- What a statement does hangs on the signals that it reads, and it writes no other signals than its targets.
-use Rattle.std.proofs.Common.{◌≡◌, ◌⊎◌, ℕ, Bool, true, false, cond, max, List, [], ◌∷◌, ◌++◌, map, flat_map, Option, Some, None, refl, sym, ap, subst, ◌∙◌, inl, inr}
-use Rattle.std.proofs.lemmas.Bool.{false≢true}
+use Rattle.std.proofs.Common.{◌≡◌, ℕ, Bool, true, false, cond, max, List, [], ◌∷◌, ◌++◌, map, None, refl, sym, ap, subst, ◌∙◌, inl, inr}
 use Rattle.b4_core.specs.declared.bit.Bit4.{Bit4}
 use Rattle.b4_core.specs.Bitwise.{truth_of}
 use Rattle.b4_core.specs.Vectors.{ext}
 use Rattle.b4_core.specs.Binary.{binary_value}
-use Rattle.row_machine.specs.Valuation.{Member, Valuation, Place, Changes, has, changed}
-use Rattle.row_machine.specs.Places.{places_of, vector_at, assigned}
-use Rattle.row_machine.specs.Steps.{Progress, later_or, assign_now, assign_later, in_order, is_one}
+use Rattle.row_machine.specs.Valuation.{Member, Valuation, Place, has, changed}
+use Rattle.row_machine.specs.Places.{places_of, assigned}
+use Rattle.row_machine.specs.Steps.{Progress, later_or, is_one}
 use Rattle.row_machine.proofs.Members.{member-front, member-back}
 use Rattle.sv_types.specs.declared.design.Signal.{Signal}
 use Rattle.sv_types.specs.declared.design.Primary.{Primary}
 use Rattle.sv_types.specs.declared.design.Primary.TheVariants as P
 use Rattle.sv_types.specs.declared.design.Expr.{Expr}
 use Rattle.sv_types.specs.declared.design.Expr.TheVariants.{Single, Binary}
-use Rattle.sv_types.specs.declared.design.Stmt.{Stmt, Stmt-F}
-use Rattle.sv_types.specs.declared.design.Stmt.TheVariants as S
+use Rattle.sv_types.specs.declared.design.Stmt.{Stmt}
 use Rattle.sv_types.specs.Value.{primary_value, inverted_if, width_alone, value_at}
 use Rattle.sv_types.specs.Statements.{Doing, idle, sequence, choice, assignment, stmt_doing, doing, width_of, held_at, changes_of, is_true, primary_signals, expr_signals}
 use Rattle.lower_design.proofs.Induction.{Steps, by_statement}

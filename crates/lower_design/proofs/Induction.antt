@@ -1,5 +1,5 @@
 -- Induction over statements.
-use Rattle.std.proofs.Common.{◌≡◌, ℕ, Bool, List, [], ◌∷◌, map, Option, Some, None, refl, subst, sym, inl, inr, ◌⊎◌}
+use Rattle.std.proofs.Common.{ℕ, Bool, List, map, Some, None, subst, sym}
 use Rattle.row_machine.specs.Valuation.{Member}
 use Rattle.sv_types.specs.declared.design.Expr.{Expr}
 use Rattle.sv_types.specs.declared.design.Stmt.{Stmt, Stmt-F, ind-Stmt, roll-Stmt, map-Stmt}

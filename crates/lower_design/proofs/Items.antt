@@ -1,11 +1,11 @@
 -- The signals, initial values and processes of the items that are made.
-use Rattle.std.proofs.Common.{◌≡◌, ◌⊎◌, ℕ, zero, suc, ◌+◌, ◌==◌, ◌<◌, ◌≤◌, Bool, true, false, not, ◌&&◌, List, [], ◌∷◌, ◌++◌, map, length, Option, Some, None, refl, sym, ap, subst, ◌∙◌, inl, inr, arith, append_assoc}
+use Rattle.std.proofs.Common.{◌≡◌, ℕ, zero, suc, ◌+◌, ◌==◌, ◌<◌, ◌≤◌, Bool, true, false, List, [], ◌∷◌, ◌++◌, map, length, Some, refl, sym, ap, ◌∙◌, inl, inr, arith, append_assoc}
 use Rattle.std.specs.List.{slice_get, list_any}
 use Rattle.std.specs.Str.{bytes_eq}
 use Rattle.std.proofs.lemmas.Bool.{false≢true, eqb-true}
 use Rattle.b4_core.specs.declared.bit.Bit4.TheVariants.{Zero}
 use Rattle.row_machine.specs.Valuation.{Member}
-use Rattle.row_machine.proofs.Members.{append-member, member-map, map-member}
+use Rattle.row_machine.proofs.Members.{append-member, map-member}
 use Rattle.sv_types.specs.declared.design.SignalKind.{SignalKind}
 use Rattle.sv_types.specs.declared.design.SignalKind.TheVariants.{InputNet, OutputVar, Variable}
 use Rattle.sv_types.specs.declared.design.Signal.{Signal}
@@ -22,10 +22,10 @@ use Rattle.v_tree.specs.declared.tree.VBranch.TheVariants.{Empty}
 use Rattle.v_tree.specs.declared.tree.VItem.{VItem}
 use Rattle.lower_design.specs.Translatable.{Translatable, is_helper_name, path_of}
 use Rattle.lower_design.specs.Shape.{name_of, path_or_nothing, trigger, is_port}
-use Rattle.lower_design.specs.Lowered.{range_of, branch, lowered_expr, lowered_stmt, triggered, lowered_edge, driver_in, item_by, lowered_process, is_driven, declared_as, declaration_of, declarations, is_triggered, trigger_items, lowered_items, lowered_module, lowered}
+use Rattle.lower_design.specs.Lowered.{range_of, branch, lowered_expr, lowered_stmt, triggered, lowered_edge, driver_in, item_by, lowered_process, is_driven, declaration_of, declarations, is_triggered, trigger_items, lowered_items, lowered}
 use Rattle.lower_design.proofs.Names.{true_or_false, same_bytes, pick_true, pick_false, member-at, first_fresh, rest_distinct, distinct_more, number-found, width-found}
 use Rattle.lower_design.proofs.Names as Names
-use Rattle.lower_design.proofs.Runs.{map-append, append-nil, Found}
+use Rattle.lower_design.proofs.Runs.{append-nil, Found}
 
 -- the image of a signal
 abbrev pub kind_of : SignalKind → Bool → Kind
@@ -162,7 +162,7 @@ all-signals ss ps =
     ap signals (append_assoc (declarations (is_driven ps) 0 ss) (trigger_items (has_comb ps)) (map (lowered_process ss) ps))
     ∙ declared-signals (is_driven ps) 0 ss (trigger_items (has_comb ps) ++ map (lowered_process ss) ps)
     ∙ ap (λ xs. images (is_driven ps) 0 ss ++ xs)
-        (trigger-signals (has_comb ps) (map (lowered_process ss) ps) ∙ ap (λ xs. helpers (has_comb ps) ++ xs) (process-signals ss ps) ∙ append-nil (helpers (has_comb ps)))
+    (trigger-signals (has_comb ps) (map (lowered_process ss) ps) ∙ ap (λ xs. helpers (has_comb ps) ++ xs) (process-signals ss ps) ∙ append-nil (helpers (has_comb ps)))
 
 pub all-initials : (ss : List Signal) (ps : List Process) → initials (lowered_items ss ps) ≡ values (has_comb ps)
 all-initials ss ps =

@@ -1,6 +1,5 @@
 -- One level of a statement at a time: what a fold over statements gives for each variant.
-use Rattle.std.proofs.Common.{◌≡◌, ◌⊎◌, ℕ, Bool, List, [], ◌∷◌, map, Option, Some, None, refl, sym, ap, ◌∙◌, inl, inr}
-use Rattle.std.specs.Option.{option_map}
+use Rattle.std.proofs.Common.{◌≡◌, ◌⊎◌, ℕ, Bool, List, [], ◌∷◌, map, Some, None, refl, sym, ap, ◌∙◌, inl, inr}
 use Rattle.sv_types.specs.declared.design.Expr.{Expr}
 use Rattle.sv_types.specs.declared.design.Stmt.{Stmt, Stmt-F, fold-Stmt, fold-roll-Stmt, out-Stmt, out-roll-Stmt}
 use Rattle.sv_types.specs.declared.design.Stmt.TheVariants.{Block, If, Assign, rolls-Block, rolls-If, rolls-Assign}

@@ -1,30 +1,20 @@
 -- The machine of the lowered design: the source's, with the trigger behind its signals.
-use Rattle.std.proofs.Common.{◌≡◌, ◌⊎◌, ℕ, zero, suc, ◌+◌, ◌==◌, ◌<◌, ◌≤◌, Bool, true, false, not, ◌&&◌, ◌||◌, cond, List, [], ◌∷◌, ◌++◌, map, flat_map, length, slice_index_or, Option, Some, None, refl, sym, ap, subst, ◌∙◌, inl, inr, arith, append_assoc, if◌then◌else◌}
-use Rattle.std.specs.List.{slice_get, list_any, AllZip}
+use Rattle.std.proofs.Common.{◌≡◌, ◌⊎◌, ℕ, zero, suc, ◌==◌, ◌<◌, Bool, true, false, not, ◌||◌, cond, List, [], ◌∷◌, ◌++◌, map, flat_map, length, Option, Some, None, refl, sym, ap, subst, ◌∙◌, inl, inr, arith, if◌then◌else◌}
+use Rattle.std.specs.List.{slice_get, list_any}
 use Rattle.std.specs.Str.{bytes_eq}
-use Rattle.std.proofs.lemmas.Bool.{or_cases, or_left, or_right, and_parts, false≢true, eqb-true, eq-eqb}
+use Rattle.std.proofs.lemmas.Bool.{or_cases, or_left, or_right, false≢true, eqb-true, eq-eqb}
 use Rattle.b4_core.specs.declared.bit.Bit4.{Bit4}
-use Rattle.b4_core.specs.declared.bit.Bit4.TheVariants.{Zero, X, Z}
 use Rattle.b4_core.specs.Bitwise.{edge_of}
 use Rattle.row_machine.specs.Valuation.{Member, Place, Valuation, Changes, has, is_place}
 use Rattle.row_machine.specs.Machine as M
-use Rattle.row_machine.specs.Settle.{same_bit}
-use Rattle.row_machine.specs.Places.{places_from, places_of, without, assigned}
-use Rattle.row_machine.specs.Steps.{Progress, begun, later_or, is_edge, unchanged, then_changes}
-use Rattle.row_machine.specs.Translation.{Translates}
-use Rattle.row_machine.proofs.Basics.{member-any, any-member, is_place-true}
-use Rattle.row_machine.proofs.Members.{append-member, member-map, map-member}
-use Rattle.sv_types.specs.declared.design.SignalKind.{SignalKind}
-use Rattle.sv_types.specs.declared.design.SignalKind.TheVariants.{InputNet, OutputVar, Variable}
+use Rattle.row_machine.specs.Places.{places_of, without}
+use Rattle.row_machine.specs.Steps.{begun, later_or, is_edge}
+use Rattle.row_machine.proofs.Basics.{is_place-true}
 use Rattle.sv_types.specs.declared.design.Signal.{Signal}
 use Rattle.sv_types.specs.declared.design.Expr.{Expr}
 use Rattle.sv_types.specs.declared.design.EdgeOn.{EdgeOn}
-use Rattle.sv_types.specs.declared.design.ProcessKind.{ProcessKind}
-use Rattle.sv_types.specs.declared.design.ProcessKind.TheVariants.{Continuous, Comb, Edges}
-use Rattle.sv_types.specs.declared.design.Process.{Process}
-use Rattle.sv_types.specs.declared.design.Stmt.{Stmt, Stmt-F, out-Stmt}
+use Rattle.sv_types.specs.declared.design.Stmt.{Stmt}
 use Rattle.sv_types.specs.declared.design.Stmt.TheVariants as S
-use Rattle.sv_types.specs.declared.design.Design.{Design}
 use Rattle.sv_types.specs.Numbers.{holds, each_once}
 use Rattle.sv_types.specs.Statements as SD
 use Rattle.sv_types.specs.Statements.{width_of, doing, stmt_doing, expr_signals}
@@ -38,17 +28,13 @@ use Rattle.v_tree.specs.Statements.{doing_of}
 use Rattle.v_tree.specs.Statements as TD
 use Rattle.v_tree.specs.Machine as Target
 use Rattle.v_tree.specs.Machine.{places_of_names, given, is_written}
-use Rattle.lower_design.specs.Translatable.{Translatable, KindFits, EdgeFits, IsVariable, targets_by, targets_of, is_comb}
 use Rattle.lower_design.specs.Shape.{name_of, trigger}
-use Rattle.lower_design.specs.Lowered.{branch, lowered_expr, lowered_stmt, triggered, lowered_edge, is_driven, drives, drives_in, drives_by, is_triggered, lowered_items, lowered}
-use Rattle.lower_design.proofs.Names.{true_or_false, same_bytes, differ_bytes, bytes_same, pick_true, pick_false, member-at}
+use Rattle.lower_design.specs.Lowered.{branch, lowered_expr, lowered_stmt, triggered, lowered_edge}
+use Rattle.lower_design.proofs.Names.{true_or_false, same_bytes, differ_bytes, pick_true, pick_false}
 use Rattle.lower_design.proofs.Places.{has-append, has-signal, has-without, has-without-only}
-use Rattle.lower_design.proofs.Levels.{assign-level, assign-out}
+use Rattle.lower_design.proofs.Levels.{assign-level}
 use Rattle.lower_design.proofs.Runs.{append-nil, Found, AllFound, Uses, changes-same, names-of, Triggered, body-same, triggered-same}
-use Rattle.lower_design.proofs.Hangs.{stmt-tame}
-use Rattle.lower_design.proofs.Sound.{at-number, at-once, signals-in, holds-member, comb-member, comb-writes, edge-member, edge-writes, sound}
-use Rattle.lower_design.proofs.Refinement.{ReadsMore, CombBelow, EdgeBelow, SameBelow, Extends, under_own, translates}
-use Rattle.lower_design.proofs.Items.{kind_of, image_of, images, trigger_signal, helpers, trigger_value, values, target_in, target_by, target, has_comb, targets, all-signals, all-initials, all-processes, top-items, range_keeps, ts, found-at, found-below, trigger-found}
+use Rattle.lower_design.proofs.Refinement.{ReadsMore}
 
 -- what isn't in a list without some isn't among these
 pub has-without-not : (own places : List Place) (q : Place) → has (without own places) q ≡ true → has own q ≡ false

@@ -1,5 +1,5 @@
 -- The meaning of a lowered expression is that of the expression, name for number.
-use Rattle.std.proofs.Common.{◌≡◌, ℕ, Bool, true, false, max, List, [], ◌∷◌, ◌++◌, map, refl, sym, ap, ◌∙◌}
+use Rattle.std.proofs.Common.{◌≡◌, ℕ, Bool, true, false, max, List, ◌++◌, map, ap, ◌∙◌}
 use Rattle.b4_core.specs.declared.bit.Bit4.{Bit4}
 use Rattle.b4_core.specs.declared.operators.BinOp.{BinOp}
 use Rattle.b4_core.specs.declared.operators.UnOp.{UnOp}
@@ -8,15 +8,14 @@ use Rattle.b4_core.specs.Binary.{binary_value}
 use Rattle.sv_types.specs.declared.design.Signal.{Signal}
 use Rattle.sv_types.specs.declared.design.Primary.{Primary}
 use Rattle.sv_types.specs.declared.design.Primary.TheVariants as P
-use Rattle.sv_types.specs.declared.design.Operand.{Operand}
 use Rattle.sv_types.specs.declared.design.Expr.{Expr}
 use Rattle.sv_types.specs.declared.design.Expr.TheVariants as D
-use Rattle.v_tree.specs.declared.tree.VPrim.{VPrim, fold-VPrim, VPrim-F, roll-VPrim, fold-roll-VPrim}
-use Rattle.v_tree.specs.declared.tree.VPrim.TheVariants.{Number, Name, Paren, rolls-Number, rolls-Name, rolls-Paren}
-use Rattle.v_tree.specs.declared.tree.VExpr.{VExpr, VExpr-F, fold-VExpr, roll-VExpr, fold-roll-VExpr}
-use Rattle.v_tree.specs.declared.tree.VExpr.TheVariants.{Prim, Unary, Binary, rolls-Prim, rolls-Unary, rolls-Binary}
-use Rattle.sv_types.specs.Value.{primary_width, primary_value, inverted_if, operand_value, width_alone, value_at}
-use Rattle.sv_types.specs.Statements.{primary_signals, expr_signals}
+use Rattle.v_tree.specs.declared.tree.VPrim.{VPrim, fold-VPrim, VPrim-F}
+use Rattle.v_tree.specs.declared.tree.VPrim.TheVariants.{Number, Name, Paren}
+use Rattle.v_tree.specs.declared.tree.VExpr.{VExpr, VExpr-F}
+use Rattle.v_tree.specs.declared.tree.VExpr.TheVariants.{Prim, Unary, Binary}
+use Rattle.sv_types.specs.Value.{primary_width, primary_value, inverted_if, operand_value}
+use Rattle.sv_types.specs.Statements.{primary_signals}
 use Rattle.lower_design.specs.Shape.{name_of}
 use Rattle.lower_design.specs.Lowered.{parenthesized, alone, lowered_primary, lowered_operand, lowered_expr}
 use Rattle.lower_design.proofs.Levels.{number-level, name-level, paren-level, prim-level, unary-level, binary-level}

@@ -1,11 +1,11 @@
 -- A target machine with the source's signals under their own numbers, and others behind them that some processes read besides.
-use Rattle.std.proofs.Common.{◌≡◌, ◌⊎◌, ℕ, ◌<◌, ◌≤◌, Bool, true, false, nat_lt, List, [], ◌∷◌, map, Option, Some, None, refl, sym, ap, subst, ◌∙◌, inl, inr, arith}
+use Rattle.std.proofs.Common.{◌≡◌, ℕ, ◌<◌, ◌≤◌, Bool, true, false, nat_lt, List, [], ◌∷◌, Option, Some, None, refl, sym, ap, subst, ◌∙◌, inl, inr, arith}
 use Rattle.std.specs.List.{AllZip}
 use Rattle.std.proofs.lemmas.Bool.{false≢true, ltb-true, lt-ltb, ltb-false}
-use Rattle.row_machine.specs.Valuation.{Place, Valuation, Member, has, NoneWrites, OneWriter}
+use Rattle.row_machine.specs.Valuation.{Place, Valuation, Member, has, OneWriter}
 use Rattle.row_machine.specs.Machine.{Process, EdgeProcess, Machine}
 use Rattle.row_machine.specs.Settle.{differs}
-use Rattle.row_machine.specs.Order.{Honest, WellWritten, Sound, follows}
+use Rattle.row_machine.specs.Order.{Honest, WellWritten, Sound}
 use Rattle.row_machine.specs.Agreement.{Map, lifted, image_or, TypedMachine, SameWrites, Twin, EdgeTwin, Simulates, SameRow}
 use Rattle.row_machine.specs.Dependence.{writes_image, AddsNoDependence}
 use Rattle.row_machine.specs.Translation.{Refines, Translates}
@@ -201,10 +201,10 @@ module _ (n : ℕ) where
             record {
               is_twin = twin r.0 t r.1 r.2;
               by_reads = λ b l f. (
-                let c = followed_bit t b f in
-                let s = zip-back ReadsMore d.combs e.combs x.combs b l in
-                let low : IsBelow c.0 = (x.combs_below s.0 s.1).writes c.0 (ap (λ qs. has qs c.0) (sym s.2.writes) ∙ c.2) in
-                writes_image c.0 c.0 (own_origin c.0 low) c.2 (r.2.no_more c.0 low c.1));
+                  let c = followed_bit t b f in
+                  let s = zip-back ReadsMore d.combs e.combs x.combs b l in
+                  let low : IsBelow c.0 = (x.combs_below s.0 s.1).writes c.0 (ap (λ qs. has qs c.0) (sym s.2.writes) ∙ c.2) in
+                  writes_image c.0 c.0 (own_origin c.0 low) c.2 (r.2.no_more c.0 low c.1));
             },
           )
 

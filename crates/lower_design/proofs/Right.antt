@@ -1,19 +1,14 @@
 -- The lowered design is right for its source.
-use Rattle.std.proofs.Common.{◌≡◌, ℕ, ◌+◌, ◌<◌, Bool, true, false, List, [], ◌∷◌, ◌++◌, map, length, Option, Some, None, refl, sym, ap, subst, ◌∙◌, inl, inr, arith}
-use Rattle.std.specs.List.{slice_get, AllZip}
-use Rattle.row_machine.specs.Valuation.{Member, Place, Valuation, has}
+use Rattle.std.proofs.Common.{◌≡◌, ◌<◌, true, List, [], ◌∷◌, map, length, sym, ap, subst, ◌∙◌, arith}
+use Rattle.row_machine.specs.Valuation.{Place, Valuation, has}
 use Rattle.row_machine.specs.Places.{places_of, vector_at}
-use Rattle.row_machine.specs.Machine as M
-use Rattle.row_machine.specs.Trace.{HasTrace}
 use Rattle.row_machine.specs.Agreement.{lifted, TracesAgree as MachinesAgree}
 use Rattle.row_machine.specs.Translation.{Translates}
-use Rattle.sv_types.specs.declared.design.Signal.{Signal}
 use Rattle.sv_types.specs.declared.design.Design.{Design}
 use Rattle.sv_types.specs.Machine as Source
-use Rattle.sv_types.specs.Statements.{width_of, width_or_zero}
+use Rattle.sv_types.specs.Statements.{width_or_zero}
 use Rattle.v_tree.specs.declared.tree.VDesign.{VDesign}
-use Rattle.v_tree.specs.Signals as T
-use Rattle.v_tree.specs.Signals.{number_of, width_named, held_named, signals, items_of}
+use Rattle.v_tree.specs.Signals.{number_of, width_named, held_named, signals}
 use Rattle.v_tree.specs.Machine as Target
 use Rattle.lower_design.specs.Translatable.{Translatable}
 use Rattle.lower_design.specs.Agreement.{Agree, TracesAgree}

@@ -1,19 +1,18 @@
 -- A lowered statement reads, writes and does what its source does.
-use Rattle.std.proofs.Common.{◌≡◌, ◌⊎◌, ℕ, Bool, true, false, cond, max, List, [], ◌∷◌, ◌++◌, map, flat_map, Option, Some, None, refl, sym, ap, subst, ◌∙◌, inl, inr}
-use Rattle.b4_core.specs.declared.bit.Bit4.{Bit4}
+use Rattle.std.proofs.Common.{◌≡◌, ℕ, Bool, true, false, cond, max, List, [], ◌∷◌, ◌++◌, map, Some, None, refl, sym, ap, subst, ◌∙◌, inl, inr}
 use Rattle.b4_core.specs.Bitwise.{truth_of}
 use Rattle.b4_core.specs.Vectors.{ext}
 use Rattle.b4_core.specs.Binary.{binary_value}
 use Rattle.row_machine.specs.Valuation.{Member, Valuation}
 use Rattle.row_machine.specs.Places.{vector_at, assigned}
-use Rattle.row_machine.specs.Steps.{Progress, assign_now, assign_later, in_order, is_one}
+use Rattle.row_machine.specs.Steps.{Progress, assign_now, assign_later, is_one}
 use Rattle.row_machine.proofs.Members.{member-front, member-back}
 use Rattle.sv_types.specs.declared.design.Signal.{Signal}
 use Rattle.sv_types.specs.declared.design.Primary.{Primary}
 use Rattle.sv_types.specs.declared.design.Primary.TheVariants as P
 use Rattle.sv_types.specs.declared.design.Expr.{Expr}
 use Rattle.sv_types.specs.declared.design.Expr.TheVariants.{Single, Binary}
-use Rattle.sv_types.specs.declared.design.Stmt.{Stmt, Stmt-F}
+use Rattle.sv_types.specs.declared.design.Stmt.{Stmt}
 use Rattle.sv_types.specs.declared.design.Stmt.TheVariants as S
 use Rattle.sv_types.specs.Value.{primary_width, primary_value, inverted_if, width_alone, value_at}
 use Rattle.sv_types.specs.Statements as Source
@@ -27,9 +26,8 @@ use Rattle.v_tree.specs.Statements.{doing_of}
 use Rattle.v_tree.specs.declared.tree.VExpr.{VExpr}
 use Rattle.v_tree.specs.declared.tree.VExpr.TheVariants.{Prim}
 use Rattle.v_tree.specs.declared.tree.VPrim.TheVariants.{Name as PrimName}
-use Rattle.v_tree.specs.declared.tree.VBranch.{VBranch}
-use Rattle.v_tree.specs.declared.tree.VBranch.TheVariants.{Statement, Empty}
-use Rattle.v_tree.specs.declared.tree.VStmt.{VStmt, VStmt-F}
+use Rattle.v_tree.specs.declared.tree.VBranch.TheVariants.{Empty}
+use Rattle.v_tree.specs.declared.tree.VStmt.{VStmt}
 use Rattle.v_tree.specs.declared.tree.VStmt.TheVariants as V
 use Rattle.lower_design.specs.Shape.{name_of, trigger}
 use Rattle.lower_design.specs.Lowered.{lines, branch, lowered_expr, lowered_level, lowered_stmt, reads_trigger, triggered}
@@ -285,6 +283,6 @@ module _ (ss : List Signal) where
         (sym (statement-target Target.Doing Target.Doing Target.branch_doing Target.stmt_doing (V.Block (reads_trigger ∷ lines (lowers s)))
         ∙ block-target Target.Doing Target.Doing Target.branch_doing Target.stmt_doing (reads_trigger ∷ lines (lowers s))
         ∙ ap (λ d. Target.sequence (d ∷ map Target.doing (lines (lowers s))))
-            (alone-target Target.Doing Target.Doing Target.branch_doing Target.stmt_doing trigger_on Empty
-            ∙ ap (λ d. Target.choice trigger_on d Target.idle) (empty-target Target.Doing Target.Doing Target.branch_doing Target.stmt_doing))))
+        (alone-target Target.Doing Target.Doing Target.branch_doing Target.stmt_doing trigger_on Empty
+        ∙ ap (λ d. Target.choice trigger_on d Target.idle) (empty-target Target.Doing Target.Doing Target.branch_doing Target.stmt_doing))))
         (behind-trigger (Source.doing s) (map Target.doing (lines (lowers s))) (same-lines (Source.doing s) (lowers s) (stmt-same s)))

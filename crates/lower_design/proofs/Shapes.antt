@@ -1,8 +1,7 @@
 -- The lowered design has the shape of its source.
-use Rattle.std.proofs.Common.{◌≡◌, ◌⊎◌, ℕ, zero, suc, ◌≤◌, Bool, true, false, List, [], ◌∷◌, ◌++◌, map, filter, Option, Some, None, refl, sym, ap, subst, ◌∙◌, inl, inr}
+use Rattle.std.proofs.Common.{◌≡◌, ℕ, suc, ◌≤◌, Bool, true, false, List, [], ◌∷◌, map, refl, sym, ap, subst, ◌∙◌, inl, inr}
 use Rattle.std.specs.List.{AllZip}
 use Rattle.row_machine.specs.Valuation.{Member}
-use Rattle.row_machine.proofs.Members.{map-member}
 use Rattle.sv_types.specs.declared.design.SignalKind.{SignalKind}
 use Rattle.sv_types.specs.declared.design.SignalKind.TheVariants.{InputNet, OutputVar, Variable}
 use Rattle.sv_types.specs.declared.design.Signal.{Signal}
@@ -11,7 +10,6 @@ use Rattle.sv_types.specs.declared.design.EdgeOn.{EdgeOn}
 use Rattle.sv_types.specs.declared.design.ProcessKind.{ProcessKind}
 use Rattle.sv_types.specs.declared.design.ProcessKind.TheVariants.{Continuous, Comb, Edges}
 use Rattle.sv_types.specs.declared.design.Process.{Process}
-use Rattle.sv_types.specs.declared.design.Stmt.{Stmt}
 use Rattle.sv_types.specs.declared.design.Stmt.TheVariants as S
 use Rattle.sv_types.specs.declared.design.Design.{Design}
 use Rattle.sv_types.specs.Statements as SD
@@ -20,10 +18,10 @@ use Rattle.v_tree.specs.Signals as T
 use Rattle.v_tree.specs.Signals.{InitialValue, processes, initials}
 use Rattle.lower_design.specs.Translatable.{Translatable, KindFits, is_helper_name}
 use Rattle.lower_design.specs.Shape.{name_of, kind_fits, IsImage, IsEdge, IsProcess, Shape}
-use Rattle.lower_design.specs.Lowered.{lowered_expr, lowered_edge, is_driven, lowered_module, lowered_items, lowered}
+use Rattle.lower_design.specs.Lowered.{lowered_expr, lowered_edge, is_driven, lowered_module, lowered}
 use Rattle.lower_design.proofs.Levels.{assign-level}
 use Rattle.lower_design.proofs.Runs.{names-of, body-same, triggered-same}
-use Rattle.lower_design.proofs.Items.{kind_of, image_of, images, helpers, trigger_signal, trigger_value, values, target, target_by, has_comb, all-signals, all-initials, all-processes, range_keeps}
+use Rattle.lower_design.proofs.Items.{kind_of, images, helpers, values, target, target_by, has_comb, all-signals, all-initials, all-processes, range_keeps}
 use Rattle.lower_design.proofs.Extension.{target-driver}
 
 kind-kept : (kind : SignalKind) (driven : Bool) → kind_fits kind (kind_of kind driven)

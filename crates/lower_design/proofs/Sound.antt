@@ -1,10 +1,10 @@
 -- The machine of a source design is sound: it has one trace for any rows.
-use Rattle.std.proofs.Common.{◌≡◌, ◌⊎◌, ℕ, ◌==◌, Bool, true, false, cond, ◌||◌, List, [], ◌∷◌, ◌++◌, map, flat_map, Some, None, refl, sym, ap, subst, ◌∙◌, inl, inr, if◌then◌else◌}
-use Rattle.std.proofs.lemmas.Bool.{or_cases, or_left, or_right, false≢true, eqb-true, eq-eqb}
+use Rattle.std.proofs.Common.{◌≡◌, ◌⊎◌, ℕ, ◌==◌, Bool, true, false, ◌||◌, List, [], ◌∷◌, None, refl, sym, ap, subst, ◌∙◌, inl, inr, if◌then◌else◌}
+use Rattle.std.proofs.lemmas.Bool.{or_cases, or_left, or_right, false≢true, eqb-true}
 use Rattle.row_machine.specs.Valuation.{Member, Place, Valuation, has, NoneWrites, OneWriter}
 use Rattle.row_machine.specs.Machine as M
 use Rattle.row_machine.specs.Order.{Honest, Sound, follows}
-use Rattle.row_machine.specs.Places.{places_of, without}
+use Rattle.row_machine.specs.Places.{places_of}
 use Rattle.row_machine.specs.Steps.{begun}
 use Rattle.row_machine.proofs.Basics.{followed_bit}
 use Rattle.row_machine.proofs.Laws as Laws
@@ -226,4 +226,4 @@ module _ (d : Design) (t : Translatable d) where
       within p a v q h =
           ap (λ (x : M.EdgeProcess). x.updates v q) a.is
           ∙ (stmt-tame d.signals a.process.body).pending (begun v) q
-              (apart-once d.signals (doing a.process.body).later_targets q (ap (λ (x : M.EdgeProcess). has x.writes q) (sym a.is) ∙ h))
+          (apart-once d.signals (doing a.process.body).later_targets q (ap (λ (x : M.EdgeProcess). has x.writes q) (sym a.is) ∙ h))

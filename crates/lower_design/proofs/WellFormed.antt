@@ -1,6 +1,6 @@
 -- The lowered design keeps the rules on names, sizes, processes and initial values.
-use Rattle.std.proofs.Common.{◌≡◌, ◌⊎◌, ℕ, zero, suc, ◌+◌, ◌==◌, ◌^◌, ◌<◌, ◌≤◌, Bool, true, false, not, ◌&&◌, cond, List, [], ◌∷◌, ◌++◌, map, filter, length, sum, Option, Some, None, refl, sym, ap, subst, ◌∙◌, inl, inr, arith}
-use Rattle.std.specs.List.{slice_get, list_any}
+use Rattle.std.proofs.Common.{◌≡◌, ◌⊎◌, ℕ, suc, ◌+◌, ◌<◌, ◌≤◌, Bool, true, false, cond, List, [], ◌∷◌, ◌++◌, map, filter, length, sum, Some, refl, sym, ap, subst, ◌∙◌, inl, inr, arith}
+use Rattle.std.specs.List.{slice_get}
 use Rattle.std.proofs.lemmas.Bool.{false≢true, eq-eqb}
 use Rattle.std.proofs.lemmas.List.Sums.{sum_by-cons}
 use Rattle.row_machine.specs.Valuation.{Member}
@@ -14,25 +14,21 @@ use Rattle.sv_types.specs.declared.design.EdgeOn.{EdgeOn}
 use Rattle.sv_types.specs.declared.design.ProcessKind.{ProcessKind}
 use Rattle.sv_types.specs.declared.design.ProcessKind.TheVariants.{Continuous, Comb, Edges}
 use Rattle.sv_types.specs.declared.design.Process.{Process}
-use Rattle.sv_types.specs.declared.design.Stmt.{Stmt, out-Stmt}
 use Rattle.sv_types.specs.declared.design.Stmt.TheVariants as S
 use Rattle.sv_types.specs.declared.design.Design.{Design}
 use Rattle.sv_types.specs.Statements as SD
 use Rattle.sv_types.specs.Statements.{doing, stmt_doing, expr_signals}
 use Rattle.v_tree.specs.Names.{Name, distinct}
-use Rattle.v_tree.specs.Value.{meaning}
 use Rattle.v_tree.specs.Signals as T
 use Rattle.v_tree.specs.Signals.{Kind, net, variable, InitialValue, signals, processes, initials, items_of}
 use Rattle.v_tree.specs.Statements.{doing_of}
 use Rattle.v_tree.specs.Reading.{name_of as signal_name, declared_names, declared_ports, edge_names, process_names, AreOfKind, KeepsRules, InitialFits, WellFormedModule, WellFormed, FitsTop}
-use Rattle.v_tree.specs.declared.tree.VEdge.{VEdge}
-use Rattle.v_tree.specs.declared.tree.VModule.{VModule}
-use Rattle.lower_design.specs.Translatable.{Translatable, KindFits, EdgeFits, OneDriver, IsVariable, is_input, path_of, targets_by, targets_of}
+use Rattle.lower_design.specs.Translatable.{Translatable, KindFits, OneDriver, is_input, path_of, targets_by, targets_of}
 use Rattle.lower_design.specs.Shape.{name_of, path_or_nothing, trigger, is_port}
 use Rattle.lower_design.specs.Lowered.{branch, triggered, lowered_stmt, lowered_expr, lowered_edge, is_driven, drives, drives_in, drives_by, is_triggered, lowered_items, lowered_module, lowered}
-use Rattle.lower_design.proofs.Names.{true_or_false, not-among, named-once, member-at, at-member, first_fresh, rest_distinct, distinct_more}
+use Rattle.lower_design.proofs.Names.{true_or_false, named-once, member-at, first_fresh, rest_distinct, distinct_more}
 use Rattle.lower_design.proofs.Levels.{assign-level, assign-out}
-use Rattle.lower_design.proofs.Runs.{append-nil, Found, names-of, body-same, triggered-same}
+use Rattle.lower_design.proofs.Runs.{names-of, body-same, triggered-same}
 use Rattle.lower_design.proofs.Items.{kind_of, image_of, images, trigger_signal, helpers, trigger_value, values, target, target_by, has_comb, all-signals, all-initials, all-processes, top-items, range_keeps, image-names, ts, trigger-fresh, names-distinct, found-below, get-below}
 use Rattle.lower_design.proofs.Machines.{names-apart, below-get}
 use Rattle.lower_design.proofs.Extension.{UsesSignals, AllBelow, uses-signals, driver-of, target-driver}
@@ -72,7 +68,7 @@ ports-same driven b k (s ∷ ss) = pick (is_port s.kind) (ports-same driven b (s
   where
     pick : (p : Bool) → map signal_name (filter port_test (images driven (suc k) ss ++ helpers b)) ≡ map path_of (filter source_port ss)
         → map signal_name (cond p (image_of (driven k) s ∷ filter port_test (images driven (suc k) ss ++ helpers b)) (filter port_test (images driven (suc k) ss ++ helpers b)))
-          ≡ map path_of (cond p (s ∷ filter source_port ss) (filter source_port ss))
+        ≡ map path_of (cond p (s ∷ filter source_port ss) (filter source_port ss))
     pick true e = ap (λ ns. s.path ∷ ns) e
     pick false e = e
 
@@ -383,6 +379,6 @@ module _ (d : Design) (t : Translatable d) where
     present = inl refl;
     bits =
         (let e : sum (map (λ (s : T.Signal). s.width) (signals (items_of (lowered d).modules d.top))) ≡ sum (map (λ (s : T.Signal). s.width) us) =
-            ap (λ xs. sum (map (λ (s : T.Signal). s.width) (signals xs))) (top-items d) ∙ ap (λ xs. sum (map (λ (s : T.Signal). s.width) xs)) items in
+        ap (λ xs. sum (map (λ (s : T.Signal). s.width) (signals xs))) (top-items d) ∙ ap (λ xs. sum (map (λ (s : T.Signal). s.width) xs)) items in
         omega (arith, e, sum-images (is_driven ps) (has_comb ps) 0 ss t.some_bits, t.all_bits));
   }

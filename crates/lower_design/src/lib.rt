@@ -5,5 +5,4 @@ mod declare;
 mod module;
 mod process;
 
-
 pub use module::lower;

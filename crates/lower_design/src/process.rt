@@ -160,10 +160,7 @@ fn with_trigger(alloc: Global, stmt: VStmt) -> Result<VBranch, AllocError>
     let mut stmts = Items::new(alloc);
     stmts.push(trigger_line(alloc)?)?;
     stmts.append(lines(alloc, stmt)?)?;
-    Ok(VBranch::Statement(Boxed::new(
-        alloc,
-        VStmt::Block(stmts),
-    )?))
+    Ok(VBranch::Statement(Boxed::new(alloc, VStmt::Block(stmts))?))
 }
 
 /// The edges of an `always`.

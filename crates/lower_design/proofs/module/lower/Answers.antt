@@ -1,5 +1,4 @@
 use Rattle.std.proofs.Common.{rules}
-use Rattle.lower_design.specs.Lowering.{Lowers}
 use Rattle.lower_design.proofs.Right.{lowers}
 use Rattle.lower_design.proofs.module.lower.Goals as goal
 
