@@ -1,5 +1,5 @@
 -- One level of a statement at a time: what a fold over statements gives for each variant.
-use Rattle.std.proofs.Common.{◌≡◌, ◌⊎◌, ℕ, Bool, List, [], ◌∷◌, map, Some, None, refl, sym, ap, ◌∙◌, inl, inr}
+use Rattle.std.proofs.Common.{◌≡◌, ◌⊎◌, ℕ, Bool, List, [], ◌∷◌, map, Option, Some, None, refl, sym, ap, ◌∙◌, inl, inr}
 use Rattle.sv_types.specs.declared.design.Expr.{Expr}
 use Rattle.sv_types.specs.declared.design.Stmt.{Stmt, Stmt-F, fold-Stmt, fold-roll-Stmt, out-Stmt, out-roll-Stmt}
 use Rattle.sv_types.specs.declared.design.Stmt.TheVariants.{Block, If, Assign, rolls-Block, rolls-If, rolls-Assign}
@@ -13,7 +13,7 @@ use Rattle.v_tree.specs.declared.tree.VExpr.{VExpr, VExpr-F, fold-VExpr, fold-ro
 use Rattle.v_tree.specs.declared.tree.VExpr.TheVariants as E
 use Rattle.v_tree.specs.declared.tree.VBranch.{VBranch, VBranch-F, fold-VBranch, fold-roll-VBranch}
 use Rattle.v_tree.specs.declared.tree.VBranch.TheVariants.{Statement, Empty, rolls-Statement, rolls-Empty}
-use Rattle.v_tree.specs.declared.tree.VStmt.{VStmt, VStmt-F, fold-VStmt, fold-roll-VStmt, roll-VStmt, out-VStmt, roll-out-VStmt}
+use Rattle.v_tree.specs.declared.tree.VStmt.{VStmt, VStmt-F, fold-VStmt, fold-roll-VStmt, roll-VStmt, out-VStmt, out-roll-VStmt, roll-out-VStmt}
 use Rattle.v_tree.specs.declared.tree.VStmt.TheVariants as V
 use Rattle.lower_design.specs.Lowered.{lines, lines_of}
 
@@ -95,3 +95,13 @@ lines-are s = inner (out-VStmt s) refl
         inl (sym (roll-out-VStmt s) ∙ ap roll-VStmt e ∙ V.rolls-Block ss ∙ ap V.Block (sym (ap (lines_of s) e)))
     inner (VStmt-F.If on body other) e = inr (ap (lines_of s) e)
     inner (VStmt-F.Assign target value later) e = inr (ap (lines_of s) e)
+
+pub lines-block : (ss : List VStmt) → lines (V.Block ss) ≡ ss
+lines-block ss = ap (lines_of (V.Block ss)) (ap out-VStmt (sym (V.rolls-Block ss)) ∙ out-roll-VStmt (VStmt-F.Block ss))
+
+pub lines-if : (on : VExpr) (body : VBranch) (other : Option VBranch) → lines (V.If on body other) ≡ V.If on body other ∷ []
+lines-if on body other = ap (lines_of (V.If on body other)) (ap out-VStmt (sym (V.rolls-If on body other)) ∙ out-roll-VStmt (VStmt-F.If on body other))
+
+pub lines-assign : (target : Name) (value : VExpr) (later : Bool) → lines (V.Assign target value later) ≡ V.Assign target value later ∷ []
+lines-assign target value later =
+    ap (lines_of (V.Assign target value later)) (ap out-VStmt (sym (V.rolls-Assign target value later)) ∙ out-roll-VStmt (VStmt-F.Assign target value later))

@@ -15,3 +15,4 @@ pub mod Grammar
 pub mod WellFormed
 pub mod Shapes
 pub mod Right
+pub mod Examples
