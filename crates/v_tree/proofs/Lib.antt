@@ -1,0 +1,3 @@
+pub mod engine
+pub mod Fitness
+pub mod OneReading
