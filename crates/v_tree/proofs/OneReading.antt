@@ -9,8 +9,8 @@ use Rattle.v_tree.specs.Meaning.{design_of}
 use Rattle.v_tree.specs.Reading.{VReads, nesting_limit}
 use Rattle.v_tree.proofs.Fitness.{table-fits}
 
-pub one-design : (bytes : List ℕ) (e f : VDesign) → VReads bytes e → VReads bytes f → e ≡ f
-one-design bytes e f a b =
+pub one_design : (bytes : List ℕ) (e f : VDesign) → VReads bytes e → VReads bytes f → e ≡ f
+one_design bytes e f a b =
     sym a.means
     ∙ ap (design_of (tokens bytes)) (one_reading table table-fits (map symbol (tokens bytes)) nesting_limit nesting_limit a.tree b.tree a.reading b.reading)
     ∙ b.means

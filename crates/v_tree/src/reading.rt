@@ -1,0 +1,9 @@
+//! A law of texts and designs.
+
+ghost use Rattle.v_tree.specs.Reading.{OneDesign};
+
+/// The law that a text reads as one design at most.
+#[tactic(auto, using(crate::proofs::OneReading::one_design))]
+pub fn reads_once()
+    ensures { OneDesign }
+{}
