@@ -1,9 +1,8 @@
 -- Small target texts: their tokens, and what a derivation of them means.
-use Rattle.std.proofs.Common.{◌≡◌, ℕ, true, List, [], ◌∷◌, ◌++◌, map, codes, Option, Some, None, refl}
+use Rattle.std.proofs.Common.{◌≡◌, ℕ, true, List, [], ◌∷◌, map, codes, Some, refl}
 use Rattle.ll_engine.specs.declared.tree.Tree.{Tree}
 use Rattle.ll_engine.specs.declared.tree.Tree.TheVariants.{Leaf, Node}
 use Rattle.v_tree.specs.declared.tree.VStmt.TheVariants as S
-use Rattle.v_tree.specs.declared.tree.VStmt.{VStmt}
 use Rattle.v_tree.specs.declared.tree.VPrim.TheVariants.{Name}
 use Rattle.v_tree.specs.declared.tree.VExpr.TheVariants.{Prim}
 use Rattle.v_tree.specs.declared.tree.VBranch.TheVariants.{Statement, Empty}
@@ -11,7 +10,7 @@ use Rattle.v_tree.specs.Reserved.{reserved_words}
 use Rattle.v_tree.specs.Tokens.{tokens}
 use Rattle.v_tree.specs.Symbols.{symbol}
 use Rattle.v_tree.specs.Symbols as symbol
-use Rattle.v_tree.specs.Meaning.{Parts, parts_of, a_stmt}
+use Rattle.v_tree.specs.Meaning.{parts_of, a_stmt}
 use Rattle.v_tree.proofs.Derivations.{leaf-parts, node-parts}
 
 sample : List ℕ

@@ -6,7 +6,6 @@ use Rattle.b4_core.specs.declared.operators.BinOp.{BinOp}
 use Rattle.b4_core.specs.declared.operators.BinOp.TheVariants.{And, Or, Xor, Xnor, Add, Sub, Mul, Div, Rem}
 use Rattle.b4_core.specs.declared.operators.UnOp.{UnOp}
 use Rattle.b4_core.specs.declared.operators.UnOp.TheVariants.{Not, Neg}
-use Rattle.v_tree.specs.Names.{Name}
 use Rattle.v_tree.specs.Tokens.{is_simple}
 use Rattle.v_tree.specs.Reading.{nesting_limit}
 use Rattle.v_tree.specs.declared.tree.VBranch.{VBranch, VBranch-F, fold-VBranch}
@@ -15,10 +14,10 @@ use Rattle.v_tree.specs.declared.tree.VExpr.{VExpr, VExpr-F, fold-VExpr}
 use Rattle.v_tree.specs.declared.tree.VItem.{VItem}
 use Rattle.v_tree.specs.declared.tree.VItem.TheVariants.{Input, Output, OutputReg, Wire, Reg, Initial, Assign, Always}
 use Rattle.v_tree.specs.declared.tree.VModule.{VModule}
-use Rattle.v_tree.specs.declared.tree.VPrim.{VPrim, VPrim-F, fold-VPrim}
+use Rattle.v_tree.specs.declared.tree.VPrim.{VPrim-F}
 use Rattle.v_tree.specs.declared.tree.VSensitivity.{VSensitivity}
 use Rattle.v_tree.specs.declared.tree.VSensitivity.TheVariants.{Star, Edges}
-use Rattle.v_tree.specs.declared.tree.VStmt.{VStmt, VStmt-F, fold-VStmt}
+use Rattle.v_tree.specs.declared.tree.VStmt.{VStmt-F}
 use Rattle.v_tree.specs.declared.tree.VDesign.{VDesign}
 
 -- the table has `&`, `|` and `^`, and `~`

@@ -9,7 +9,7 @@ use Rattle.v_tree.specs.declared.tree.VModule.{VModule}
 use Rattle.v_tree.specs.declared.tree.VDesign.{VDesign}
 use Rattle.v_tree.specs.Names.{Name, distinct}
 use Rattle.v_tree.specs.Value.{meaning}
-use Rattle.v_tree.specs.Signals.{Kind, input_net, net, variable, Signal, Process, assign, star, on_edges, InitialValue, signals, processes, initials, items_of}
+use Rattle.v_tree.specs.Signals.{Kind, net, variable, Signal, Process, assign, star, on_edges, InitialValue, signals, processes, initials, items_of}
 use Rattle.v_tree.specs.Statements.{doing_of}
 use Rattle.v_tree.specs.Tokens.{tokens}
 use Rattle.v_tree.specs.Symbols.{symbol}

@@ -3,7 +3,6 @@
 ghost use Rattle.v_tree.specs.Reading.{OneDesign};
 
 /// The law that a text reads as one design at most.
-#[tactic(auto, using(crate::proofs::OneReading::one_design))]
 pub fn reads_once()
     ensures { OneDesign }
 {}
