@@ -1,5 +1,5 @@
 -- The form of an expression or a statement, one level at a time.
-use Rattle.std.proofs.Common.{◌≡◌, ℕ, Bool, List, map, Option, Some, None, sym, ap, ◌∙◌}
+use Rattle.std.proofs.Common.{◌≡◌, ℕ, Bool, List, map, Some, None, sym, ap, ◌∙◌}
 use Rattle.b4_core.specs.declared.bit.Bit4.{Bit4}
 use Rattle.b4_core.specs.declared.operators.BinOp.{BinOp}
 use Rattle.b4_core.specs.declared.operators.UnOp.{UnOp}
@@ -9,15 +9,12 @@ use Rattle.v_tree.specs.declared.tree.VExpr.{VExpr, VExpr-F, fold-roll-VExpr}
 use Rattle.v_tree.specs.declared.tree.VExpr.TheVariants.{Prim, Unary, Binary, rolls-Prim, rolls-Unary, rolls-Binary}
 use Rattle.v_tree.specs.declared.tree.VBranch.{VBranch, VBranch-F, fold-roll-VBranch}
 use Rattle.v_tree.specs.declared.tree.VBranch.TheVariants.{Statement, Empty, rolls-Statement, rolls-Empty}
-use Rattle.v_tree.specs.declared.tree.VStmt.{VStmt, VStmt-F, fold-VStmt, fold-roll-VStmt}
+use Rattle.v_tree.specs.declared.tree.VStmt.{VStmt, VStmt-F, fold-roll-VStmt}
 use Rattle.v_tree.specs.declared.tree.VStmt.TheVariants.{Block, If, Assign, rolls-Block, rolls-If, rolls-Assign}
-use Rattle.v_tree.specs.Grammatical.{Form, prim_form, expr_form, form, branch_form, if_form, stmt_form, form_of_branch}
+use Rattle.v_tree.specs.Grammatical.{Form, prim_form, expr_form, form, branch_form, if_form, stmt_form, form_of_stmt, form_of_branch}
 
 abbrev pub form_of_prim : VPrim → Form
 form_of_prim = fold-VPrim Form Form expr_form prim_form
-
-abbrev pub form_of_stmt : VStmt → Form
-form_of_stmt = fold-VStmt Form Form branch_form stmt_form
 
 pub number-form : (bits : List Bit4) → form_of_prim (Number bits) ≡ prim_form (VPrim-F.Number bits)
 number-form bits = ap form_of_prim (sym (rolls-Number bits)) ∙ fold-roll-VPrim Form Form expr_form prim_form (VPrim-F.Number bits)

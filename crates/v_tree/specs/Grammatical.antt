@@ -17,7 +17,7 @@ use Rattle.v_tree.specs.declared.tree.VModule.{VModule}
 use Rattle.v_tree.specs.declared.tree.VPrim.{VPrim-F}
 use Rattle.v_tree.specs.declared.tree.VSensitivity.{VSensitivity}
 use Rattle.v_tree.specs.declared.tree.VSensitivity.TheVariants.{Star, Edges}
-use Rattle.v_tree.specs.declared.tree.VStmt.{VStmt-F}
+use Rattle.v_tree.specs.declared.tree.VStmt.{VStmt, VStmt-F, fold-VStmt}
 use Rattle.v_tree.specs.declared.tree.VDesign.{VDesign}
 
 -- the table has `&`, `|` and `^`, and `~`
@@ -88,6 +88,9 @@ abbrev pub stmt_form : VStmt-F Form Form → Form
 stmt_form (VStmt-F.Block fs) = record { fits = all_fit fs; depth = suc (deepest fs); closed = true }
 stmt_form (VStmt-F.If on then other) = if_form on then other
 stmt_form (VStmt-F.Assign target value later) = record { fits = is_simple target && (form value).fits; depth = suc (form value).depth; closed = true }
+
+abbrev pub form_of_stmt : VStmt → Form
+form_of_stmt = fold-VStmt Form Form branch_form stmt_form
 
 abbrev pub form_of_branch : VBranch → Form
 form_of_branch = fold-VBranch Form Form branch_form stmt_form
