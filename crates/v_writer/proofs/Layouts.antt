@@ -1,5 +1,5 @@
 -- The bytes of a layout, one level of a tree at a time.
-use Rattle.std.proofs.Common.{◌≡◌, ℕ, Bool, true, List, [], ◌∷◌, ◌++◌, codes, map, flat_map, drop, length, slice_index_or, decimal, Option, Some, None, ◌<◌, ◌+◌, zero, suc, add-one, refl, sym, ap, ◌∙◌, append_assoc, arith}
+use Rattle.std.proofs.Common.{◌≡◌, ℕ, Bool, true, List, [], ◌∷◌, ◌++◌, codes, map, flat_map, drop, length, slice_index_or, decimal, Option, Some, None, Result, Ok, Err, OnOk, ◌<◌, ◌+◌, zero, suc, add-one, refl, sym, ap, ◌∙◌, append_assoc, arith}
 use Rattle.std.specs.List.{list_all}
 use Rattle.std.proofs.lemmas.Bool.{and_parts}
 use Rattle.std.proofs.lemmas.Fmt.{decimal_digit}
@@ -14,8 +14,9 @@ use Rattle.v_tree.specs.declared.tree.VBranch.{VBranch, VBranch-F, fold-roll-VBr
 use Rattle.v_tree.specs.declared.tree.VBranch.TheVariants.{Statement, Empty, rolls-Statement, rolls-Empty}
 use Rattle.v_tree.specs.declared.tree.VStmt.{VStmt, VStmt-F, fold-roll-VStmt}
 use Rattle.v_tree.specs.declared.tree.VStmt.TheVariants.{Block, If, Assign, rolls-Block, rolls-If, rolls-Assign}
+use Rattle.v_tree.specs.declared.tree.VModule.{VModule}
 use Rattle.v_tree.specs.Grammatical.{deepest, form_of_stmt}
-use Rattle.v_writer.specs.Layout.{Piece, space, line, word, mark, piece_bytes, bytes_of, prim_pieces, expr_pieces, prim_layout, expr_layout, store_layout, lines_layout, else_of, stmt_pieces, branch_pieces, stmt_layout, branch_layout, indentation}
+use Rattle.v_writer.specs.Layout.{Piece, space, line, word, mark, piece_bytes, bytes_of, prim_pieces, expr_pieces, prim_layout, expr_layout, store_layout, lines_layout, else_of, stmt_pieces, branch_pieces, stmt_layout, branch_layout, indentation, header_layout, items_layout, module_layout}
 
 pub number-layout : (bits : List Bit4) → prim_layout (Number bits) ≡ prim_pieces (VPrim-F.Number bits)
 number-layout bits = ap prim_layout (sym (rolls-Number bits)) ∙ fold-roll-VPrim (List Piece) (List Piece) expr_pieces prim_pieces (VPrim-F.Number bits)
@@ -120,6 +121,21 @@ pub two-turn : (t u v a b before behind whole : List ℕ) → u ≡ t ++ a → v
     → v ++ behind ≡ whole
 two-turn t u v a b before behind whole first second step rest =
     turn u v b (b ++ behind) behind whole second refl (turn t u a before (b ++ behind) whole first step rest)
+
+pub module-written : (m : VModule) (start one two three : List ℕ) → one ≡ start ++ bytes_of (header_layout m)
+    → two ≡ one ++ bytes_of (items_layout m.items) → three ≡ two ++ codes "\nendmodule\n" → three ≡ start ++ bytes_of (module_layout m)
+module-written m start one two three first second third =
+    let header = bytes_of (header_layout m) in
+    let items = bytes_of (items_layout m.items) in
+    third ∙ ap (λ w. w ++ codes "\nendmodule\n") (second ∙ ap (λ w. w ++ items) first)
+    ∙ append_assoc (start ++ header) items (codes "\nendmodule\n")
+    ∙ append_assoc start header (items ++ codes "\nendmodule\n")
+    ∙ ap (λ w. start ++ (header ++ w)) (sym (bytes-append (items_layout m.items) (line 0 ∷ word (codes "endmodule") ∷ line 0 ∷ [])))
+    ∙ ap (λ w. start ++ w) (sym (bytes-append (header_layout m) (items_layout m.items ++ line 0 ∷ word (codes "endmodule") ∷ line 0 ∷ [])))
+
+pub on_ok : {A E P Q : Type 0} (r : Result A E) → (P → Q) → OnOk r P → OnOk r Q
+on_ok (Ok x) f h = f h
+on_ok (Err e) f h = h
 
 -- a list with an element is its first one and the others
 pub whole : {A : Type 0} (xs : List A) (x : A) → 0 < length xs → x ≡ slice_index_or xs 0 x → x ∷ drop 1 xs ≡ xs

@@ -208,10 +208,11 @@ ports_layout (n ∷ ns) = space ∷ mark (codes "(") ∷ name n ∷ (further_por
 abbrev pub items_layout : List VItem → List Piece
 items_layout items = flat_map (λ i. line 1 ∷ item_layout i) items
 
+abbrev pub header_layout : VModule → List Piece
+header_layout m = word (codes "module") ∷ space ∷ name m.name ∷ (ports_layout m.ports ++ mark (codes ";") ∷ [])
+
 abbrev pub module_layout : VModule → List Piece
-module_layout m =
-    word (codes "module") ∷ space ∷ name m.name
-    ∷ (ports_layout m.ports ++ mark (codes ";") ∷ (items_layout m.items ++ line 0 ∷ word (codes "endmodule") ∷ line 0 ∷ []))
+module_layout m = header_layout m ++ (items_layout m.items ++ line 0 ∷ word (codes "endmodule") ∷ line 0 ∷ [])
 
 abbrev pub text_layout : VDesign → List Piece
 text_layout d = flat_map module_layout d.modules

@@ -4,7 +4,7 @@ ghost use Rattle.std.specs.Prelude.{◌≡◌, ◌<◌, ◌≤◌, ◌^◌, ◌+
 ghost use Rattle.std.specs.List.{list_all};
 ghost use Rattle.v_tree.specs.Tokens.{Token};
 ghost use Rattle.v_tree.specs.Grammatical.{deepest, form_of_stmt, form_of_branch, is_branch, is_item, is_module, is_of_grammar};
-ghost use Rattle.v_writer.specs.Layout.{indentation, spelling, bytes_of, unary_mark, binary_mark, bit_digit, prim_layout, expr_layout, range_layout, declaration_layout, store_mark, store_layout, number, lines_layout, else_of, else_depth, stmt_layout, branch_layout, edge_word, edge_layout, further_edges, edges_layout, sensitivity_layout, always_layout, item_layout, items_layout, further_ports, ports_layout, module_layout, text_of};
+ghost use Rattle.v_writer.specs.Layout.{indentation, spelling, bytes_of, unary_mark, binary_mark, bit_digit, prim_layout, expr_layout, range_layout, declaration_layout, store_mark, store_layout, number, lines_layout, else_of, else_depth, stmt_layout, branch_layout, edge_word, edge_layout, further_edges, edges_layout, sensitivity_layout, always_layout, item_layout, items_layout, further_ports, ports_layout, header_layout, module_layout, text_of};
 
 use b4_core::{BinOp, Bit4, UnOp, Vec4};
 use itoa::Buffer;
@@ -426,16 +426,24 @@ fn write_items(items: &[VItem], to: &mut Text) -> Result<(), AllocError>
     Ok(())
 }
 
+/// Appends the header of a module.
+#[tactic(auto, using(crate::proofs::Layouts::writing))]
+fn write_header(m: &VModule, to: &mut Text) -> Result<(), AllocError>
+    ensures { OnOk result (to.new ≡ to.old ++ bytes_of (header_layout m.now)) }
+{
+    to.push_bytes(b"module ")?;
+    to.push_bytes(m.name.as_bytes())?;
+    write_ports(m.ports.as_slice(), to)?;
+    to.push_bytes(b";")
+}
+
 /// Appends a module.
 #[tactic(auto, using(crate::proofs::Layouts::writing))]
 fn write_module(m: &VModule, to: &mut Text) -> Result<(), AllocError>
     requires { is_module m.now ≡ true }
     ensures { OnOk result (to.new ≡ to.old ++ bytes_of (module_layout m.now)) }
 {
-    to.push_bytes(b"module ")?;
-    to.push_bytes(m.name.as_bytes())?;
-    write_ports(m.ports.as_slice(), to)?;
-    to.push_bytes(b";")?;
+    write_header(m, to)?;
     write_items(m.items.as_slice(), to)?;
     to.push_bytes(b"\nendmodule\n")
 }
