@@ -1,3 +1,4 @@
 pub mod Layouts
 pub mod Spelled
 pub mod Written
+pub mod WrittenItems

@@ -177,7 +177,7 @@ abbrev pub ExprOn : VExpr → Type 0
 ExprOn x = (form x).fits ≡ true → (ps : List Piece) → ends ps ≡ true → IsRead ps → IsRead (expr_layout x ++ ps)
 
 -- the form of a tree by that of its parts
-fits-as : {f g : Form} → f ≡ g → f.fits ≡ true → g.fits ≡ true
+pub fits-as : {f g : Form} → f ≡ g → f.fits ≡ true → g.fits ≡ true
 fits-as e h = ap (λ (f : Form). f.fits) (sym e) ∙ h
 
 number-prim-on : (bits : List Bit4) → PrimOn (Number bits)
