@@ -14,7 +14,7 @@ use Rattle.v_tree.proofs.engine.Firsts as Firsts
 abbrev pub disjoint : List ℕ → List ℕ → Bool
 disjoint xs ys = list_all (λ x. not (has ys x)) xs
 
-apart : (xs ys : List ℕ) (a : ℕ) → disjoint xs ys ≡ true → has xs a ≡ true → has ys a ≡ true → ⊥
+pub apart : (xs ys : List ℕ) (a : ℕ) → disjoint xs ys ≡ true → has xs a ≡ true → has ys a ≡ true → ⊥
 apart [] ys a e h k = false≢true h
 apart (x ∷ xs) ys a e h k =
     let parts = and_parts (not (has ys x)) (disjoint xs ys) e in
