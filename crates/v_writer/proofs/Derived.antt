@@ -37,7 +37,7 @@ use Rattle.v_writer.proofs.Written.{tokens-append, fits-as}
 use Rattle.v_writer.proofs.Rows
 use Rattle.v_writer.proofs.Phrases.{Phrase, Derived, front, ended, symbol-read, by-row, non-read, maybe-read, many-read, left-out, tokens-are, derived-tokens}
 
-abbrev mark_of : List ℕ → Token
+abbrev pub mark_of : List ℕ → Token
 mark_of bytes = Token.mark bytes
 
 -- what follows what was read first
@@ -45,7 +45,7 @@ pub front-append : (ts us : List Token) (after : Option ℕ) → front (ts ++ us
 front-append [] us after = refl
 front-append (t ∷ ts) us after = refl
 
-depth-as : {f g : Form} (n : ℕ) → f ≡ g → n + f.depth ≤ nesting_limit → n + g.depth ≤ nesting_limit
+pub depth-as : {f g : Form} (n : ℕ) → f ≡ g → n + f.depth ≤ nesting_limit → n + g.depth ≤ nesting_limit
 depth-as n e h = subst (λ (f : Form). n + f.depth ≤ nesting_limit) e h
 
 -- the symbol doesn't go on an expression, or an `if`

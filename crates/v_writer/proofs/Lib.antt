@@ -5,3 +5,4 @@ pub mod WrittenItems
 pub mod Phrases
 pub mod Rows
 pub mod Derived
+pub mod DerivedStatements
