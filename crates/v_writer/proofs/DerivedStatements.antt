@@ -14,7 +14,7 @@ use Rattle.v_tree.specs.Tokens.{Token, is_simple}
 use Rattle.v_tree.specs.Symbols as symbol
 use Rattle.v_tree.specs.Table as T
 use Rattle.v_tree.specs.Table.{table}
-use Rattle.v_tree.specs.Meaning.{Parts, nothing, a_stmt, a_branch}
+use Rattle.v_tree.specs.Meaning.{Parts, nothing, first_of, a_stmt, a_branch}
 use Rattle.v_tree.specs.Grammatical.{Form, form, all_fit, deepest, form_of_stmt, form_of_branch}
 use Rattle.v_tree.specs.Reading.{nesting_limit}
 use Rattle.v_tree.proofs.Fitness.{first, blank, firsts-closed, never}
@@ -144,3 +144,111 @@ module _ (all : List Token) where
           (non-read all {us = behind} (mark-read later (suc around) (front behind after) here)
           (non-read all value
           (symbol-read all (mark_of (codes ";")) refl here (ended all (suc around) (suc around) after))))) refl)))
+
+  abbrev branch_and_else : VBranch → Option VBranch → ℕ → List Piece
+  branch_and_else b other depth = branch_layout b depth ++ else_of depth other
+
+  -- the tokens of an `if`, part by part
+  if-tokens : (on : VExpr) (b : VBranch) (other : Option VBranch) (depth : ℕ)
+      → word_of (codes "if") ∷ mark_of (codes "(")
+      ∷ (tokens_of (expr_layout on) ++ mark_of (codes ")") ∷ (tokens_of (branch_layout b depth) ++ tokens_of (else_of depth other)))
+      ≡ tokens_of (stmt_layout (S.If on b other) depth)
+  if-tokens on b other depth =
+      ap (λ ts. word_of (codes "if") ∷ mark_of (codes "(") ∷ (tokens_of (expr_layout on) ++ mark_of (codes ")") ∷ ts))
+      (sym (tokens-append (branch_layout b depth) (else_of depth other)))
+      ∙ ap (λ ts. word_of (codes "if") ∷ mark_of (codes "(") ∷ ts)
+      (sym (tokens-append (expr_layout on) (mark (codes ")") ∷ space ∷ branch_and_else b other depth)))
+      ∙ ap tokens_of (sym (if-layout on b other depth))
+
+  if-begins : (on : VExpr) (b : VBranch) (other : Option VBranch) → StmtBegins (S.If on b other)
+  if-begins on b other depth after =
+      subst (λ l. IsBegun table (Non T.stmt ∷ []) (front (tokens_of l) after)) (sym (if-layout on b other depth))
+      (Begins.inside refl Rows.row_if (Begins.itself refl))
+
+  abbrev elses_of : Option VBranch → List VBranch
+  elses_of None = []
+  elses_of (Some c) = c ∷ []
+
+  -- an `if` whose parts are read
+  if-row : (on : VExpr) (b : VBranch) (other : Option VBranch) (depth around : ℕ) (after : Option ℕ) → suc around + (form on).depth ≤ nesting_limit
+      → (form on).fits ≡ true
+      → Derived all T.snull (suc around) (tokens_of (branch_layout b depth)) (front (tokens_of (else_of depth other)) after) (a_branch b)
+      → Phrase all (suc around) (suc around) (Maybe T.else_part ∷ []) (tokens_of (else_of depth other)) after (record nothing { branches = elses_of other })
+      → first_of (elses_of other) ≡ other
+      → Derived all T.stmt around (tokens_of (stmt_layout (S.If on b other) depth)) after (a_stmt (S.If on b other))
+  if-row on b other depth around after low fits branch rest same =
+      let here : suc around ≤ nesting_limit = omega (arith, low) in
+      let behind = mark_of (codes ")") ∷ (tokens_of (branch_layout b depth) ++ tokens_of (else_of depth other)) in
+      derived-tokens all (if-tokens on b other depth)
+      (by-row all around Rows.row_if (Begins.itself refl)
+      (symbol-read all (word_of (codes "if")) refl here
+      (symbol-read all (mark_of (codes "(")) refl here
+      (non-read all {us = behind} (expr-read all on fits (suc around) (Some symbol.right_paren) low (never (Maybe T.rest ∷ []) 22 refl))
+      (symbol-read all (mark_of (codes ")")) refl here
+      (non-read all branch rest)))))
+      (ap (λ o. a_stmt (S.If on b o)) same))
+
+  -- no `else`
+  plain-if-read : (on : VExpr) (b : VBranch) → BranchRead b → StmtRead (S.If on b None)
+  plain-if-read on b read =
+      (if-begins on b None,
+      (λ fits depth around after low stops.
+          let low_inside = depth-as around (if-form on b) low in
+          let parts = and_parts (form on).fits (form_of_branch b).fits (fits-as (if-form on b) fits) in
+          let no_else = stops (closed-as (if-form on b) refl) in
+          if-row on b None depth around after (omega (arith, low_inside)) parts.0
+          (read parts.1 depth (suc around) after (omega (arith, low_inside)) (omega (arith, low_inside)) (λ open_end. no_else))
+          (left-out all refl no_else (ended all (suc around) (suc around) after)) refl))
+
+  closed-open : (b : Bool) → b ≡ true → b ≡ false → ⊥
+  closed-open b e f = false≢true (sym f ∙ e)
+
+  else-read : (on : VExpr) (b c : VBranch) → BranchRead b → BranchRead c → StmtRead (S.If on b (Some c))
+  else-read on b c first_branch second_branch =
+      (if-begins on b (Some c),
+      (λ fits depth around after low stops.
+          let low_inside = depth-as around (if-else-form on b c) low in
+          let both = and_parts ((form on).fits && (form_of_branch b).fits && (form_of_branch b).closed) (form_of_branch c).fits (fits-as (if-else-form on b c) fits) in
+          let two = and_parts ((form on).fits && (form_of_branch b).fits) (form_of_branch b).closed both.0 in
+          let parts = and_parts (form on).fits (form_of_branch b).fits two.0 in
+          let here : suc around ≤ nesting_limit = omega (arith, low_inside) in
+          let behind = tokens_of (else_of depth (Some c)) in
+          let second = second_branch both.1 depth (suc around) after (omega (arith, low_inside)) here
+              (λ open_end. stops (closed-as (if-else-form on b c) open_end)) in
+          if-row on b (Some c) depth around after (omega (arith, low_inside)) parts.0
+          (first_branch parts.1 depth (suc around) (front behind after) (omega (arith, low_inside)) here
+          (λ open_end. absurd (closed-open (form_of_branch b).closed two.1 open_end)))
+          (tokens-are all (append-nil behind)
+          (maybe-read all
+          (by-row all (suc around) Rows.row_else (Begins.itself refl)
+          (symbol-read all (word_of (codes "else")) refl here
+          (tokens-are all (append-nil (tokens_of (branch_layout c depth)))
+          (non-read all second (ended all (suc around) (suc around) after)))) refl)
+          (ended all (suc around) (suc around) after))) refl))
+
+  choice-read : (on : VExpr) (b : VBranch) (other : Option VBranch) → BranchRead b → Perhaps BranchRead other → StmtRead (S.If on b other)
+  choice-read on b None read others = plain-if-read on b read
+  choice-read on b (Some c) read others = else-read on b c read others
+
+  statement-read : (s : VStmt) → StmtRead s → BranchRead (Statement s)
+  statement-read s read fits depth around after low here stops =
+      let inner = read.1 (fits-as (statement-form s) fits) depth around after (depth-as around (statement-form s) low)
+          (λ open_end. stops (closed-as (statement-form s) open_end)) in
+      derived-tokens all (append-nil (tokens_of (stmt_layout s depth)) ∙ ap tokens_of (sym (statement-layout s depth)))
+      (by-row all around Rows.row_statement
+      (subst (λ x. IsBegun table (Non T.stmt ∷ []) x) (sym (front-append (tokens_of (stmt_layout s depth)) [] after)) (read.0 depth after))
+      (non-read all inner (ended all around around after)) refl)
+
+  empty-read : BranchRead Empty
+  empty-read fits depth around after low here stops =
+      derived-tokens all (ap tokens_of (sym (empty-layout depth)))
+      (by-row all around Rows.row_empty (Begins.itself refl) (symbol-read all (mark_of (codes ";")) refl here (ended all around around after)) refl)
+
+  pub branch-read : (b : VBranch) → BranchRead b
+  branch-read = ind-branch StmtRead BranchRead (record {
+    block = block-read;
+    choice = choice-read;
+    assign = store-read;
+    statement = statement-read;
+    empty = empty-read;
+  })
