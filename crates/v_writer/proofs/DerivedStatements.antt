@@ -29,7 +29,7 @@ use Rattle.v_writer.proofs.Rows
 use Rattle.v_writer.proofs.Phrases.{Phrase, Derived, front, ended, symbol-read, by-row, non-read, maybe-read, many-read, left-out, tokens-are, derived-tokens}
 use Rattle.v_writer.proofs.Derived.{mark_of, front-append, depth-as, StopsIf, expr-read}
 
-abbrev word_of : List ℕ → Token
+abbrev pub word_of : List ℕ → Token
 word_of bytes = Token.word bytes
 
 -- what begins a statement is no `else`
@@ -43,7 +43,7 @@ closed-as : {f g : Form} → f ≡ g → g.closed ≡ false → f.closed ≡ fal
 closed-as e h = ap (λ (f : Form). f.closed) e ∙ h
 
 -- the tokens of an assignment
-store-tokens : (n : List ℕ) (later : Bool) (x : VExpr)
+pub store-tokens : (n : List ℕ) (later : Bool) (x : VExpr)
     → Token.name n ∷ mark_of (store_mark later) ∷ (tokens_of (expr_layout x) ++ mark_of (codes ";") ∷ [])
     ≡ tokens_of (store_layout n later (expr_layout x))
 store-tokens n later x = ap (λ ts. Token.name n ∷ mark_of (store_mark later) ∷ ts) (sym (tokens-append (expr_layout x) (mark (codes ";") ∷ [])))

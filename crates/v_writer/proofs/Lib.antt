@@ -6,3 +6,4 @@ pub mod Phrases
 pub mod Rows
 pub mod Derived
 pub mod DerivedStatements
+pub mod DerivedItems
