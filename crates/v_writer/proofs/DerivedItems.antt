@@ -149,3 +149,153 @@ module _ (all : List Token) where
       (symbol-read all (mark_of (codes "=")) refl (omega arith)
       (non-read all (expr-read all x parts.0 0 (Some symbol.semicolon) (omega (arith, low)) (never (Maybe T.rest ∷ []) 24 refl))
       (symbol-read all (mark_of (codes ";")) refl (omega arith) (ended all 0 0 after)))))) refl)
+
+  edge-read : (e : VEdge) (after : Option ℕ) → Derived all T.edge 0 (tokens_of (edge_layout e)) after (an_edge e)
+  edge-read e after = with_word e.rising
+    where
+      with_word : (rising : Bool) → Derived all T.edge 0 (word_of (edge_word rising) ∷ Token.name e.name ∷ []) after (an_edge (record { rising = rising; name = e.name }))
+      with_word true =
+          by-row all 0 Rows.row_posedge (Begins.itself refl)
+          (symbol-read all (word_of (codes "posedge")) refl (omega arith) (symbol-read all (Token.name e.name) refl (omega arith) (ended all 0 0 after))) refl
+      with_word false =
+          by-row all 0 Rows.row_negedge (Begins.itself refl)
+          (symbol-read all (word_of (codes "negedge")) refl (omega arith) (symbol-read all (Token.name e.name) refl (omega arith) (ended all 0 0 after))) refl
+
+  further-edges-read : (es : List VEdge) (after : Option ℕ)
+      → Phrase all 0 0 (Many T.next_edge ∷ Term symbol.right_paren ∷ []) (tokens_of (further_edges es) ++ (mark_of (codes ")") ∷ [])) after
+      (record nothing { edges = es })
+  further-edges-read [] after =
+      left-out all refl (never (Many T.next_edge ∷ []) 22 refl) (symbol-read all (mark_of (codes ")")) refl (omega arith) (ended all 0 0 after))
+  further-edges-read (e ∷ es) after =
+      let behind = tokens_of (further_edges es) ++ (mark_of (codes ")") ∷ []) in
+      many-read all {us = behind}
+      (by-row all 0 Rows.row_next_edge (Begins.itself refl)
+      (symbol-read all (word_of (codes "or")) refl (omega arith) (non-read all (edge-read e (front behind after)) (ended all 0 0 (front behind after)))) refl)
+      (further-edges-read es after)
+
+  -- `*` and `(..)`
+  event-read : (on : VSensitivity) (after : Option ℕ) → is_sensitivity on ≡ true → Derived all T.event 0 (tokens_of (sensitivity_layout on)) after (an_event on)
+  event-read Star after fits =
+      by-row all 0 Rows.row_star (Begins.itself refl) (symbol-read all (mark_of (codes "*")) refl (omega arith) (ended all 0 0 after)) refl
+  event-read (Edges []) after fits = absurd (false≢true fits)
+  event-read (Edges (e ∷ es)) after fits =
+      let behind = tokens_of (further_edges es) ++ (mark_of (codes ")") ∷ []) in
+      derived-tokens all
+      (ap (λ ts. mark_of (codes "(") ∷ word_of (edge_word e.rising) ∷ Token.name e.name ∷ ts) (sym (tokens-append (further_edges es) (mark (codes ")") ∷ []))))
+      (by-row all 0 Rows.row_edges (Begins.itself refl)
+      (symbol-read all (mark_of (codes "(")) refl (omega arith) (non-read all {us = behind} (edge-read e (front behind after)) (further-edges-read es after))) refl)
+
+  always-read : (on : VSensitivity) (body : VBranch) → is_sensitivity on ≡ true → is_branch body ≡ true → ItemRead (Always on body)
+  always-read on body fits good after stops =
+      let parts = and_parts (form_of_branch body).fits (nat_le (form_of_branch body).depth nesting_limit) good in
+      let low = leb-true (form_of_branch body).depth nesting_limit parts.1 in
+      let behind = tokens_of (branch_layout body 1) in
+      derived-tokens all
+      (ap (λ ts. word_of (codes "always") ∷ mark_of (codes "@") ∷ (tokens_of (sensitivity_layout on) ++ ts)) (append-nil behind)
+      ∙ ap (λ ts. word_of (codes "always") ∷ mark_of (codes "@") ∷ ts) (sym (tokens-append (sensitivity_layout on) (space ∷ branch_layout body 1))))
+      (by-row all 0 Rows.row_always (Begins.itself refl)
+      (symbol-read all (word_of (codes "always")) refl (omega arith)
+      (symbol-read all (mark_of (codes "@")) refl (omega arith)
+      (non-read all {us = behind ++ []} (event-read on (front (behind ++ []) after) fits)
+      (non-read all (branch-read all body parts.0 1 0 after (omega (arith, low)) (omega arith) (λ open_end. stops)) (ended all 0 0 after))))) refl)
+
+  item-read : (i : VItem) → is_item i ≡ true → ItemRead i
+  item-read (Input range n) fits = input-read range n
+  item-read (Output range n) fits = output-read range n
+  item-read (OutputReg range n) fits = output-reg-read range n
+  item-read (Wire range n) fits = wire-read range n
+  item-read (Reg range n) fits = reg-read range n
+  item-read (Initial n value) fits = initial-read n value
+  item-read (Assign n x) fits = assign-read n x (and_parts (is_simple n) (is_expr x) fits).1
+  item-read (Always on body) fits =
+      let parts = and_parts (is_sensitivity on) (is_branch body) fits in always-read on body parts.0 parts.1
+
+  abbrev items_tokens : List VItem → List Token
+  items_tokens items = tokens_of (items_layout items) ++ word_of (codes "endmodule") ∷ []
+
+  items-split : (i : VItem) (items : List VItem) → tokens_of (item_layout i) ++ items_tokens items ≡ items_tokens (i ∷ items)
+  items-split i items =
+      sym (append_assoc (tokens_of (item_layout i)) (tokens_of (items_layout items)) (word_of (codes "endmodule") ∷ []))
+      ∙ ap (λ ts. ts ++ word_of (codes "endmodule") ∷ []) (sym (tokens-append (item_layout i) (items_layout items)))
+
+  -- no `else` comes in front of further items
+  items-stop : (items : List VItem) (after : Option ℕ) → StopsIf (front (items_tokens items) after)
+  items-stop [] after = never (Maybe T.else_part ∷ []) 6 refl
+  items-stop (Input range n ∷ items) after = never (Maybe T.else_part ∷ []) 7 refl
+  items-stop (Output range n ∷ items) after = never (Maybe T.else_part ∷ []) 8 refl
+  items-stop (OutputReg range n ∷ items) after = never (Maybe T.else_part ∷ []) 8 refl
+  items-stop (Wire range n ∷ items) after = never (Maybe T.else_part ∷ []) 9 refl
+  items-stop (Reg range n ∷ items) after = never (Maybe T.else_part ∷ []) 10 refl
+  items-stop (Initial n value ∷ items) after = never (Maybe T.else_part ∷ []) 11 refl
+  items-stop (Assign n x ∷ items) after = never (Maybe T.else_part ∷ []) 12 refl
+  items-stop (Always on body ∷ items) after = never (Maybe T.else_part ∷ []) 13 refl
+
+  items-read : (items : List VItem) (after : Option ℕ) → list_all is_item items ≡ true
+      → Phrase all 0 0 (Many T.item ∷ Term symbol.endmodule ∷ []) (items_tokens items) after (record nothing { items = items })
+  items-read [] after fits =
+      left-out all refl (never (Many T.item ∷ []) 6 refl) (symbol-read all (word_of (codes "endmodule")) refl (omega arith) (ended all 0 0 after))
+  items-read (i ∷ items) after fits =
+      let parts = and_parts (is_item i) (list_all is_item items) fits in
+      tokens-are all (items-split i items)
+      (many-read all (item-read i parts.0 (front (items_tokens items) after) (items-stop items after)) (items-read items after parts.1))
+
+  further-ports-read : (ns : List (List ℕ)) (after : Option ℕ)
+      → Phrase all 0 0 (Many T.next_port ∷ Term symbol.right_paren ∷ []) (tokens_of (further_ports ns) ++ (mark_of (codes ")") ∷ [])) after
+      (record nothing { names = ns })
+  further-ports-read [] after =
+      left-out all refl (never (Many T.next_port ∷ []) 22 refl) (symbol-read all (mark_of (codes ")")) refl (omega arith) (ended all 0 0 after))
+  further-ports-read (n ∷ ns) after =
+      let behind = tokens_of (further_ports ns) ++ (mark_of (codes ")") ∷ []) in
+      many-read all {us = behind}
+      (by-row all 0 Rows.row_next_port (Begins.itself refl)
+      (symbol-read all (mark_of (codes ",")) refl (omega arith) (symbol-read all (Token.name n) refl (omega arith) (ended all 0 0 (front behind after)))) refl)
+      (further-ports-read ns after)
+
+  -- the rest of a module behind its port list
+  abbrev behind_ports : List Part
+  behind_ports = Term symbol.semicolon ∷ Many T.item ∷ Term symbol.endmodule ∷ []
+
+  ports-read : (ports : List (List ℕ)) (us : List Token) (after : Option ℕ) (m : Parts)
+      → Phrase all 0 0 behind_ports (mark_of (codes ";") ∷ us) after m
+      → Phrase all 0 0 (Maybe T.ports ∷ behind_ports) (tokens_of (ports_layout ports) ++ (mark_of (codes ";") ∷ us)) after
+      (followed (record nothing { names = ports }) m)
+  ports-read [] us after m h = left-out all refl (never (Maybe T.ports ∷ []) 24 refl) h
+  ports-read (n ∷ ns) us after m h =
+      tokens-are all
+      (ap (λ ts. (mark_of (codes "(") ∷ Token.name n ∷ ts) ++ (mark_of (codes ";") ∷ us)) (sym (tokens-append (further_ports ns) (mark (codes ")") ∷ []))))
+      (maybe-read all
+      (by-row all 0 Rows.row_ports (Begins.itself refl)
+      (symbol-read all (mark_of (codes "(")) refl (omega arith)
+      (symbol-read all (Token.name n) refl (omega arith) (further-ports-read ns (Some symbol.semicolon)))) refl) h)
+
+  module-tokens : (v : VModule)
+      → word_of (codes "module") ∷ Token.name v.name ∷ (tokens_of (ports_layout v.ports) ++ (mark_of (codes ";") ∷ items_tokens v.items))
+      ≡ tokens_of (module_layout v)
+  module-tokens v =
+      let close : List Piece = line 0 ∷ word (codes "endmodule") ∷ line 0 ∷ [] in
+      ap (λ ts. word_of (codes "module") ∷ Token.name v.name ∷ ts)
+      (ap (λ ts. tokens_of (ports_layout v.ports) ++ (mark_of (codes ";") ∷ ts)) (sym (tokens-append (items_layout v.items) close))
+      ∙ sym (append_assoc (tokens_of (ports_layout v.ports)) (mark_of (codes ";") ∷ []) (tokens_of (items_layout v.items ++ close)))
+      ∙ ap (λ ts. ts ++ tokens_of (items_layout v.items ++ close)) (sym (tokens-append (ports_layout v.ports) (mark (codes ";") ∷ []))))
+      ∙ sym (tokens-append (header_layout v) (items_layout v.items ++ close))
+
+  module-read : (v : VModule) (after : Option ℕ) → is_module v ≡ true
+      → Derived all T.module_head 0 (tokens_of (module_layout v)) after (record nothing { modules = v ∷ [] })
+  module-read v after fits =
+      let parts = and_parts (is_simple v.name && list_all is_simple v.ports) (list_all is_item v.items) fits in
+      derived-tokens all (module-tokens v)
+      (by-row all 0 Rows.row_module (Begins.itself refl)
+      (symbol-read all (word_of (codes "module")) refl (omega arith)
+      (symbol-read all (Token.name v.name) refl (omega arith)
+      (ports-read v.ports (items_tokens v.items) after (record nothing { items = v.items })
+      (symbol-read all (mark_of (codes ";")) refl (omega arith) (items-read v.items after parts.1)))))
+      (ap (λ (ns : List (List ℕ)). record nothing { modules = record { name = v.name; ports = ns; items = v.items } ∷ [] }) (append-nil v.ports)))
+
+  pub modules-read : (ms : List VModule) → list_all is_module ms ≡ true
+      → Phrase all 0 0 (Many T.module_head ∷ []) (tokens_of (flat_map module_layout ms)) None (record nothing { modules = ms })
+  modules-read [] fits = left-out all refl (λ b. b) (ended all 0 0 None)
+  modules-read (v ∷ ms) fits =
+      let parts = and_parts (is_module v) (list_all is_module ms) fits in
+      let behind = tokens_of (flat_map module_layout ms) in
+      tokens-are all (sym (tokens-append (module_layout v) (flat_map module_layout ms)))
+      (many-read all (module-read v (front behind None) parts.0) (modules-read ms parts.1))
