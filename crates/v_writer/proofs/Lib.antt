@@ -7,3 +7,4 @@ pub mod Rows
 pub mod Derived
 pub mod DerivedStatements
 pub mod DerivedItems
+pub mod ReadsBack
