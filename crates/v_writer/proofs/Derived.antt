@@ -1,5 +1,5 @@
 -- Derivations of what is written: expressions and statements.
-use Rattle.std.proofs.Common.{◌≡◌, ℕ, suc, max, ◌+◌, ◌≤◌, Bool, true, false, ◌&&◌, List, [], ◌∷◌, ◌++◌, map, codes, Option, Some, None, refl, sym, ap, subst, ◌∙◌, append_assoc, arith}
+use Rattle.std.proofs.Common.{◌≡◌, ℕ, suc, ◌+◌, ◌≤◌, true, ◌&&◌, List, [], ◌∷◌, ◌++◌, codes, Option, Some, None, refl, sym, ap, subst, ◌∙◌, arith}
 use Rattle.std.proofs.lemmas.Bool.{and_parts, false≢true}
 use Rattle.std.proofs.lemmas.List.{append-nil}
 use Rattle.b4_core.specs.declared.bit.Bit4.{Bit4}
@@ -8,34 +8,28 @@ use Rattle.b4_core.specs.declared.operators.BinOp.TheVariants as B
 use Rattle.b4_core.specs.declared.operators.UnOp.{UnOp}
 use Rattle.b4_core.specs.declared.operators.UnOp.TheVariants as U
 use Rattle.ll_engine.specs.declared.table.Part.{Part}
-use Rattle.ll_engine.specs.declared.table.Part.TheVariants.{Term, Non, Maybe, Many}
+use Rattle.ll_engine.specs.declared.table.Part.TheVariants.{Non, Maybe}
 use Rattle.ll_engine.specs.declared.table.Row.{Row}
 use Rattle.ll_engine.specs.Grammar.{IsRowOf, Begins, IsBegun}
 use Rattle.v_tree.specs.declared.tree.VPrim.{VPrim}
 use Rattle.v_tree.specs.declared.tree.VPrim.TheVariants.{Number, Name, Paren}
 use Rattle.v_tree.specs.declared.tree.VExpr.{VExpr}
 use Rattle.v_tree.specs.declared.tree.VExpr.TheVariants.{Prim, Unary, Binary}
-use Rattle.v_tree.specs.declared.tree.VBranch.{VBranch}
-use Rattle.v_tree.specs.declared.tree.VBranch.TheVariants.{Statement, Empty}
-use Rattle.v_tree.specs.declared.tree.VStmt.{VStmt}
-use Rattle.v_tree.specs.declared.tree.VStmt.TheVariants as S
 use Rattle.v_tree.specs.Tokens.{Token}
 use Rattle.v_tree.specs.Symbols as symbol
 use Rattle.v_tree.specs.Table as T
 use Rattle.v_tree.specs.Table.{table}
-use Rattle.v_tree.specs.Meaning.{Parts, nothing, followed, a_prim, an_expr, a_stmt, a_branch}
-use Rattle.v_tree.specs.Grammatical.{is_binary, Form, form, all_fit, deepest, form_of_stmt, form_of_branch}
+use Rattle.v_tree.specs.Meaning.{Parts, nothing, a_prim, an_expr}
+use Rattle.v_tree.specs.Grammatical.{is_binary, Form, form}
 use Rattle.v_tree.specs.Reading.{nesting_limit}
-use Rattle.v_tree.proofs.Fitness.{first, blank, firsts-closed, never}
-use Rattle.v_tree.proofs.engine.Firsts as Firsts
-use Rattle.v_tree.proofs.engine.Fit as Fit
-use Rattle.v_tree.proofs.Induction.{ExprSteps, ind-expr, Each, Perhaps, StmtSteps, ind-branch}
-use Rattle.v_tree.proofs.Forms.{form_of_prim, number-form, name-form, paren-form, prim-form, unary-form, binary-form, block-form, if-form, if-else-form, assign-form, statement-form, empty-form}
-use Rattle.v_writer.specs.Layout.{Piece, token, space, line, word, mark, name, number, tokens_of, binary_mark, prim_layout, expr_layout, store_mark, store_layout, lines_layout, else_of, stmt_layout, branch_layout}
-use Rattle.v_writer.proofs.Layouts.{number-layout, name-layout, paren-layout, prim-layout, unary-layout, binary-layout, block-layout, if-layout, store-layout, statement-layout, empty-layout}
+use Rattle.v_tree.proofs.Fitness.{never}
+use Rattle.v_tree.proofs.Induction.{ind-expr}
+use Rattle.v_tree.proofs.Forms.{form_of_prim, number-form, name-form, paren-form, prim-form, unary-form, binary-form}
+use Rattle.v_writer.specs.Layout.{space, mark, tokens_of, binary_mark, prim_layout, expr_layout}
+use Rattle.v_writer.proofs.Layouts.{number-layout, name-layout, paren-layout, prim-layout, unary-layout, binary-layout}
 use Rattle.v_writer.proofs.Written.{tokens-append, fits-as}
 use Rattle.v_writer.proofs.Rows
-use Rattle.v_writer.proofs.Phrases.{Phrase, Derived, front, ended, symbol-read, by-row, non-read, maybe-read, many-read, left-out, tokens-are, derived-tokens}
+use Rattle.v_writer.proofs.Phrases.{Phrase, Derived, front, ended, symbol-read, by-row, non-read, maybe-read, left-out, tokens-are, derived-tokens}
 
 abbrev pub mark_of : List ℕ → Token
 mark_of bytes = Token.mark bytes

@@ -1,12 +1,12 @@
 -- Derivations of written items, modules and texts.
-use Rattle.std.proofs.Common.{◌≡◌, ℕ, suc, ◌+◌, ◌<◌, ◌≤◌, ◌⊎◌, ◌==◌, Bool, true, false, ◌&&◌, List, [], ◌∷◌, ◌++◌, map, flat_map, codes, Option, Some, None, inl, inr, refl, sym, ap, subst, ◌∙◌, append_assoc, arith, leb-true}
+use Rattle.std.proofs.Common.{◌≡◌, ℕ, ◌⊎◌, ◌==◌, Bool, true, false, ◌&&◌, List, [], ◌∷◌, ◌++◌, flat_map, codes, Option, Some, None, inl, inr, refl, sym, ap, subst, ◌∙◌, append_assoc, arith, leb-true}
 use Rattle.std.specs.List.{list_all}
 use Rattle.std.specs.Prelude.{nat_le}
 use Rattle.std.proofs.lemmas.Bool.{and_parts, false≢true}
 use Rattle.std.proofs.lemmas.List.{append-nil}
 use Rattle.b4_core.specs.declared.bit.Bit4.{Bit4}
 use Rattle.ll_engine.specs.declared.table.Part.{Part}
-use Rattle.ll_engine.specs.declared.table.Part.TheVariants.{Term, Non, Maybe, Many}
+use Rattle.ll_engine.specs.declared.table.Part.TheVariants.{Term, Maybe, Many}
 use Rattle.ll_engine.specs.Grammar.{IsBlank, Begins, IsBegun}
 use Rattle.v_tree.specs.declared.tree.VExpr.{VExpr}
 use Rattle.v_tree.specs.declared.tree.VBranch.{VBranch}
@@ -21,15 +21,15 @@ use Rattle.v_tree.specs.Symbols as symbol
 use Rattle.v_tree.specs.Table as T
 use Rattle.v_tree.specs.Table.{table}
 use Rattle.v_tree.specs.Meaning.{Parts, nothing, followed, first_of, an_item, an_event, an_edge}
-use Rattle.v_tree.specs.Grammatical.{is_number, Form, form, form_of_branch, is_expr, is_branch, is_sensitivity, has_some, is_item, is_module}
+use Rattle.v_tree.specs.Grammatical.{form, form_of_branch, is_expr, is_branch, is_sensitivity, is_item, is_module}
 use Rattle.v_tree.specs.Reading.{nesting_limit}
 use Rattle.v_tree.proofs.Fitness.{never}
-use Rattle.v_writer.specs.Layout.{Piece, token, space, line, word, mark, name, number, tokens_of, expr_layout, range_layout, declaration_layout, store_mark, store_layout, branch_layout, edge_word, edge_layout, further_edges, edges_layout, sensitivity_layout, always_layout, item_layout, items_layout, further_ports, ports_layout, header_layout, module_layout}
+use Rattle.v_writer.specs.Layout.{Piece, space, line, word, mark, tokens_of, expr_layout, declaration_layout, branch_layout, edge_word, edge_layout, further_edges, sensitivity_layout, item_layout, items_layout, further_ports, ports_layout, header_layout, module_layout}
 use Rattle.v_writer.proofs.Spelled.{pick_true, pick_false}
 use Rattle.v_writer.proofs.Written.{tokens-append}
 use Rattle.v_writer.proofs.Rows
-use Rattle.v_writer.proofs.Phrases.{Phrase, Derived, front, ended, symbol-read, by-row, non-read, maybe-read, many-read, left-out, tokens-are, meaning-is, derived-tokens}
-use Rattle.v_writer.proofs.Derived.{mark_of, front-append, StopsIf, expr-read}
+use Rattle.v_writer.proofs.Phrases.{Phrase, Derived, front, ended, symbol-read, by-row, non-read, maybe-read, many-read, left-out, tokens-are, derived-tokens}
+use Rattle.v_writer.proofs.Derived.{mark_of, StopsIf, expr-read}
 use Rattle.v_writer.proofs.DerivedStatements.{word_of, store-tokens, target-read, branch-read}
 
 abbrev range_tokens : Option ℕ → List Token

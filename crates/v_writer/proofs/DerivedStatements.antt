@@ -1,8 +1,7 @@
 -- Derivations of written statements.
-use Rattle.std.proofs.Common.{◌≡◌, ℕ, suc, max, ◌+◌, ◌≤◌, Bool, true, false, ◌&&◌, List, [], ◌∷◌, ◌++◌, map, codes, Option, Some, None, refl, sym, ap, subst, ◌∙◌, append_assoc, arith}
+use Rattle.std.proofs.Common.{◌≡◌, ℕ, suc, ◌+◌, ◌≤◌, Bool, true, false, ◌&&◌, List, [], ◌∷◌, ◌++◌, map, codes, Option, Some, None, refl, sym, ap, subst, ◌∙◌, append_assoc, arith}
 use Rattle.std.proofs.lemmas.Bool.{and_parts, false≢true}
 use Rattle.std.proofs.lemmas.List.{append-nil}
-use Rattle.ll_engine.specs.declared.table.Part.{Part}
 use Rattle.ll_engine.specs.declared.table.Part.TheVariants.{Term, Non, Maybe, Many}
 use Rattle.ll_engine.specs.Grammar.{Begins, IsBegun}
 use Rattle.v_tree.specs.declared.tree.VExpr.{VExpr}
@@ -14,15 +13,15 @@ use Rattle.v_tree.specs.Tokens.{Token, is_simple}
 use Rattle.v_tree.specs.Symbols as symbol
 use Rattle.v_tree.specs.Table as T
 use Rattle.v_tree.specs.Table.{table}
-use Rattle.v_tree.specs.Meaning.{Parts, nothing, first_of, a_stmt, a_branch}
+use Rattle.v_tree.specs.Meaning.{nothing, first_of, a_stmt, a_branch}
 use Rattle.v_tree.specs.Grammatical.{Form, form, all_fit, deepest, form_of_stmt, form_of_branch}
 use Rattle.v_tree.specs.Reading.{nesting_limit}
 use Rattle.v_tree.proofs.Fitness.{first, blank, firsts-closed, never}
 use Rattle.v_tree.proofs.engine.Firsts as Firsts
 use Rattle.v_tree.proofs.engine.Fit as Fit
-use Rattle.v_tree.proofs.Induction.{Each, Perhaps, StmtSteps, ind-branch}
-use Rattle.v_tree.proofs.Forms.{block-form, if-form, if-else-form, assign-form, statement-form, empty-form}
-use Rattle.v_writer.specs.Layout.{Piece, token, space, line, word, mark, name, tokens_of, expr_layout, store_mark, store_layout, lines_layout, else_of, stmt_layout, branch_layout}
+use Rattle.v_tree.proofs.Induction.{Each, Perhaps, ind-branch}
+use Rattle.v_tree.proofs.Forms.{block-form, if-form, if-else-form, assign-form, statement-form}
+use Rattle.v_writer.specs.Layout.{Piece, space, line, word, mark, tokens_of, expr_layout, store_mark, store_layout, lines_layout, else_of, stmt_layout, branch_layout}
 use Rattle.v_writer.proofs.Layouts.{block-layout, if-layout, store-layout, statement-layout, empty-layout}
 use Rattle.v_writer.proofs.Written.{tokens-append, fits-as}
 use Rattle.v_writer.proofs.Rows

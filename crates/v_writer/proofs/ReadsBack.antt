@@ -1,6 +1,5 @@
 -- A written text reads as its design.
-use Rattle.std.proofs.Common.{◌≡◌, ℕ, suc, ◌+◌, true, List, [], ◌∷◌, ◌++◌, map, flat_map, length, Option, Some, None, refl, sym, ap, subst, ◌∙◌}
-use Rattle.std.specs.List.{list_all}
+use Rattle.std.proofs.Common.{◌≡◌, ℕ, suc, ◌+◌, true, List, [], ◌∷◌, map, flat_map, length, None, refl, sym, ap, subst, ◌∙◌}
 use Rattle.std.proofs.lemmas.List.{append-nil}
 use Rattle.ll_engine.specs.declared.table.Part.TheVariants.{Non, Many}
 use Rattle.ll_engine.specs.declared.tree.Tree.{Tree}
@@ -15,7 +14,7 @@ use Rattle.v_tree.specs.Symbols.{symbol}
 use Rattle.v_tree.specs.Table as T
 use Rattle.v_tree.specs.Table.{table}
 use Rattle.v_tree.specs.Meaning.{Parts, nothing, design_of}
-use Rattle.v_tree.specs.Grammatical.{is_module, is_of_grammar}
+use Rattle.v_tree.specs.Grammatical.{is_of_grammar}
 use Rattle.v_tree.specs.Reading.{WellFormed, VReads}
 use Rattle.v_tree.proofs.Derivations.{node-parts}
 use Rattle.v_writer.specs.Layout.{tokens_of, module_layout, text_layout, text_of}

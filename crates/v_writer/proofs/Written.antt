@@ -1,6 +1,6 @@
 -- The tokens of a written text are those of its layout.
-use Rattle.std.proofs.Common.{◌≡◌, ℕ, zero, suc, ◌+◌, ◌<◌, ◌≤◌, ◌^◌, ◌==◌, ◌⊎◌, inl, inr, Bool, true, false, ◌&&◌, not, List, [], ◌∷◌, ◌++◌, map, flat_map, length, codes, decimal, Option, Some, None, find, refl, sym, ap, subst, ◌∙◌, append_assoc, arith, leb-true}
-use Rattle.std.specs.Prelude.{nat_le, nat_lt}
+use Rattle.std.proofs.Common.{◌≡◌, ℕ, zero, suc, ◌<◌, ◌≤◌, ◌^◌, ◌==◌, ◌⊎◌, inl, inr, Bool, true, false, ◌&&◌, not, List, [], ◌∷◌, ◌++◌, length, codes, decimal, Some, find, refl, sym, ap, subst, ◌∙◌, append_assoc, arith, leb-true}
+use Rattle.std.specs.Prelude.{nat_le}
 use Rattle.std.specs.List.{list_all}
 use Rattle.std.specs.Str.{bytes_eq}
 use Rattle.std.proofs.lemmas.Bool.{and_parts, or_cases, false≢true}
@@ -20,10 +20,10 @@ use Rattle.v_tree.specs.Names.{among}
 use Rattle.v_tree.specs.Reserved.{words_of, reserved_words, is_reserved}
 use Rattle.v_tree.specs.Tokens.{Token, tokens, is_digit, is_letter, is_word, is_simple, begins, marks, mark_or_stray, first_cut}
 use Rattle.v_tree.specs.Grammatical.{is_number, is_binary, is_unary, Form, form}
-use Rattle.v_tree.proofs.Induction.{ExprSteps, ind-expr}
+use Rattle.v_tree.proofs.Induction.{ind-expr}
 use Rattle.v_tree.proofs.Forms.{form_of_prim, number-form, name-form, paren-form, prim-form, unary-form, binary-form}
-use Rattle.v_writer.specs.Layout.{Piece, token, space, line, word, mark, name, number, bytes_of, tokens_of, indentation, spelling, unary_mark, binary_mark, prim_layout, expr_layout, range_layout}
-use Rattle.v_writer.proofs.Layouts.{bytes-append, number-layout, name-layout, paren-layout, prim-layout, unary-layout, binary-layout, zero-decimal}
+use Rattle.v_writer.specs.Layout.{Piece, token, space, line, word, mark, name, number, bytes_of, tokens_of, indentation, spelling, unary_mark, binary_mark, prim_layout, expr_layout}
+use Rattle.v_writer.proofs.Layouts.{number-layout, name-layout, paren-layout, prim-layout, unary-layout, binary-layout}
 use Rattle.v_writer.proofs.Spelled.{Ends, name-read, is_keyword, keyword-read, number-read, decimal-read, all-digits, own, split, told, is-told, pick_false, not_true}
 
 -- pieces are read as their tokens

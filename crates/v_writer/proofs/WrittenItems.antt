@@ -1,13 +1,11 @@
 -- The tokens of written statements, items, modules and texts are those of the layout.
-use Rattle.std.proofs.Common.{◌≡◌, ℕ, suc, ◌+◌, ◌<◌, ◌≤◌, ◌^◌, Bool, true, false, ◌&&◌, List, [], ◌∷◌, ◌++◌, map, flat_map, codes, Option, Some, None, inl, inr, refl, sym, ap, subst, ◌∙◌, append_assoc, arith}
+use Rattle.std.proofs.Common.{◌≡◌, ℕ, suc, ◌+◌, ◌≤◌, Bool, true, false, ◌&&◌, List, [], ◌∷◌, ◌++◌, map, flat_map, codes, Option, Some, None, inl, inr, refl, sym, ap, subst, append_assoc, arith}
 use Rattle.std.specs.List.{list_all}
-use Rattle.std.proofs.lemmas.Bool.{and_parts, false≢true}
+use Rattle.std.proofs.lemmas.Bool.{and_parts}
 use Rattle.std.proofs.lemmas.List.{append-nil}
-use Rattle.b4_core.specs.declared.bit.Bit4.{Bit4}
 use Rattle.row_machine.specs.Valuation.{Member}
 use Rattle.v_tree.specs.declared.tree.VExpr.{VExpr}
 use Rattle.v_tree.specs.declared.tree.VBranch.{VBranch}
-use Rattle.v_tree.specs.declared.tree.VBranch.TheVariants.{Statement, Empty}
 use Rattle.v_tree.specs.declared.tree.VStmt.{VStmt}
 use Rattle.v_tree.specs.declared.tree.VStmt.TheVariants as S
 use Rattle.v_tree.specs.declared.tree.VEdge.{VEdge}
@@ -19,11 +17,11 @@ use Rattle.v_tree.specs.declared.tree.VModule.{VModule}
 use Rattle.v_tree.specs.declared.tree.VDesign.{VDesign}
 use Rattle.v_tree.specs.Signals.{Kind, input_net, net, variable, Signal, declare, signals}
 use Rattle.v_tree.specs.Tokens.{Token, tokens, is_simple}
-use Rattle.v_tree.specs.Grammatical.{is_number, Form, form, all_fit, form_of_stmt, form_of_branch, is_expr, is_branch, has_some, is_sensitivity, is_item, is_module, is_of_grammar}
+use Rattle.v_tree.specs.Grammatical.{is_number, form, all_fit, form_of_stmt, form_of_branch, is_expr, is_branch, has_some, is_sensitivity, is_item, is_module, is_of_grammar}
 use Rattle.v_tree.specs.Reading.{WellFormedModule, WellFormed}
-use Rattle.v_tree.proofs.Induction.{Each, Perhaps, StmtSteps, ind-stmt, ind-branch}
-use Rattle.v_tree.proofs.Forms.{block-form, if-form, if-else-form, assign-form, statement-form, empty-form}
-use Rattle.v_writer.specs.Layout.{Piece, token, space, line, word, mark, name, number, bytes_of, tokens_of, expr_layout, range_layout, declaration_layout, store_mark, store_layout, lines_layout, else_of, stmt_layout, branch_layout, edge_word, edge_layout, further_edges, edges_layout, sensitivity_layout, always_layout, item_layout, items_layout, further_ports, ports_layout, header_layout, module_layout, text_layout, text_of}
+use Rattle.v_tree.proofs.Induction.{Each, Perhaps, StmtSteps, ind-branch}
+use Rattle.v_tree.proofs.Forms.{block-form, if-form, if-else-form, assign-form, statement-form}
+use Rattle.v_writer.specs.Layout.{Piece, token, space, line, word, mark, name, number, tokens_of, expr_layout, range_layout, declaration_layout, store_mark, store_layout, lines_layout, else_of, stmt_layout, branch_layout, edge_word, edge_layout, further_edges, edges_layout, sensitivity_layout, always_layout, item_layout, items_layout, further_ports, ports_layout, header_layout, module_layout, text_layout, text_of}
 use Rattle.v_writer.proofs.Layouts.{block-layout, if-layout, store-layout, statement-layout, empty-layout}
 use Rattle.v_writer.proofs.Written.{IsRead, ends, line-on, name-on, word-on, number-on, decimal-on, expr-on, fits-as}
 

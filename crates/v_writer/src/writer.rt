@@ -4,7 +4,9 @@ ghost use Rattle.std.specs.Prelude.{◌≡◌, ◌<◌, ◌≤◌, ◌^◌, ◌+
 ghost use Rattle.std.specs.List.{list_all};
 ghost use Rattle.v_tree.specs.Tokens.{Token};
 ghost use Rattle.v_tree.specs.Grammatical.{deepest, form_of_stmt, form_of_branch, is_branch, is_item, is_module, is_of_grammar};
-ghost use Rattle.v_writer.specs.Layout.{indentation, spelling, bytes_of, unary_mark, binary_mark, bit_digit, prim_layout, expr_layout, range_layout, declaration_layout, store_mark, store_layout, number, lines_layout, else_of, else_depth, stmt_layout, branch_layout, edge_word, edge_layout, further_edges, edges_layout, sensitivity_layout, always_layout, item_layout, items_layout, further_ports, ports_layout, header_layout, module_layout, text_of};
+ghost use Rattle.v_tree.specs.Reading.{WellFormed};
+ghost use Rattle.v_writer.specs.Writing.{Writes};
+ghost use Rattle.v_writer.specs.Layout.{indentation, spelling, bytes_of, unary_mark, binary_mark, bit_digit, prim_layout, expr_layout, range_layout, declaration_layout, store_mark, store_layout, number, lines_layout, else_of, else_depth, stmt_layout, branch_layout, edge_word, edge_layout, further_edges, edges_layout, sensitivity_layout, always_layout, item_layout, items_layout, further_ports, ports_layout, header_layout, module_layout};
 
 use b4_core::{BinOp, Bit4, UnOp, Vec4};
 use itoa::Buffer;
@@ -460,11 +462,12 @@ fn write_modules(modules: &[VModule], to: &mut Text) -> Result<(), AllocError>
     Ok(())
 }
 
-/// Appends the text of a design of the grammar that keeps its rules, in time linear in the text's length, or wants memory.
-/// The text reads as the design.
+/// Appends the text of a design in time linear in its length, or wants memory. The text reads as the design
+/// (IEEE 1364-2005 annex A); the design must be a tree of the target grammar that keeps the rules on names and sizes.
 pub fn write_text(d: &VDesign, to: &mut Text) -> Result<(), AllocError>
-    requires { is_of_grammar d.now ≡ true }
-    ensures { OnOk result (to.new ≡ to.old ++ text_of d.now) }
+    requires of_grammar { is_of_grammar d.now ≡ true }
+    requires well_formed { WellFormed d.now }
+    ensures { OnOk result (Writes d.now to.old to.new) }
 {
     write_modules(d.modules.as_slice(), to)
 }
