@@ -1,7 +1,5 @@
 -- The bytes of a layout, one level of a tree at a time.
 use Rattle.std.proofs.Common.{◌≡◌, ℕ, Bool, true, List, [], ◌∷◌, ◌++◌, codes, map, flat_map, drop, length, slice_index_or, decimal, Option, Some, None, Result, Ok, Err, OnOk, ◌<◌, ◌+◌, zero, suc, add-one, refl, sym, ap, ◌∙◌, append_assoc, arith}
-use Rattle.std.specs.List.{list_all}
-use Rattle.std.proofs.lemmas.Bool.{and_parts}
 use Rattle.std.proofs.lemmas.Fmt.{decimal_digit}
 use Rattle.b4_core.specs.declared.bit.Bit4.{Bit4}
 use Rattle.b4_core.specs.declared.operators.BinOp.{BinOp}
@@ -15,7 +13,7 @@ use Rattle.v_tree.specs.declared.tree.VBranch.TheVariants.{Statement, Empty, rol
 use Rattle.v_tree.specs.declared.tree.VStmt.{VStmt, VStmt-F, fold-roll-VStmt}
 use Rattle.v_tree.specs.declared.tree.VStmt.TheVariants.{Block, If, Assign, rolls-Block, rolls-If, rolls-Assign}
 use Rattle.v_tree.specs.declared.tree.VModule.{VModule}
-use Rattle.v_tree.specs.Grammatical.{deepest, form_of_stmt}
+use Rattle.v_writer.proofs.Margins.{edge-levels, within-levels}
 use Rattle.v_writer.specs.Layout.{Piece, space, line, word, mark, piece_bytes, bytes_of, prim_pieces, expr_pieces, prim_layout, expr_layout, store_layout, lines_layout, else_of, stmt_pieces, branch_pieces, stmt_layout, branch_layout, indentation, header_layout, items_layout, module_layout}
 
 pub number-layout : (bits : List Bit4) → prim_layout (Number bits) ≡ prim_pieces (VPrim-F.Number bits)
@@ -96,22 +94,6 @@ lines-step depth xs i x h e =
     ap (λ ys. bytes_of (lines_layout depth (map stmt_layout ys))) (drop-item xs i x h e)
     ∙ ap (λ w. (10 ∷ indentation depth) ++ w) (bytes-append (stmt_layout x depth) (lines_layout depth (map stmt_layout (drop (i + 1) xs))))
 
-pub deepest-step : (bound depth : ℕ) (xs : List VStmt) (i : ℕ) (x : VStmt) → i < length xs → x ≡ slice_index_or xs i x
-    → depth + deepest (map form_of_stmt (drop i xs)) < bound → depth + deepest (map form_of_stmt (drop (i + 1) xs)) < bound
-deepest-step bound depth xs i x h e low =
-    let same = ap (λ ys. deepest (map form_of_stmt ys)) (drop-item xs i x h e) in
-    omega (arith, same, low)
-
-pub all-step : {A : Type 0} (test : A → Bool) (xs : List A) (i : ℕ) (x : A) → i < length xs → x ≡ slice_index_or xs i x
-    → list_all test (drop i xs) ≡ true → list_all test (drop (i + 1) xs) ≡ true
-all-step test xs i x h e good =
-    (and_parts (test x) (list_all test (drop (i + 1) xs)) (sym (ap (list_all test) (drop-item xs i x h e)) ∙ good)).1
-
-pub here-step : {A : Type 0} (test : A → Bool) (xs : List A) (i : ℕ) (x : A) → i < length xs → x ≡ slice_index_or xs i x
-    → list_all test (drop i xs) ≡ true → test x ≡ true
-here-step test xs i x h e good =
-    (and_parts (test x) (list_all test (drop (i + 1) xs)) (sym (ap (list_all test) (drop-item xs i x h e)) ∙ good)).0
-
 -- a turn of a loop that writes one thing, and of one that writes two
 pub turn : (t u a before behind whole : List ℕ) → u ≡ t ++ a → before ≡ a ++ behind → t ++ before ≡ whole → u ++ behind ≡ whole
 turn t u a before behind whole wrote step rest =
@@ -145,4 +127,4 @@ whole (y ∷ ys) x h e = ap (λ z. z ∷ ys) e
 pub zero-decimal : decimal 0 ≡ 48 ∷ []
 zero-decimal = decimal_digit 0 (omega arith)
 
-pub ruleset writing = (zero-decimal, bytes-append, append_assoc, number-layout, name-layout, paren-layout, prim-layout, unary-layout, binary-layout, block-layout, if-layout, store-layout, statement-layout, empty-layout)
+pub ruleset writing = (edge-levels, within-levels, zero-decimal, bytes-append, append_assoc, number-layout, name-layout, paren-layout, prim-layout, unary-layout, binary-layout, block-layout, if-layout, store-layout, statement-layout, empty-layout)

@@ -1,3 +1,4 @@
+pub mod Margins
 pub mod Layouts
 pub mod Spelled
 pub mod Written

@@ -21,7 +21,6 @@ use Rattle.v_tree.specs.declared.tree.VItem.TheVariants.{Input, Output, OutputRe
 use Rattle.v_tree.specs.declared.tree.VModule.{VModule}
 use Rattle.v_tree.specs.declared.tree.VDesign.{VDesign}
 use Rattle.v_tree.specs.Tokens.{Token}
-use Rattle.v_tree.specs.Grammatical.{form_of_branch}
 
 pub data Piece : Type 0 where
   token : Token → Piece
@@ -156,11 +155,6 @@ branch_layout = fold-VBranch (ℕ → List Piece) (ℕ → List Piece) branch_pi
 abbrev pub else_of : ℕ → Option VBranch → List Piece
 else_of depth None = []
 else_of depth (Some other) = line depth ∷ word (codes "else") ∷ space ∷ branch_layout other depth
-
--- how deep what stands behind an `else` nests
-abbrev pub else_depth : Option VBranch → ℕ
-else_depth None = 0
-else_depth (Some other) = (form_of_branch other).depth
 
 abbrev pub edge_word : Bool → List ℕ
 edge_word true = codes "posedge"

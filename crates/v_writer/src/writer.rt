@@ -1,13 +1,12 @@
 //! The text of a target design.
 
-ghost use Rattle.std.specs.Prelude.{◌≡◌, ◌<◌, ◌≤◌, ◌^◌, ◌+◌, true, ◌++◌, ◌∷◌, [], codes, decimal, flat_map, map, reverse, OnOk};
-ghost use Rattle.std.specs.List.{list_all};
+ghost use Rattle.std.specs.Prelude.{◌≡◌, true, ◌++◌, ◌∷◌, [], codes, decimal, flat_map, map, reverse, OnOk};
 ghost use Rattle.v_tree.specs.Tokens.{Token};
-ghost use Rattle.v_tree.specs.Grammatical.{deepest, form_of_stmt, form_of_branch, is_branch, is_item, is_module, is_of_grammar};
-ghost use Rattle.v_tree.specs.Reading.{WellFormed};
+ghost use Rattle.v_writer.specs.Margins.{levels};
 ghost use Rattle.v_writer.specs.Writing.{Writes};
-ghost use Rattle.v_writer.specs.Layout.{indentation, spelling, bytes_of, unary_mark, binary_mark, bit_digit, prim_layout, expr_layout, range_layout, declaration_layout, store_mark, store_layout, number, lines_layout, else_of, else_depth, stmt_layout, branch_layout, edge_word, edge_layout, further_edges, edges_layout, sensitivity_layout, always_layout, item_layout, items_layout, further_ports, ports_layout, header_layout, module_layout};
+ghost use Rattle.v_writer.specs.Layout.{line, indentation, spelling, bytes_of, unary_mark, binary_mark, bit_digit, prim_layout, expr_layout, range_layout, declaration_layout, store_mark, store_layout, number, lines_layout, else_of, stmt_layout, branch_layout, edge_word, edge_layout, further_edges, edges_layout, sensitivity_layout, always_layout, item_layout, items_layout, further_ports, ports_layout, header_layout, module_layout};
 
+use crate::margin::Margin;
 use b4_core::{BinOp, Bit4, UnOp, Vec4};
 use itoa::Buffer;
 use std::alloc::AllocError;
@@ -135,16 +134,11 @@ fn write_range(range: Option<u32>, to: &mut Text) -> Result<(), AllocError>
 
 /// Appends the end of a line, and the indentation of the next one.
 #[tactic(auto, using(crate::proofs::Layouts::writing))]
-fn write_line(depth: u32, to: &mut Text) -> Result<(), AllocError>
-    ensures { OnOk result (to.new ≡ to.old ++ 10 ∷ indentation depth) }
+fn write_line(margin: Margin<'_>, to: &mut Text) -> Result<(), AllocError>
+    ensures { OnOk result (to.new ≡ to.old ++ 10 ∷ indentation (levels margin.entry)) }
 {
     to.push(b'\n')?;
-    let mut left = depth;
-    while left > 0 {
-        to.push_bytes(b"  ")?;
-        left -= 1;
-    }
-    Ok(())
+    margin.write(to)
 }
 
 /// Appends a declaration behind its other keywords.
@@ -201,26 +195,25 @@ fn write_store(
     to.push_bytes(b";")
 }
 
-/// Appends a statement whose line is indented by `depth` levels.
+/// Appends a statement whose line has this margin.
 #[cycle(write_stmt)]
 #[tactic(auto, using(crate::proofs::Layouts::writing))]
-fn write_stmt(stmt: &VStmt, depth: u32, to: &mut Text) -> Result<(), AllocError>
-    requires { depth + (form_of_stmt stmt.now).depth < 2 ^ 32 }
-    ensures { OnOk result (to.new ≡ to.old ++ bytes_of (stmt_layout stmt.now depth)) }
+fn write_stmt(stmt: &VStmt, margin: Margin<'_>, to: &mut Text) -> Result<(), AllocError>
+    ensures { OnOk result (to.new ≡ to.old ++ bytes_of (stmt_layout stmt.now (levels margin.entry))) }
 {
     match stmt {
         VStmt::Block(stmts) => {
             to.push_bytes(b"begin")?;
-            write_lines(stmts.as_slice(), depth + 1, to)?;
-            write_line(depth, to)?;
+            write_lines(stmts.as_slice(), margin.inner(), to)?;
+            write_line(margin, to)?;
             to.push_bytes(b"end")
         }
         VStmt::If { on, then, other } => {
             to.push_bytes(b"if (")?;
             write_expr(on, to)?;
             to.push_bytes(b") ")?;
-            write_branch(then, depth, to)?;
-            write_else(other, depth, to)
+            write_branch(then, margin, to)?;
+            write_else(other, margin, to)
         }
         VStmt::Assign {
             target,
@@ -233,13 +226,12 @@ fn write_stmt(stmt: &VStmt, depth: u32, to: &mut Text) -> Result<(), AllocError>
 /// Appends statements, each on a line of its own.
 #[cycle(write_stmt)]
 #[tactic(auto, using(crate::proofs::Layouts::writing))]
-fn write_lines(stmts: &[VStmt], depth: u32, to: &mut Text) -> Result<(), AllocError>
-    requires { depth + deepest (map form_of_stmt stmts.now) < 2 ^ 32 }
-    ensures { OnOk result (to.new ≡ to.old ++ bytes_of (lines_layout depth (map stmt_layout stmts.now))) }
+fn write_lines(stmts: &[VStmt], margin: Margin<'_>, to: &mut Text) -> Result<(), AllocError>
+    ensures { OnOk result (to.new ≡ to.old ++ bytes_of (lines_layout (levels margin.entry) (map stmt_layout stmts.now))) }
 {
     for stmt in stmts {
-        write_line(depth, to)?;
-        write_stmt(stmt, depth, to)?;
+        write_line(margin, to)?;
+        write_stmt(stmt, margin, to)?;
     }
     Ok(())
 }
@@ -247,12 +239,11 @@ fn write_lines(stmts: &[VStmt], depth: u32, to: &mut Text) -> Result<(), AllocEr
 /// Appends what an `if`, an `else` or an `always` governs.
 #[cycle(write_stmt)]
 #[tactic(auto, using(crate::proofs::Layouts::writing))]
-fn write_branch(branch: &VBranch, depth: u32, to: &mut Text) -> Result<(), AllocError>
-    requires { depth + (form_of_branch branch.now).depth < 2 ^ 32 }
-    ensures { OnOk result (to.new ≡ to.old ++ bytes_of (branch_layout branch.now depth)) }
+fn write_branch(branch: &VBranch, margin: Margin<'_>, to: &mut Text) -> Result<(), AllocError>
+    ensures { OnOk result (to.new ≡ to.old ++ bytes_of (branch_layout branch.now (levels margin.entry))) }
 {
     match branch {
-        VBranch::Statement(stmt) => write_stmt(stmt.get(), depth, to),
+        VBranch::Statement(stmt) => write_stmt(stmt.get(), margin, to),
         VBranch::Empty => to.push_bytes(b";"),
     }
 }
@@ -260,14 +251,13 @@ fn write_branch(branch: &VBranch, depth: u32, to: &mut Text) -> Result<(), Alloc
 /// Appends an `else`, or nothing where there is none.
 #[cycle(write_stmt)]
 #[tactic(auto, using(crate::proofs::Layouts::writing))]
-fn write_else(other: &Option<VBranch>, depth: u32, to: &mut Text) -> Result<(), AllocError>
-    requires { depth + else_depth other.now < 2 ^ 32 }
-    ensures { OnOk result (to.new ≡ to.old ++ bytes_of (else_of depth other.now)) }
+fn write_else(other: &Option<VBranch>, margin: Margin<'_>, to: &mut Text) -> Result<(), AllocError>
+    ensures { OnOk result (to.new ≡ to.old ++ bytes_of (else_of (levels margin.entry) other.now)) }
 {
     if let Some(branch) = other {
-        write_line(depth, to)?;
+        write_line(margin, to)?;
         to.push_bytes(b"else ")?;
-        write_branch(branch, depth, to)?;
+        write_branch(branch, margin, to)?;
     }
     Ok(())
 }
@@ -337,13 +327,12 @@ fn write_sensitivity(on: &VSensitivity, to: &mut Text) -> Result<(), AllocError>
 /// Appends an `always`.
 #[tactic(auto, using(crate::proofs::Layouts::writing))]
 fn write_always(on: &VSensitivity, body: &VBranch, to: &mut Text) -> Result<(), AllocError>
-    requires { is_branch body.now ≡ true }
     ensures { OnOk result (to.new ≡ to.old ++ bytes_of (always_layout on.now body.now)) }
 {
     to.push_bytes(b"always @")?;
     write_sensitivity(on, to)?;
     to.push_bytes(b" ")?;
-    write_branch(body, 1, to)
+    write_branch(body, Margin::edge().inner(), to)
 }
 
 /// Appends an `initial`.
@@ -360,7 +349,6 @@ fn write_initial(name: &Text, value: &Vec4, to: &mut Text) -> Result<(), AllocEr
 /// Appends an item.
 #[tactic(auto, using(crate::proofs::Layouts::writing))]
 fn write_item(item: &VItem, to: &mut Text) -> Result<(), AllocError>
-    requires { is_item item.now ≡ true }
     ensures { OnOk result (to.new ≡ to.old ++ bytes_of (item_layout item.now)) }
 {
     match item {
@@ -415,15 +403,22 @@ fn write_ports(ports: &[Text], to: &mut Text) -> Result<(), AllocError>
     }
 }
 
+/// Appends an item on a line of its own.
+#[tactic(auto, using(crate::proofs::Layouts::writing))]
+fn write_item_line(item: &VItem, to: &mut Text) -> Result<(), AllocError>
+    ensures { OnOk result (to.new ≡ to.old ++ bytes_of (line 1 ∷ item_layout item.now)) }
+{
+    write_line(Margin::edge().inner(), to)?;
+    write_item(item, to)
+}
+
 /// Appends items, each on a line of its own.
 #[tactic(auto, using(crate::proofs::Layouts::writing))]
 fn write_items(items: &[VItem], to: &mut Text) -> Result<(), AllocError>
-    requires { list_all is_item items.now ≡ true }
     ensures { OnOk result (to.new ≡ to.old ++ bytes_of (items_layout items.now)) }
 {
     for item in items {
-        write_line(1, to)?;
-        write_item(item, to)?;
+        write_item_line(item, to)?;
     }
     Ok(())
 }
@@ -442,7 +437,6 @@ fn write_header(m: &VModule, to: &mut Text) -> Result<(), AllocError>
 /// Appends a module.
 #[tactic(auto, using(crate::proofs::Layouts::writing))]
 fn write_module(m: &VModule, to: &mut Text) -> Result<(), AllocError>
-    requires { is_module m.now ≡ true }
     ensures { OnOk result (to.new ≡ to.old ++ bytes_of (module_layout m.now)) }
 {
     write_header(m, to)?;
@@ -453,7 +447,6 @@ fn write_module(m: &VModule, to: &mut Text) -> Result<(), AllocError>
 /// Appends modules one after the other.
 #[tactic(auto, using(crate::proofs::Layouts::writing))]
 fn write_modules(modules: &[VModule], to: &mut Text) -> Result<(), AllocError>
-    requires { list_all is_module modules.now ≡ true }
     ensures { OnOk result (to.new ≡ to.old ++ bytes_of (flat_map module_layout modules.now)) }
 {
     for m in modules {
@@ -462,11 +455,9 @@ fn write_modules(modules: &[VModule], to: &mut Text) -> Result<(), AllocError>
     Ok(())
 }
 
-/// Appends the text of a design in time linear in its length, or wants memory. The text reads as the design
-/// (IEEE 1364-2005 annex A); the design must be a tree of the target grammar that keeps the rules on names and sizes.
+/// Appends the text of a design, in time linear in its length, or wants memory. The text of a tree of the target
+/// grammar (IEEE 1364-2005 annex A) that keeps the rules on names and sizes reads as that tree.
 pub fn write_text(d: &VDesign, to: &mut Text) -> Result<(), AllocError>
-    requires of_grammar { is_of_grammar d.now ≡ true }
-    requires well_formed { WellFormed d.now }
     ensures { OnOk result (Writes d.now to.old to.new) }
 {
     write_modules(d.modules.as_slice(), to)

@@ -10,7 +10,7 @@ returns c =
     (λ h. record {
       text = text_of c.args.d.now;
       is_added = h ∙ ap (λ ms. c.args.to.now ++ bytes_of (flat_map module_layout ms)) c.as_slice.ensures;
-      reads = written_reads c.args.d.now c.requires.of_grammar c.requires.well_formed;
+      reads = written_reads c.args.d.now;
       is_laid_out = refl;
     })
     c.write_modules.ensures
