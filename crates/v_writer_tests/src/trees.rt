@@ -265,19 +265,17 @@ impl Trees {
         }
     }
 
-    /// Reads a word: an operator, the left bound of a range behind `#`, digits behind a quote, or a name.
+    /// Reads a word: the left bound of a range behind `#`, digits behind a quote, an operator, or a name.
     pub fn word(&mut self, word: &str) -> Result<(), AllocError> {
+        if let Some(left) = word.strip_prefix('#') {
+            self.range = left.parse().ok();
+            return Ok(());
+        }
         match word.as_bytes() {
             [] => Ok(()),
-            [b'$' | b'.' | b'(' | b'~' | b'&' | b'|' | b'^'] => self.expression(word.as_bytes()[0]),
-            [b'=' | b'<' | b'?' | b':' | b'{' | b'}' | b'!' | b';'] => self.statement(
-                word.as_bytes()[0],
-            ),
+            [op @ (b'$' | b'.' | b'(' | b'~' | b'&' | b'|' | b'^')] => self.expression(*op),
+            [op @ (b'=' | b'<' | b'?' | b':' | b'{' | b'}' | b'!' | b';')] => self.statement(*op),
             [op @ (b'A'..=b'Z' | b'+' | b'-')] => self.item(*op),
-            [b'#', ..] => {
-                self.range = word[1..].parse().ok();
-                Ok(())
-            }
             bytes => self.operand(bytes),
         }
     }
