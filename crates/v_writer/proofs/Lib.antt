@@ -9,3 +9,4 @@ pub mod Derived
 pub mod DerivedStatements
 pub mod DerivedItems
 pub mod ReadsBack
+pub mod Examples
