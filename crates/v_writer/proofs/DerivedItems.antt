@@ -122,7 +122,7 @@ module _ (all : List Token) where
   output-reg-read range n after stops =
       let rest = word_of (codes "reg") ∷ (range_tokens range ++ (Token.name n ∷ mark_of (codes ";") ∷ [])) in
       let out = by-row all 0 Rows.row_out_reg (Begins.itself refl)
-          (symbol-read all (word_of (codes "reg")) refl (omega arith) (declared-read range n after)) (ap (λ r. an_item (OutputReg r n)) (first-decimal range)) in
+      (symbol-read all (word_of (codes "reg")) refl (omega arith) (declared-read range n after)) (ap (λ r. an_item (OutputReg r n)) (first-decimal range)) in
       derived-tokens all
       (ap (λ ts. word_of (codes "output") ∷ ts) (append-nil rest) ∙ ap (λ ts. word_of (codes "output") ∷ ts) (declaration-tokens (codes "reg") range n))
       (by-row all 0 Rows.row_output (Begins.itself refl)

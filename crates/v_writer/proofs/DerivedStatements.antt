@@ -98,17 +98,18 @@ module _ (all : List Token) where
       (Begins.inside refl Rows.row_block (Begins.itself refl))
 
   block-read : (ss : List VStmt) → Each StmtRead ss → StmtRead (S.Block ss)
-  block-read ss each =
-      (block-begins ss,
-      (λ fits depth around after low stops.
-          let low_inside = depth-as around (block-form ss) low in
-          derived-tokens all
-          (ap (λ ts. word_of (codes "begin") ∷ ts)
-          (sym (tokens-append (lines_layout (suc depth) (map stmt_layout ss)) (line depth ∷ word (codes "end") ∷ [])))
-          ∙ ap tokens_of (sym (block-layout ss depth)))
-          (by-row all around Rows.row_block (Begins.itself refl)
-          (symbol-read all (word_of (codes "begin")) refl (omega (arith, low_inside))
-          (lines-read ss each (suc depth) (suc around) after (fits-as (block-form ss) fits) (omega (arith, low_inside)))) refl)))
+  block-read ss each = (
+    block-begins ss,
+    (λ fits depth around after low stops.
+        let low_inside = depth-as around (block-form ss) low in
+        derived-tokens all
+        (ap (λ ts. word_of (codes "begin") ∷ ts)
+        (sym (tokens-append (lines_layout (suc depth) (map stmt_layout ss)) (line depth ∷ word (codes "end") ∷ [])))
+        ∙ ap tokens_of (sym (block-layout ss depth)))
+        (by-row all around Rows.row_block (Begins.itself refl)
+        (symbol-read all (word_of (codes "begin")) refl (omega (arith, low_inside))
+        (lines-read ss each (suc depth) (suc around) after (fits-as (block-form ss) fits) (omega (arith, low_inside)))) refl)),
+  )
 
   -- the mark of an assignment
   mark-read : (later : Bool) (around : ℕ) (after : Option ℕ) → around ≤ nesting_limit
@@ -129,20 +130,21 @@ module _ (all : List Token) where
       by-row all around Rows.row_lval (Begins.itself refl) (symbol-read all (Token.name n) refl low (ended all around around after)) refl
 
   store-read : (n : List ℕ) (x : VExpr) (later : Bool) → StmtRead (S.Assign n x later)
-  store-read n x later =
-      (store-begins n x later,
-      (λ fits depth around after low stops.
-          let low_inside = depth-as around (assign-form n x later) low in
-          let parts = and_parts (is_simple n) (form x).fits (fits-as (assign-form n x later) fits) in
-          let here : suc around ≤ nesting_limit = omega (arith, low_inside) in
-          let value = expr-read all x parts.1 (suc around) (Some symbol.semicolon) (omega (arith, low_inside)) (never (Maybe T.rest ∷ []) 24 refl) in
-          let behind = tokens_of (expr_layout x) ++ mark_of (codes ";") ∷ [] in
-          derived-tokens all (store-tokens n later x ∙ ap tokens_of (sym (store-layout n x later depth)))
-          (by-row all around Rows.row_store (Begins.inside refl Rows.row_lval (Begins.itself refl))
-          (non-read all {us = mark_of (store_mark later) ∷ behind} (target-read n (suc around) (Some (symbol.symbol (mark_of (store_mark later)))) here)
-          (non-read all {us = behind} (mark-read later (suc around) (front behind after) here)
-          (non-read all value
-          (symbol-read all (mark_of (codes ";")) refl here (ended all (suc around) (suc around) after))))) refl)))
+  store-read n x later = (
+    store-begins n x later,
+    (λ fits depth around after low stops.
+        let low_inside = depth-as around (assign-form n x later) low in
+        let parts = and_parts (is_simple n) (form x).fits (fits-as (assign-form n x later) fits) in
+        let here : suc around ≤ nesting_limit = omega (arith, low_inside) in
+        let value = expr-read all x parts.1 (suc around) (Some symbol.semicolon) (omega (arith, low_inside)) (never (Maybe T.rest ∷ []) 24 refl) in
+        let behind = tokens_of (expr_layout x) ++ mark_of (codes ";") ∷ [] in
+        derived-tokens all (store-tokens n later x ∙ ap tokens_of (sym (store-layout n x later depth)))
+        (by-row all around Rows.row_store (Begins.inside refl Rows.row_lval (Begins.itself refl))
+        (non-read all {us = mark_of (store_mark later) ∷ behind} (target-read n (suc around) (Some (symbol.symbol (mark_of (store_mark later)))) here)
+        (non-read all {us = behind} (mark-read later (suc around) (front behind after) here)
+        (non-read all value
+        (symbol-read all (mark_of (codes ";")) refl here (ended all (suc around) (suc around) after))))) refl)),
+  )
 
   abbrev branch_and_else : VBranch → Option VBranch → ℕ → List Piece
   branch_and_else b other depth = branch_layout b depth ++ else_of depth other
@@ -189,41 +191,43 @@ module _ (all : List Token) where
 
   -- no `else`
   plain-if-read : (on : VExpr) (b : VBranch) → BranchRead b → StmtRead (S.If on b None)
-  plain-if-read on b read =
-      (if-begins on b None,
-      (λ fits depth around after low stops.
-          let low_inside = depth-as around (if-form on b) low in
-          let parts = and_parts (form on).fits (form_of_branch b).fits (fits-as (if-form on b) fits) in
-          let no_else = stops (closed-as (if-form on b) refl) in
-          if-row on b None depth around after (omega (arith, low_inside)) parts.0
-          (read parts.1 depth (suc around) after (omega (arith, low_inside)) (omega (arith, low_inside)) (λ open_end. no_else))
-          (left-out all refl no_else (ended all (suc around) (suc around) after)) refl))
+  plain-if-read on b read = (
+    if-begins on b None,
+    (λ fits depth around after low stops.
+        let low_inside = depth-as around (if-form on b) low in
+        let parts = and_parts (form on).fits (form_of_branch b).fits (fits-as (if-form on b) fits) in
+        let no_else = stops (closed-as (if-form on b) refl) in
+        if-row on b None depth around after (omega (arith, low_inside)) parts.0
+        (read parts.1 depth (suc around) after (omega (arith, low_inside)) (omega (arith, low_inside)) (λ open_end. no_else))
+        (left-out all refl no_else (ended all (suc around) (suc around) after)) refl),
+  )
 
   closed-open : (b : Bool) → b ≡ true → b ≡ false → ⊥
   closed-open b e f = false≢true (sym f ∙ e)
 
   else-read : (on : VExpr) (b c : VBranch) → BranchRead b → BranchRead c → StmtRead (S.If on b (Some c))
-  else-read on b c first_branch second_branch =
-      (if-begins on b (Some c),
-      (λ fits depth around after low stops.
-          let low_inside = depth-as around (if-else-form on b c) low in
-          let both = and_parts ((form on).fits && (form_of_branch b).fits && (form_of_branch b).closed) (form_of_branch c).fits (fits-as (if-else-form on b c) fits) in
-          let two = and_parts ((form on).fits && (form_of_branch b).fits) (form_of_branch b).closed both.0 in
-          let parts = and_parts (form on).fits (form_of_branch b).fits two.0 in
-          let here : suc around ≤ nesting_limit = omega (arith, low_inside) in
-          let behind = tokens_of (else_of depth (Some c)) in
-          let second = second_branch both.1 depth (suc around) after (omega (arith, low_inside)) here
-              (λ open_end. stops (closed-as (if-else-form on b c) open_end)) in
-          if-row on b (Some c) depth around after (omega (arith, low_inside)) parts.0
-          (first_branch parts.1 depth (suc around) (front behind after) (omega (arith, low_inside)) here
-          (λ open_end. absurd (closed-open (form_of_branch b).closed two.1 open_end)))
-          (tokens-are all (append-nil behind)
-          (maybe-read all
-          (by-row all (suc around) Rows.row_else (Begins.itself refl)
-          (symbol-read all (word_of (codes "else")) refl here
-          (tokens-are all (append-nil (tokens_of (branch_layout c depth)))
-          (non-read all second (ended all (suc around) (suc around) after)))) refl)
-          (ended all (suc around) (suc around) after))) refl))
+  else-read on b c first_branch second_branch = (
+    if-begins on b (Some c),
+    (λ fits depth around after low stops.
+        let low_inside = depth-as around (if-else-form on b c) low in
+        let both = and_parts ((form on).fits && (form_of_branch b).fits && (form_of_branch b).closed) (form_of_branch c).fits (fits-as (if-else-form on b c) fits) in
+        let two = and_parts ((form on).fits && (form_of_branch b).fits) (form_of_branch b).closed both.0 in
+        let parts = and_parts (form on).fits (form_of_branch b).fits two.0 in
+        let here : suc around ≤ nesting_limit = omega (arith, low_inside) in
+        let behind = tokens_of (else_of depth (Some c)) in
+        let second = second_branch both.1 depth (suc around) after (omega (arith, low_inside)) here
+        (λ open_end. stops (closed-as (if-else-form on b c) open_end)) in
+        if-row on b (Some c) depth around after (omega (arith, low_inside)) parts.0
+        (first_branch parts.1 depth (suc around) (front behind after) (omega (arith, low_inside)) here
+        (λ open_end. absurd (closed-open (form_of_branch b).closed two.1 open_end)))
+        (tokens-are all (append-nil behind)
+        (maybe-read all
+        (by-row all (suc around) Rows.row_else (Begins.itself refl)
+        (symbol-read all (word_of (codes "else")) refl here
+        (tokens-are all (append-nil (tokens_of (branch_layout c depth)))
+        (non-read all second (ended all (suc around) (suc around) after)))) refl)
+        (ended all (suc around) (suc around) after))) refl),
+  )
 
   choice-read : (on : VExpr) (b : VBranch) (other : Option VBranch) → BranchRead b → Perhaps BranchRead other → StmtRead (S.If on b other)
   choice-read on b None read others = plain-if-read on b read
@@ -232,7 +236,7 @@ module _ (all : List Token) where
   statement-read : (s : VStmt) → StmtRead s → BranchRead (Statement s)
   statement-read s read fits depth around after low here stops =
       let inner = read.1 (fits-as (statement-form s) fits) depth around after (depth-as around (statement-form s) low)
-          (λ open_end. stops (closed-as (statement-form s) open_end)) in
+      (λ open_end. stops (closed-as (statement-form s) open_end)) in
       derived-tokens all (append-nil (tokens_of (stmt_layout s depth)) ∙ ap tokens_of (sym (statement-layout s depth)))
       (by-row all around Rows.row_statement
       (subst (λ x. IsBegun table (Non T.stmt ∷ []) x) (sym (front-append (tokens_of (stmt_layout s depth)) [] after)) (read.0 depth after))

@@ -183,25 +183,28 @@ fits-as e h = ap (λ (f : Form). f.fits) (sym e) ∙ h
 number-prim-on : (bits : List Bit4) → PrimOn (Number bits)
 number-prim-on bits fits =
     let good : is_number bits ≡ true = fits-as (number-form bits) fits in
-    let low = (is-number bits good).1 in
-    ((λ ps e h. subst (λ l. IsRead (l ++ ps)) (sym (number-layout bits)) (number-on bits ps good h)),
-    (λ ps. subst (λ l. Opens (bytes_of (l ++ ps))) (sym (number-layout bits))
-        (subst Opens (sym (append_assoc (decimal (length bits)) _ (bytes_of ps))) (decimal-opens (length bits) _ (omega (arith, low))))))
+    let low = (is-number bits good).1 in (
+      (λ ps e h. subst (λ l. IsRead (l ++ ps)) (sym (number-layout bits)) (number-on bits ps good h)),
+      (λ ps. subst (λ l. Opens (bytes_of (l ++ ps))) (sym (number-layout bits))
+          (subst Opens (sym (append_assoc (decimal (length bits)) _ (bytes_of ps))) (decimal-opens (length bits) _ (omega (arith, low))))),
+    )
 
 name-prim-on : (n : List ℕ) → PrimOn (Name n)
 name-prim-on n fits =
-    let good : is_simple n ≡ true = fits-as (name-form n) fits in
-    ((λ ps e h. subst (λ l. IsRead (l ++ ps)) (sym (name-layout n)) (name-on n ps good e h)),
-    (λ ps. subst (λ l. Opens (bytes_of (l ++ ps))) (sym (name-layout n)) (name-opens n (bytes_of ps) good)))
+    let good : is_simple n ≡ true = fits-as (name-form n) fits in (
+      (λ ps e h. subst (λ l. IsRead (l ++ ps)) (sym (name-layout n)) (name-on n ps good e h)),
+      (λ ps. subst (λ l. Opens (bytes_of (l ++ ps))) (sym (name-layout n)) (name-opens n (bytes_of ps) good)),
+    )
 
 paren-on : (x : VExpr) → ExprOn x → PrimOn (Paren x)
-paren-on x on fits =
-    ((λ ps e h. subst (λ l. IsRead (l ++ ps)) (sym (paren-layout x))
-        (ap (λ ts. Token.mark (codes "(") ∷ ts)
-        (subst IsRead (sym (append_assoc (expr_layout x) (mark (codes ")") ∷ []) ps))
-        (on (fits-as (paren-form x) fits) (mark (codes ")") ∷ ps) refl (ap (λ ts. Token.mark (codes ")") ∷ ts) h))))),
-    (λ ps. subst (λ l. Opens (bytes_of (l ++ ps))) (sym (paren-layout x))
-        (record { byte = 40; behind = _; is_text = refl; no_xor = refl; no_and = refl; no_or = refl })))
+paren-on x on fits = (
+  (λ ps e h. subst (λ l. IsRead (l ++ ps)) (sym (paren-layout x))
+      (ap (λ ts. Token.mark (codes "(") ∷ ts)
+      (subst IsRead (sym (append_assoc (expr_layout x) (mark (codes ")") ∷ []) ps))
+      (on (fits-as (paren-form x) fits) (mark (codes ")") ∷ ps) refl (ap (λ ts. Token.mark (codes ")") ∷ ts) h))))),
+  (λ ps. subst (λ l. Opens (bytes_of (l ++ ps))) (sym (paren-layout x))
+      (record { byte = 40; behind = _; is_text = refl; no_xor = refl; no_and = refl; no_or = refl })),
+)
 
 unary-fits : (op : UnOp) (b : Bool) → (is_unary op && b) ≡ true → (op ≡ U.Not) × (b ≡ true)
 unary-fits U.Not b e = (refl, e)

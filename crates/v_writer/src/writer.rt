@@ -162,11 +162,7 @@ fn write_declaration(
 fn store_bytes(later: bool) -> &'static [u8]
     ensures { result.now ≡ store_mark later }
 {
-    if later {
-        b"<="
-    } else {
-        b"="
-    }
+    if later { b"<=" } else { b"=" }
 }
 
 /// Appends a target, the mark of its assignment, and spaces around that.
@@ -182,12 +178,7 @@ fn write_target(target: &Text, later: bool, to: &mut Text) -> Result<(), AllocEr
 
 /// Appends an assignment.
 #[tactic(auto, using(crate::proofs::Layouts::writing))]
-fn write_store(
-    target: &Text,
-    later: bool,
-    value: &VExpr,
-    to: &mut Text,
-) -> Result<(), AllocError>
+fn write_store(target: &Text, later: bool, value: &VExpr, to: &mut Text) -> Result<(), AllocError>
     ensures { OnOk result (to.new ≡ to.old ++ bytes_of (store_layout target.now later (expr_layout value.now))) }
 {
     write_target(target, later, to)?;
@@ -266,11 +257,7 @@ fn write_else(other: &Option<VBranch>, margin: Margin<'_>, to: &mut Text) -> Res
 fn edge_bytes(rising: bool) -> &'static [u8]
     ensures { result.now ≡ edge_word rising }
 {
-    if rising {
-        b"posedge"
-    } else {
-        b"negedge"
-    }
+    if rising { b"posedge" } else { b"negedge" }
 }
 
 /// Appends an edge.
