@@ -8,13 +8,13 @@ use Rattle.ll_engine.specs.declared.table.Part.TheVariants.{Term, Non, Maybe, Ma
 use Rattle.ll_engine.specs.declared.table.Row.{Row}
 use Rattle.ll_engine.specs.Grammar.{terminal, named, is_repeated, IsRowOf, HasPart, IsBlank, Begins, HasText}
 use Rattle.ll_engine.specs.Class.{Leads, Follows, ComesAt, StartsWith, LeadsTo, IsFit}
-use Rattle.v_writer.proofs.engine.Firsts.{has, are_within, has-within, has-left, has-right, all-at}
-use Rattle.v_writer.proofs.engine.Firsts as Firsts
+use Rattle.v_tree.proofs.engine.Firsts.{has, are_within, has-within, has-left, has-right, all-at}
+use Rattle.v_tree.proofs.engine.Firsts as Firsts
 
 abbrev pub disjoint : List ℕ → List ℕ → Bool
 disjoint xs ys = list_all (λ x. not (has ys x)) xs
 
-apart : (xs ys : List ℕ) (a : ℕ) → disjoint xs ys ≡ true → has xs a ≡ true → has ys a ≡ true → ⊥
+pub apart : (xs ys : List ℕ) (a : ℕ) → disjoint xs ys ≡ true → has xs a ≡ true → has ys a ≡ true → ⊥
 apart [] ys a e h k = false≢true h
 apart (x ∷ xs) ys a e h k =
     let parts = and_parts (not (has ys x)) (disjoint xs ys) e in
