@@ -1,272 +1,214 @@
--- The target of an elaborated design is the same machine.
-use Rattle.std.proofs.Common.{◌≡◌, ℕ, zero, suc, ◌+◌, ◌<◌, ◌≤◌, ◌⊎◌, Bool, true, false, not, cond, ◌&&◌, ◌||◌, ◌==◌, max, List, [], ◌∷◌, ◌++◌, map, Some, None, Option, refl, sym, ap, subst, ◌∙◌, inl, inr, arith, length, append_assoc}
+-- The machine of the lowered design: the source's, with the trigger behind its signals.
+use Rattle.std.proofs.Common.{◌≡◌, ◌⊎◌, ℕ, zero, suc, ◌==◌, ◌<◌, Bool, true, false, not, ◌||◌, cond, List, [], ◌∷◌, ◌++◌, map, flat_map, length, Option, Some, None, refl, sym, ap, subst, ◌∙◌, inl, inr, arith, if◌then◌else◌}
 use Rattle.std.specs.List.{slice_get, list_any}
-use Rattle.b4_core.specs.declared.bit.Bit4.{Bit4}
-use Rattle.b4_core.specs.declared.bit.Bit4.TheVariants.{X, Z}
-use Rattle.b4_core.specs.declared.operators.BinOp.{BinOp}
-use Rattle.row_machine.specs.Valuation.{Member, Place, Valuation, has}
-use Rattle.row_machine.specs.Machine as M
-use Rattle.sv_types.specs.declared.design.SignalKind.{SignalKind}
-use Rattle.sv_types.specs.declared.design.SignalKind.TheVariants.{InputNet, OutputVar}
-use Rattle.sv_types.specs.declared.design.Signal.{Signal}
-use Rattle.sv_types.specs.declared.design.Primary.{Primary}
-use Rattle.sv_types.specs.declared.design.Primary.TheVariants as P
-use Rattle.sv_types.specs.declared.design.Operand.{Operand}
-use Rattle.sv_types.specs.declared.design.Expr.{Expr}
-use Rattle.sv_types.specs.declared.design.Expr.TheVariants.{Single, Binary}
-use Rattle.sv_types.specs.declared.design.Process.{Process}
-use Rattle.sv_types.specs.declared.design.Design.{Design}
-use Rattle.v_tree.specs.declared.tree.VItem.{VItem}
-use Rattle.row_machine.specs.Places.{places_of, vector_at, assigned, without}
-use Rattle.sv_types.specs.Value.{primary_width, primary_value, inverted_if, width_alone, value_at}
-use Rattle.b4_core.specs.Vectors.{ext}
-use Rattle.b4_core.specs.Binary.{binary_value}
-use Rattle.lower_design.proofs.Meanings.{named_meaning, lowered-means}
-use Rattle.sv_types.specs.Machine as Source
-use Rattle.lower_design.specs.Translatable.{Translatable, IsOfKind, expr_signals, primary_signals}
-use Rattle.lower_design.specs.Lowering.{name_of, path_or_nothing, declaration_of, lowered_process, lowered_expr, lowered_operand, lowered_primary, lowered}
-use Rattle.v_tree.specs.Value.{Name, Meaning, meaning}
-use Rattle.v_tree.specs.Signals.{Net, nets, Driver, drivers, items_of, number_of, width_named}
-use Rattle.v_tree.specs.Machine as Target
-use Rattle.std.proofs.lemmas.Bool.{or_cases, false≢true}
 use Rattle.std.specs.Str.{bytes_eq}
-use Rattle.row_machine.proofs.Basics.{member-any}
-use Rattle.lower_design.proofs.Places.{has-append}
-use Rattle.lower_design.proofs.Names.{net_of, true_or_false, pick_true, same_bytes, number-found, width-found, range_keeps, member-at, member-left, member-right, append-nil, member-map, member-unmap}
+use Rattle.std.proofs.lemmas.Bool.{or_cases, or_left, or_right, false≢true, eqb-true, eq-eqb}
+use Rattle.b4_core.specs.declared.bit.Bit4.{Bit4}
+use Rattle.b4_core.specs.Bitwise.{edge_of}
+use Rattle.row_machine.specs.Valuation.{Member, Place, Valuation, Changes, has, is_place}
+use Rattle.row_machine.specs.Machine as M
+use Rattle.row_machine.specs.Places.{places_of, without}
+use Rattle.row_machine.specs.Steps.{begun, later_or, is_edge}
+use Rattle.row_machine.proofs.Basics.{is_place-true}
+use Rattle.sv_types.specs.declared.design.Signal.{Signal}
+use Rattle.sv_types.specs.declared.design.Expr.{Expr}
+use Rattle.sv_types.specs.declared.design.EdgeOn.{EdgeOn}
+use Rattle.sv_types.specs.declared.design.Stmt.{Stmt}
+use Rattle.sv_types.specs.declared.design.Stmt.TheVariants as S
+use Rattle.sv_types.specs.Numbers.{holds, each_once}
+use Rattle.sv_types.specs.Statements as SD
+use Rattle.sv_types.specs.Statements.{width_of, doing, stmt_doing, expr_signals}
+use Rattle.sv_types.specs.Machine as Source
+use Rattle.sv_types.specs.Machine.{places_of_signals, comb_process, edge_process}
+use Rattle.v_tree.specs.Names.{Name, among, once}
+use Rattle.v_tree.specs.Value.{meaning}
+use Rattle.v_tree.specs.Signals as T
+use Rattle.v_tree.specs.Signals.{InitialValue, number_of, width_named, places_named, signals, processes, initials, items_of}
+use Rattle.v_tree.specs.Statements.{doing_of}
+use Rattle.v_tree.specs.Statements as TD
+use Rattle.v_tree.specs.Machine as Target
+use Rattle.v_tree.specs.Machine.{places_of_names, given, is_written}
+use Rattle.lower_design.specs.Shape.{name_of, trigger}
+use Rattle.lower_design.specs.Lowered.{branch, lowered_expr, lowered_stmt, triggered, lowered_edge}
+use Rattle.lower_design.proofs.Names.{true_or_false, same_bytes, differ_bytes, pick_true, pick_false}
+use Rattle.lower_design.proofs.Places.{has-append, has-signal, has-without, has-without-only}
+use Rattle.lower_design.proofs.Levels.{assign-level}
+use Rattle.lower_design.proofs.Runs.{append-nil, Found, AllFound, Uses, changes-same, names-of, Triggered, body-same, triggered-same}
+use Rattle.lower_design.proofs.Refinement.{ReadsMore}
 
-abbrev pub input_kind : SignalKind → Bool
-input_kind InputNet = true
-input_kind OutputVar = false
-
-abbrev pub is_input : Signal → Bool
-is_input s = input_kind s.kind
-
-abbrev pub driver_of : List Signal → Process → Driver
-driver_of signals p = record { target = name_of signals p.target; value = lowered_expr signals p.value }
-
-pub nets-processes : (all : List Signal) (ps : List Process) → nets (map (lowered_process all) ps) ≡ []
-nets-processes all [] = refl
-nets-processes all (p ∷ ps) = nets-processes all ps
-
-pub nets-one : (s : Signal) (rest : List VItem) → nets (declaration_of s ∷ rest) ≡ net_of is_input s ∷ nets rest
-nets-one s rest = by_kind s.path s.width s.kind
-  where
-    by_kind : (path : List ℕ) (width : ℕ) (kind : SignalKind) →
-        (let s : Signal = record { path = path; width = width; kind = kind } in nets (declaration_of s ∷ rest) ≡ net_of is_input s ∷ nets rest)
-    by_kind path width InputNet = refl
-    by_kind path width OutputVar = refl
-
-pub nets-of : (all signals : List Signal) (ps : List Process) → nets (map declaration_of signals ++ map (lowered_process all) ps) ≡ map (net_of is_input) signals
-nets-of all [] ps = nets-processes all ps
-nets-of all (s ∷ signals) ps = nets-one s _ ∙ ap (λ ns. net_of is_input s ∷ ns) (nets-of all signals ps)
-
-pub drivers-processes : (all : List Signal) (ps : List Process) → drivers (map (lowered_process all) ps) ≡ map (driver_of all) ps
-drivers-processes all [] = refl
-drivers-processes all (p ∷ ps) = ap (λ ds. driver_of all p ∷ ds) (drivers-processes all ps)
-
-pub drivers-one : (s : Signal) (rest : List VItem) → drivers (declaration_of s ∷ rest) ≡ drivers rest
-drivers-one s rest = by_kind s.path s.width s.kind
-  where
-    by_kind : (path : List ℕ) (width : ℕ) (kind : SignalKind) →
-        (let s : Signal = record { path = path; width = width; kind = kind } in drivers (declaration_of s ∷ rest) ≡ drivers rest)
-    by_kind path width InputNet = refl
-    by_kind path width OutputVar = refl
-
-pub drivers-of : (all signals : List Signal) (ps : List Process) → drivers (map declaration_of signals ++ map (lowered_process all) ps) ≡ map (driver_of all) ps
-drivers-of all [] ps = drivers-processes all ps
-drivers-of all (s ∷ signals) ps = drivers-one s _ ∙ drivers-of all signals ps
-
--- the look-up of a signal's name finds its number and its width
-pub record Found (signals : List Signal) (ns : List Net) (n : ℕ) : Type 0 where
-  pub number : number_of ns (name_of signals n) ≡ n
-  pub width : width_named ns (name_of signals n) ≡ Source.width_of signals n
-
-pub kind-found : (d : Design) → Translatable d → (kind : SignalKind) (n : ℕ) → IsOfKind d.signals kind n → Found d.signals (map (net_of is_input) d.signals) n
-kind-found d t kind n is =
-    let named : name_of d.signals n ≡ is.signal.path = ap path_or_nothing is.is_there in
-    let wide : Source.width_of d.signals n ≡ is.signal.width = ap Source.width_or_zero is.is_there in
-    record {
-      number = ap (number_of (map (net_of is_input) d.signals)) named ∙ number-found is_input d.signals t.names n is.signal is.is_there;
-      width =
-          ap (width_named (map (net_of is_input) d.signals)) named
-          ∙ width-found is_input d.signals t.names n is.signal is.is_there
-          ∙ range_keeps is.signal.width (t.widths is.signal (member-at d.signals n is.signal is.is_there))
-          ∙ sym wide;
-    }
-
-module _ (signals : List Signal) (ns : List Net) where
-  abbrev pub AllFound : List ℕ → Type 0
-  AllFound numbers = (n : ℕ) → Member numbers n → Found signals ns n
-
-  pub places-found : (n : ℕ) → Found signals ns n → places_of (number_of ns (name_of signals n)) (width_named ns (name_of signals n)) ≡ places_of n (Source.width_of signals n)
-  places-found n f = λ i. places_of (f.number i) (f.width i)
-
-  pub held-found : (v : Valuation) (n : ℕ) → Found signals ns n → Target.held_named ns v (name_of signals n) ≡ Source.held_at signals v n
-  held-found v n f = λ i. vector_at v (f.number i) (f.width i)
-
-  pub reads-found : (p : Primary) → AllFound (primary_signals p) → Target.places_named ns (map (name_of signals) (primary_signals p)) ≡ Source.primary_reads signals p
-  reads-found (P.Signal n) f = append-nil _ ∙ places-found n (f n (inl refl))
-  reads-found (P.Literal bits) f = refl
-
-  pub width-kept : (p : Primary) → AllFound (primary_signals p) → primary_width (λ n. width_named ns (name_of signals n)) p ≡ primary_width (Source.width_of signals) p
-  width-kept (P.Signal n) f = (f n (inl refl)).width
-  width-kept (P.Literal bits) f = refl
-
-  pub value-kept : (v : Valuation) (w : ℕ) (p : Primary) → AllFound (primary_signals p) → primary_value (λ n. Target.held_named ns v (name_of signals n)) w p ≡ primary_value (Source.held_at signals v) w p
-  value-kept v w (P.Signal n) f = ap (ext w false) (held-found v n (f n (inl refl)))
-  value-kept v w (P.Literal bits) f = refl
-
-  pub places-append : (xs ys : List Name) → Target.places_named ns (xs ++ ys) ≡ Target.places_named ns xs ++ Target.places_named ns ys
-  places-append [] ys = refl
-  places-append (x ∷ xs) ys = ap (λ ps. places_of (number_of ns x) (width_named ns x) ++ ps) (places-append xs ys) ∙ sym (append_assoc (places_of (number_of ns x) (width_named ns x)) (Target.places_named ns xs) (Target.places_named ns ys))
-
-  -- what an expression reads, how wide it is and what it is worth are the same on both sides
-  pub record SameExpr (x : Expr) : Type 0 where
-    pub reads : Target.places_named ns (named_meaning signals x).names ≡ Source.expr_reads signals x
-    pub width : (named_meaning signals x).width (width_named ns) ≡ width_alone (Source.width_of signals) x
-    pub value : (v : Valuation) (w : ℕ) → (named_meaning signals x).value (Target.held_named ns v) w ≡ value_at (Source.held_at signals v) w x
-
-  pub expr-same : (x : Expr) → AllFound (expr_signals x) → SameExpr x
-  expr-same (Single a) f = record {
-    reads = reads-found a.primary f;
-    width = width-kept a.primary f;
-    value = λ v w. ap (inverted_if a.inverted) (value-kept v w a.primary f);
-  }
-  expr-same (Binary op a b) f =
-      let fa : AllFound (primary_signals a.primary) = λ n m. f n (member-left _ _ n m) in
-      let fb : AllFound (primary_signals b.primary) = λ n m. f n (member-right (primary_signals a.primary) _ n m) in
-      record {
-        reads = places-append _ _ ∙ (λ i. reads-found a.primary fa i ++ reads-found b.primary fb i);
-        width = λ i. max (width-kept a.primary fa i) (width-kept b.primary fb i);
-        value = λ v w. λ i. binary_value op false (inverted_if a.inverted (value-kept v w a.primary fa i)) (inverted_if b.inverted (value-kept v w b.primary fb i));
-      }
-
-  pub process-same : (p : Process) → Found signals ns p.target → AllFound (expr_signals p.value) → Target.process_of ns (driver_of signals p) ≡ Source.process_of signals p
-  process-same p t f =
-      let e = expr-same p.value f in
-      let m = lowered-means signals p.value in
-      let own = places-found p.target t in
-      let reads : Target.places_named ns (meaning (lowered_expr signals p.value)).names ≡ Source.expr_reads signals p.value = ap (λ (k : Meaning). Target.places_named ns k.names) m ∙ e.reads in
-      let wide : (meaning (lowered_expr signals p.value)).width (width_named ns) ≡ width_alone (Source.width_of signals) p.value = ap (λ (k : Meaning). k.width (width_named ns)) m ∙ e.width in
-      let value : (v : Valuation) (w : ℕ) → (meaning (lowered_expr signals p.value)).value (Target.held_named ns v) w ≡ value_at (Source.held_at signals v) w p.value = λ v w. ap (λ (k : Meaning). k.value (Target.held_named ns v) w) m ∙ e.value v w in
-      λ i. record {
-        from_zero = true;
-        waits_for = [];
-        reads = without (own i) (reads i);
-        writes = own i;
-        assigns = λ v. assigned (t.number i) (t.width i) (ext (t.width i) false (value v (max (t.width i) (wide i)) i));
-      }
-
--- the inputs are the same
-pub inputs-same : (n : ℕ) (signals : List Signal) → ((s : Signal) → Member signals s → 1 ≤ s.width)
-    → Target.inputs_from n (map (net_of is_input) signals) ≡ Source.inputs_from n signals
-inputs-same n [] wide = refl
-inputs-same n (s ∷ signals) wide =
-    λ i. one n s.path s.width s.kind (wide s (inl refl)) i ++ inputs-same (suc n) signals (λ x m. wide x (inr m)) i
-  where
-    one : (n : ℕ) (path : List ℕ) (width : ℕ) (kind : SignalKind) → 1 ≤ width →
-        (let s : Signal = record { path = path; width = width; kind = kind } in
-        cond (is_input s) (places_of n (net_of is_input s).width) [] ≡ Source.input_places n s)
-    one n path width InputNet h = ap (places_of n) (range_keeps width h)
-    one n path width OutputVar h = refl
-
--- a place of a net that is no input is a place of an output
-pub record OutputAt (signals : List Signal) (n : ℕ) (q : Place) : Type 0 where
-  pub number : ℕ
-  pub is_output : IsOfKind signals OutputVar number
-  pub is_at : has (places_of (n + number) (Source.width_of signals number)) q ≡ true
-
-pub output-at : (n : ℕ) (signals : List Signal) → ((s : Signal) → Member signals s → 1 ≤ s.width) → (q : Place)
-    → has (Target.others_from n (map (net_of is_input) signals)) q ≡ true → OutputAt signals n q
+-- what isn't in a list without some isn't among these
+pub has-without-not : (own places : List Place) (q : Place) → has (without own places) q ≡ true → has own q ≡ false
 unfolding has
-output-at n [] wide q e = absurd (false≢true e)
-output-at n (s ∷ signals) wide q e =
-    elim (or_cases _ _ (sym (has-append (others_of s) (Target.others_from (suc n) (map (net_of is_input) signals)) q) ∙ e)) [
-      | inl h ↦ here s.path s.width s.kind (wide s (inl refl)) h
-      | inr h ↦ behind (output-at (suc n) signals (λ x m. wide x (inr m)) q h)
-    ]
+has-without-not own [] q e = absurd (false≢true e)
+has-without-not own (p ∷ ps) q e = pick (has-without-not own ps q) (has own p) refl e
   where
-    others_of : Signal → List Place
-    others_of s = cond (is_input s) [] (places_of n (net_of is_input s).width)
+    pick : (has (without own ps) q ≡ true → has own q ≡ false) → (b : Bool) → has own p ≡ b → has (cond (not b) (p ∷ without own ps) (without own ps)) q ≡ true → has own q ≡ false
+    pick more true h k = more k
+    pick more false h k =
+        elim (or_cases (is_place p q) (has (without own ps) q) k) [
+          | inl l ↦ ap (has own) (sym (is_place-true p q l)) ∙ h
+          | inr l ↦ more l
+        ]
 
-    here : (path : List ℕ) (width : ℕ) (kind : SignalKind) → 1 ≤ width →
-        (let s : Signal = record { path = path; width = width; kind = kind } in
-        has (cond (is_input s) [] (places_of n (net_of is_input s).width)) q ≡ true → OutputAt (s ∷ signals) n q)
-    here path width InputNet w h = absurd (false≢true h)
-    here path width OutputVar w h = record {
-      number = 0;
-      is_output = record { signal = record { path = path; width = width; kind = OutputVar }; is_there = refl; is_kind = refl };
-      is_at = subst (λ k. has (places_of k width) q ≡ true) (omega arith) (ap (λ k. has (places_of n k) q) (sym (range_keeps width w)) ∙ h);
-    }
+pub has-flat : {A : Type 0} (f : A → List Place) (xs : List A) (q : Place) → has (flat_map f xs) q ≡ true → (x : A) × Member xs x × (has (f x) q ≡ true)
+unfolding has
+has-flat f [] q e = absurd (false≢true e)
+has-flat f (x ∷ xs) q e =
+    elim (or_cases _ _ (sym (has-append (f x) (flat_map f xs) q) ∙ e)) [
+      | inl h ↦ (x, inl refl, h)
+      | inr h ↦ (let r = has-flat f xs q h in (r.0, inr r.1, r.2))
+    ]
 
-    behind : OutputAt signals (suc n) q → OutputAt (s ∷ signals) n q
-    behind o = record {
-      number = suc o.number;
-      is_output = record { signal = o.is_output.signal; is_there = o.is_output.is_there; is_kind = o.is_output.is_kind };
-      is_at = subst (λ k. has (places_of k (Source.width_of signals o.number)) q ≡ true) (omega arith) o.is_at;
-    }
+pub below-get : (ss : List Signal) (n : ℕ) (s : Signal) → slice_get ss n ≡ Some s → n < length ss
+below-get [] n s e = cc
+below-get (t ∷ ss) zero s e = omega arith
+below-get (t ∷ ss) (suc n) s e = let r = below-get ss n s e in omega (arith, r)
 
-module _ (d : Design) (t : Translatable d) where
-  abbrev pub ns : List Net
-  ns = map (net_of is_input) d.signals
+module _ (ss : List Signal) (us : List T.Signal) where
+  abbrev name : ℕ → Name
+  name n = name_of ss n
 
-  abbrev pub as_targets : List ℕ
-  as_targets = map (λ (p : Process). p.target) d.processes
+  -- found names differ where their numbers do
+  pub names-apart : (k n : ℕ) → Found ss us k → Found ss us n → name k ≡ name n → k ≡ n
+  names-apart k n f g e = sym f.number ∙ ap (number_of us) e ∙ g.number
 
-  pub target-found : (p : Process) → Member d.processes p → Found d.signals ns p.target
-  target-found p m = kind-found d t OutputVar p.target (t.targets p m)
+  among-names : (ks : List ℕ) (n : ℕ) → AllFound ss us ks → Found ss us n → among (map name ks) (name n) ≡ holds ks n
+  among-names [] n f g = refl
+  among-names (k ∷ ks) n f g = λ i. one (true_or_false (k == n)) i || among-names ks n (λ j m. f j (inr m)) g i
+    where
+      one : ((k == n) ≡ true) ⊎ ((k == n) ≡ false) → bytes_eq (name k) (name n) ≡ (k == n)
+      one (inl e) = subst (λ j. bytes_eq (name k) (name j) ≡ true) (eqb-true k n e) (same_bytes (name k)) ∙ sym e
+      one (inr e) = differ_bytes (name k) (name n) (λ h. false≢true (sym e ∙ eq-eqb k n (names-apart k n (f k (inl refl)) g h))) ∙ sym e
 
-  pub operands-found : (p : Process) → Member d.processes p → AllFound d.signals ns (expr_signals p.value)
-  operands-found p m n k = kind-found d t InputNet n (t.operands p m n k)
+  once-names : (ks : List ℕ) → AllFound ss us ks → once (map name ks) ≡ map name (each_once ks)
+  once-names [] f = refl
+  once-names (k ∷ ks) f = pick (holds ks k) (among-names ks k rest (f k (inl refl))) (once-names ks rest)
+    where
+      rest : AllFound ss us ks
+      rest j m = f j (inr m)
 
-  abbrev pub written : Place → Bool
-  written q = list_any (λ a. has (Target.process_of ns a).writes q) (map (driver_of d.signals) d.processes)
+      pick : (b : Bool) → among (map name ks) (name k) ≡ b → once (map name ks) ≡ map name (each_once ks)
+          → (if among (map name ks) (name k) then once (map name ks) else name k ∷ once (map name ks)) ≡ map name (if b then each_once ks else k ∷ each_once ks)
+      pick true e more = pick_true _ _ _ e ∙ more
+      pick false e more = pick_false _ _ _ e ∙ ap (λ ns. name k ∷ ns) more
 
-  pub written-by : (q : Place) (p : Process) → Member d.processes p → has (places_of p.target (Source.width_of d.signals p.target)) q ≡ true → written q ≡ true
-  written-by q p m h =
-      member-any _ (map (driver_of d.signals) d.processes) (driver_of d.signals p) (member-map (driver_of d.signals) d.processes p m)
-      (ap (λ ps. has ps q) (places-found d.signals ns p.target (target-found p m)) ∙ h)
+  found-once : (ks : List ℕ) → AllFound ss us ks → AllFound ss us (each_once ks)
+  found-once [] f n m = elim m [ ]
+  found-once (k ∷ ks) f n m = pick (found-once ks (λ j l. f j (inr l)) n) (holds ks k) m
+    where
+      pick : (Member (each_once ks) n → Found ss us n) → (b : Bool) → Member (if b then each_once ks else k ∷ each_once ks) n → Found ss us n
+      pick rest true l = rest l
+      pick rest false (inl e) = f n (inl e)
+      pick rest false (inr l) = rest l
 
-  pub output-written : (n : ℕ) (q : Place) → has (places_of n (Source.width_of d.signals n)) q ≡ true → Member as_targets n → written q ≡ true
-  output-written n q h m =
-      let u = member-unmap (λ (p : Process). p.target) d.processes n m in
-      written-by q u.0 u.1 (subst (λ k. has (places_of k (Source.width_of d.signals k)) q ≡ true) u.2 h)
+  pub places-found : (ks : List ℕ) → AllFound ss us ks → places_of_names us (map name ks) ≡ places_of_signals ss ks
+  places-found [] f = refl
+  places-found (k ∷ ks) f = λ i. places_of ((f k (inl refl)).number i) ((f k (inl refl)).width i) ++ places-found ks (λ j m. f j (inr m)) i
 
-  pub never_z : (b : Bool) → cond (b && not true) Z X ≡ X
-  never_z true = refl
-  never_z false = refl
+  pub writes-found : (ks : List ℕ) (names : List Name) → AllFound ss us ks → names ≡ map name ks → places_of_names us (once names) ≡ places_of_signals ss (each_once ks)
+  writes-found ks names f e = ap (λ ns. places_of_names us (once ns)) e ∙ ap (places_of_names us) (once-names ks f) ∙ places-found (each_once ks) (found-once ks f)
 
-  -- where each output is driven, every bit that no process assigns rests at x
-  pub rest-same : (q : Place) → Target.rest_of ns (map (driver_of d.signals) d.processes) q ≡ X
-  rest-same q =
-      elim (true_or_false (has (Target.others_from 0 ns) q)) [
-        | inr h ↦ ap (λ b. cond (b && not (written q)) Z X) h
-        | inl h ↦ (let o = output-at 0 d.signals t.widths q h in
-            let w : written q ≡ true = output-written o.number q (subst (λ k. has (places_of k (Source.width_of d.signals o.number)) q ≡ true) (omega arith) o.is_at) (t.driven o.number o.is_output) in
-            ap (λ b. cond (has (Target.others_from 0 ns) q && not b) Z X) w ∙ never_z (has (Target.others_from 0 ns) q))
-      ]
+  -- edges are the same
+  edge-found : (v w : Valuation) (e : EdgeOn) → Found ss us e.signal → Target.has_edge us v w (lowered_edge ss e) ≡ Source.has_edge v w e
+  edge-found v w e f = λ i. is_edge e.rising (edge_of (v (record { signal = f.number i; bit = 0 })) (w (record { signal = f.number i; bit = 0 })))
 
-  pub combs-same : (ps : List Process) → ((p : Process) → Member ps p → Member d.processes p)
-      → map (Target.process_of ns) (map (driver_of d.signals) ps) ≡ map (Source.process_of d.signals) ps
-  combs-same [] among = refl
-  combs-same (p ∷ ps) among =
-      λ i. process-same d.signals ns p (target-found p (among p (inl refl))) (operands-found p (among p (inl refl))) i
-      ∷ combs-same ps (λ x m. among x (inr m)) i
+  edges-found : (v w : Valuation) (es : List EdgeOn) → ((e : EdgeOn) → Member es e → Found ss us e.signal)
+      → list_any (Target.has_edge us v w) (map (lowered_edge ss) es) ≡ list_any (Source.has_edge v w) es
+  edges-found v w [] f = refl
+  edges-found v w (e ∷ es) f = λ i. edge-found v w e (f e (inl refl)) i || edges-found v w es (λ x m. f x (inr m)) i
 
-  pub machines-same : Target.machine_of ns (map (driver_of d.signals) d.processes) ≡ Source.machine d
-  machines-same = λ i. record {
-    combs = combs-same d.processes (λ p m. m) i;
-    edges = [];
-    inputs = inputs-same 0 d.signals t.widths i;
-    registers = [];
-    initial = λ q. X;
-    start = λ q. X;
-    rest = λ q. rest-same q i;
+  -- an edge process is the same
+  pub edge-same : (es : List EdgeOn) (body : Stmt) → Uses ss us (doing body) → ((e : EdgeOn) → Member es e → Found ss us e.signal)
+      → Target.edge_process us (map (lowered_edge ss) es) (branch (lowered_stmt ss body)) ≡ edge_process ss es body
+  edge-same es body u f =
+      let s = body-same ss us body in
+      λ i. record {
+        writes = writes-found (doing body).later_targets _ u.later_targets s.later_targets i;
+        runs = λ v w. edges-found v w es f i;
+        updates = λ v. (s.run u (begun v) i).pending;
+      }
+
+  nothing-before : (c : Option Bit4) → later_or c None ≡ c
+  nothing-before (Some b) = refl
+  nothing-before None = refl
+
+  more-reads : (own xs : List Place) (t p : M.Process) → p.reads ≡ without own xs → t.reads ≡ without own xs → (q : Place) → has p.reads q ≡ true → has t.reads q ≡ true
+  more-reads own xs t p e f q h = ap (λ ps. has ps q) (f ∙ sym e) ∙ h
+
+  -- a continuous assignment is the same
+  pub driver-same : (n to : ℕ) (value : Expr) → Found ss us to → AllFound ss us (expr_signals value)
+      → ReadsMore n (comb_process ss (S.Assign to value false)) (Target.driver_process us (name to) (lowered_expr ss value))
+  driver-same n to value f g = record {
+    from_zero = refl;
+    source_waits = refl;
+    target_waits = refl;
+    writes = own;
+    assigns = λ i v q. assigns v q i;
+    reads = λ q h. ap (λ ps. has ps q) reads ∙ h;
+    no_more = λ q low h. ap (λ ps. has ps q) (sym reads) ∙ h;
   }
+    where
+      is : doing (S.Assign to value false) ≡ SD.assignment to value false
+      is = assign-level SD.Doing stmt_doing to value false
 
-  -- the target design of a design has the design's machine
-  pub target-machine : Target.machine (lowered d) d.top ≡ Source.machine d
-  target-machine =
-      ap (λ items. Target.machine_of (nets items) (drivers items)) (pick_true (bytes_eq d.top d.top) _ _ (same_bytes d.top))
-      ∙ (λ i. Target.machine_of (nets-of d.signals d.signals d.processes i) (drivers-of d.signals d.signals d.processes i))
-      ∙ machines-same
+      own : places_named us (name to) ≡ (comb_process ss (S.Assign to value false)).writes
+      own = (λ i. places_of (f.number i) (f.width i)) ∙ sym (ap (λ (d : SD.Doing). places_of_signals ss (each_once d.targets)) is ∙ append-nil (places_of to (width_of ss to)))
+
+      seen : places_of_names us (meaning (lowered_expr ss value)).names ≡ places_of_signals ss (doing (S.Assign to value false)).reads
+      seen = ap (places_of_names us) (names-of ss value) ∙ places-found (expr_signals value) g ∙ sym (ap (λ (d : SD.Doing). places_of_signals ss d.reads) is)
+
+      reads : (Target.driver_process us (name to) (lowered_expr ss value)).reads ≡ (comb_process ss (S.Assign to value false)).reads
+      reads = λ i. without (own i) (seen i)
+
+      assigns : (v : Valuation) (q : Place) → (Target.driver_process us (name to) (lowered_expr ss value)).assigns v q ≡ (comb_process ss (S.Assign to value false)).assigns v q
+      assigns v q =
+          ap (λ (c : Changes). c q) (changes-same ss us to value v f g)
+          ∙ sym (nothing-before (SD.changes_of ss to value v q))
+          ∙ sym (ap (λ (d : SD.Doing). (d.run ss (begun v)).written q) is)
+
+  -- an `always_comb` is the same, but for the trigger
+  module _ (n : ℕ) (inits : List InitialValue) (first : Target.is_triggered us inits trigger ≡ true) (number : number_of us trigger ≡ n)
+      (body : Stmt) (u : Uses ss us (doing body)) where
+    abbrev runs : TD.Doing
+    runs = doing_of (triggered (lowered_stmt ss body))
+
+    abbrev source_own : List Place
+    source_own = places_of_signals ss (each_once (doing body).targets)
+
+    abbrev source_seen : List Place
+    source_seen = places_of_signals ss (doing body).reads
+
+    same : Triggered ss us (doing body) runs
+    same = triggered-same ss us body
+
+    started : list_any (Target.is_triggered us inits) runs.reads ≡ true
+    started = ap (list_any (Target.is_triggered us inits)) same.reads ∙ or_left _ _ first
+
+    own : places_of_names us (once runs.targets) ≡ source_own
+    own = writes-found (doing body).targets _ u.targets same.targets
+
+    seen : places_of_names us runs.reads ≡ places_named us trigger ++ source_seen
+    seen = ap (places_of_names us) same.reads ∙ ap (λ ps. places_named us trigger ++ ps) (places-found (doing body).reads u.reads)
+
+    too-high : (q : Place) → q.signal < n → has (places_named us trigger) q ≡ true → ⊥
+    too-high q low h = let e : q.signal ≡ n = has-signal (number_of us trigger) 0 (width_named us trigger) q h ∙ number in omega (arith, e, low)
+
+    pub comb-same : ReadsMore n (comb_process ss body) (Target.star_process us inits (triggered (lowered_stmt ss body)))
+    comb-same = record {
+      from_zero = started;
+      source_waits = refl;
+      target_waits = ap (λ b. cond b [] (places_of_names us runs.reads)) started;
+      writes = own;
+      assigns = λ i v. (same.run u (begun v) i).written;
+      reads = λ q h. has-without (places_of_names us (once runs.targets)) (places_of_names us runs.reads) q
+          (ap (λ ps. has ps q) seen ∙ has-append (places_named us trigger) source_seen q
+          ∙ or_right (has (places_named us trigger) q) _ (has-without-only source_own source_seen q h))
+          (ap (λ ps. has ps q) own ∙ has-without-not source_own source_seen q h);
+      no_more = λ q low h. has-without source_own source_seen q
+          (elim (or_cases _ _ (sym (has-append (places_named us trigger) source_seen q) ∙ ap (λ ps. has ps q) (sym seen)
+          ∙ has-without-only (places_of_names us (once runs.targets)) (places_of_names us runs.reads) q h)) [
+            | inl k ↦ absurd (too-high q low k)
+            | inr k ↦ k
+          ])
+          (ap (λ ps. has ps q) (sym own) ∙ has-without-not (places_of_names us (once runs.targets)) (places_of_names us runs.reads) q h);
+    }

@@ -1,5 +1,5 @@
 -- The meaning of a lowered expression is that of the expression, name for number.
-use Rattle.std.proofs.Common.{◌≡◌, ℕ, Bool, true, false, max, List, [], ◌∷◌, ◌++◌, map, refl, sym, ap, ◌∙◌}
+use Rattle.std.proofs.Common.{◌≡◌, ℕ, Bool, true, false, max, List, ◌++◌, map, ap, ◌∙◌}
 use Rattle.b4_core.specs.declared.bit.Bit4.{Bit4}
 use Rattle.b4_core.specs.declared.operators.BinOp.{BinOp}
 use Rattle.b4_core.specs.declared.operators.UnOp.{UnOp}
@@ -8,39 +8,40 @@ use Rattle.b4_core.specs.Binary.{binary_value}
 use Rattle.sv_types.specs.declared.design.Signal.{Signal}
 use Rattle.sv_types.specs.declared.design.Primary.{Primary}
 use Rattle.sv_types.specs.declared.design.Primary.TheVariants as P
-use Rattle.sv_types.specs.declared.design.Operand.{Operand}
 use Rattle.sv_types.specs.declared.design.Expr.{Expr}
 use Rattle.sv_types.specs.declared.design.Expr.TheVariants as D
-use Rattle.v_tree.specs.declared.tree.VPrim.{VPrim, fold-VPrim, VPrim-F, roll-VPrim, fold-roll-VPrim}
-use Rattle.v_tree.specs.declared.tree.VPrim.TheVariants.{Number, Name, Paren, rolls-Number, rolls-Name, rolls-Paren}
-use Rattle.v_tree.specs.declared.tree.VExpr.{VExpr, VExpr-F, fold-VExpr, roll-VExpr, fold-roll-VExpr}
-use Rattle.v_tree.specs.declared.tree.VExpr.TheVariants.{Prim, Unary, Binary, rolls-Prim, rolls-Unary, rolls-Binary}
-use Rattle.sv_types.specs.Value.{primary_width, primary_value, inverted_if, operand_value, width_alone, value_at}
-use Rattle.lower_design.specs.Translatable.{primary_signals}
-use Rattle.lower_design.specs.Lowering.{name_of, parenthesized, alone, lowered_primary, lowered_operand, lowered_expr}
+use Rattle.v_tree.specs.declared.tree.VPrim.{VPrim, fold-VPrim, VPrim-F}
+use Rattle.v_tree.specs.declared.tree.VPrim.TheVariants.{Number, Name, Paren}
+use Rattle.v_tree.specs.declared.tree.VExpr.{VExpr, VExpr-F}
+use Rattle.v_tree.specs.declared.tree.VExpr.TheVariants.{Prim, Unary, Binary}
+use Rattle.sv_types.specs.Value.{primary_width, primary_value, inverted_if, operand_value}
+use Rattle.sv_types.specs.Statements.{primary_signals}
+use Rattle.lower_design.specs.Shape.{name_of}
+use Rattle.lower_design.specs.Lowered.{parenthesized, alone, lowered_primary, lowered_operand, lowered_expr}
+use Rattle.lower_design.proofs.Levels.{number-level, name-level, paren-level, prim-level, unary-level, binary-level}
 use Rattle.v_tree.specs.Value.{Meaning, meaning, expr_meaning, prim_meaning}
 
 abbrev pub prim_means : VPrim → Meaning
 prim_means = fold-VPrim Meaning Meaning expr_meaning prim_meaning
 
 -- one level of a tree at a time
-pub number-means : (bits : List Bit4) → prim_means (Number bits) ≡ prim_meaning (VPrim-F.Number bits)
-number-means bits = ap prim_means (sym (rolls-Number bits)) ∙ fold-roll-VPrim Meaning Meaning expr_meaning prim_meaning (VPrim-F.Number bits)
+number-means : (bits : List Bit4) → prim_means (Number bits) ≡ prim_meaning (VPrim-F.Number bits)
+number-means = number-level Meaning Meaning expr_meaning prim_meaning
 
 pub name-means : (n : List ℕ) → prim_means (Name n) ≡ prim_meaning (VPrim-F.Name n)
-name-means n = ap prim_means (sym (rolls-Name n)) ∙ fold-roll-VPrim Meaning Meaning expr_meaning prim_meaning (VPrim-F.Name n)
+name-means = name-level Meaning Meaning expr_meaning prim_meaning
 
-pub paren-means : (x : VExpr) → prim_means (Paren x) ≡ meaning x
-paren-means x = ap prim_means (sym (rolls-Paren x)) ∙ fold-roll-VPrim Meaning Meaning expr_meaning prim_meaning (VPrim-F.Paren x)
+paren-means : (x : VExpr) → prim_means (Paren x) ≡ meaning x
+paren-means = paren-level Meaning Meaning expr_meaning prim_meaning
 
 pub prim-means : (p : VPrim) → meaning (Prim p) ≡ prim_means p
-prim-means p = ap meaning (sym (rolls-Prim p)) ∙ fold-roll-VExpr Meaning Meaning expr_meaning prim_meaning (VExpr-F.Prim p)
+prim-means = prim-level Meaning Meaning expr_meaning prim_meaning
 
-pub unary-means : (op : UnOp) (p : VPrim) → meaning (Unary op p) ≡ expr_meaning (VExpr-F.Unary op (prim_means p))
-unary-means op p = ap meaning (sym (rolls-Unary op p)) ∙ fold-roll-VExpr Meaning Meaning expr_meaning prim_meaning (VExpr-F.Unary op p)
+unary-means : (op : UnOp) (p : VPrim) → meaning (Unary op p) ≡ expr_meaning (VExpr-F.Unary op (prim_means p))
+unary-means = unary-level Meaning Meaning expr_meaning prim_meaning
 
-pub binary-means : (op : BinOp) (p q : VPrim) → meaning (Binary op p q) ≡ expr_meaning (VExpr-F.Binary op (prim_means p) (prim_means q))
-binary-means op p q = ap meaning (sym (rolls-Binary op p q)) ∙ fold-roll-VExpr Meaning Meaning expr_meaning prim_meaning (VExpr-F.Binary op p q)
+binary-means : (op : BinOp) (p q : VPrim) → meaning (Binary op p q) ≡ expr_meaning (VExpr-F.Binary op (prim_means p) (prim_means q))
+binary-means = binary-level Meaning Meaning expr_meaning prim_meaning
 
 module _ (signals : List Signal) where
   abbrev pub name : ℕ → List ℕ

@@ -1,13 +1,12 @@
 -- Places of whole signals.
-use Rattle.std.proofs.Common.{◌≡◌, ℕ, zero, suc, ◌+◌, ◌<◌, ◌≤◌, ◌⊎◌, Bool, true, false, not, cond, ◌&&◌, ◌||◌, ◌==◌, nat_lt, if◌then◌else◌, List, [], ◌∷◌, ◌++◌, Option, Some, None, refl, sym, ap, subst, ◌∙◌, inl, inr, arith}
-use Rattle.std.specs.List.{filter}
+use Rattle.std.proofs.Common.{◌≡◌, ℕ, zero, suc, ◌+◌, ◌<◌, ◌≤◌, Bool, true, false, not, cond, ◌&&◌, ◌||◌, ◌==◌, nat_lt, List, [], ◌∷◌, ◌++◌, None, refl, sym, ap, ◌∙◌, inl, inr, arith}
 use Rattle.std.proofs.lemmas.Bool.Decides.{nat_tests}
-use Rattle.std.proofs.lemmas.Bool.{or_cases, or_left, or_right, and_parts, false≢true, eqb-true, eq-eqb, ltb-true, lt-ltb}
+use Rattle.std.proofs.lemmas.Bool.{or_cases, or_left, or_right, and_parts, false≢true, eqb-true, eq-eqb, ltb-true}
 use Rattle.b4_core.specs.declared.bit.Bit4.{Bit4}
-use Rattle.row_machine.specs.Valuation.{Place, Valuation, Changes, is_place, has}
-use Rattle.row_machine.specs.Places.{places_from, places_of, bits_from, vector_at, assigned, without}
+use Rattle.row_machine.specs.Valuation.{Place, Valuation, is_place, has}
+use Rattle.row_machine.specs.Places.{places_from, places_of, bits_from, assigned, without}
 use Rattle.row_machine.proofs.Basics.{is_place-true}
-use Rattle.lower_design.proofs.Names.{pick_true, pick_false, true_or_false, not_true}
+use Rattle.lower_design.proofs.Names.{pick_false, true_or_false}
 
 pub has-append : (xs ys : List Place) (q : Place) → has (xs ++ ys) q ≡ (has xs q || has ys q)
 unfolding has

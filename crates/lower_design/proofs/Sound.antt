@@ -1,150 +1,229 @@
--- The machine of an elaborated design is sound: it has one trace for any rows.
-use Rattle.std.proofs.Common.{◌≡◌, ℕ, zero, suc, ◌+◌, ◌<◌, ◌≤◌, ◌⊎◌, Bool, true, false, not, cond, ◌&&◌, ◌||◌, max, List, [], ◌∷◌, ◌++◌, map, Some, None, Option, refl, sym, ap, subst, ◌∙◌, inl, inr, arith}
-use Rattle.std.specs.List.{slice_get, list_any}
-use Rattle.std.proofs.lemmas.Bool.{or_cases, or_left, or_right, false≢true}
-use Rattle.b4_core.specs.declared.bit.Bit4.{Bit4}
-use Rattle.b4_core.specs.Vectors.{ext}
-use Rattle.b4_core.specs.Binary.{binary_value}
-use Rattle.row_machine.specs.Valuation.{Member, Place, Valuation, has, is_place, NoneWrites, OneWriter}
+-- The machine of a source design is sound: it has one trace for any rows.
+use Rattle.std.proofs.Common.{◌≡◌, ◌⊎◌, ℕ, ◌==◌, Bool, true, false, ◌||◌, List, [], ◌∷◌, None, refl, sym, ap, subst, ◌∙◌, inl, inr, if◌then◌else◌}
+use Rattle.std.proofs.lemmas.Bool.{or_cases, or_left, or_right, false≢true, eqb-true}
+use Rattle.row_machine.specs.Valuation.{Member, Place, Valuation, has, NoneWrites, OneWriter}
 use Rattle.row_machine.specs.Machine as M
-use Rattle.row_machine.specs.Order.{Honest, Free, free, Sound, follows}
-use Rattle.row_machine.proofs.Basics.{any-member, member-has}
-use Rattle.sv_types.specs.declared.design.SignalKind.{SignalKind}
-use Rattle.sv_types.specs.declared.design.SignalKind.TheVariants.{InputNet, OutputVar}
+use Rattle.row_machine.specs.Order.{Honest, Sound, follows}
+use Rattle.row_machine.specs.Places.{places_of}
+use Rattle.row_machine.specs.Steps.{begun}
+use Rattle.row_machine.proofs.Basics.{followed_bit}
+use Rattle.row_machine.proofs.Laws as Laws
 use Rattle.sv_types.specs.declared.design.Signal.{Signal}
-use Rattle.sv_types.specs.declared.design.Primary.{Primary}
-use Rattle.sv_types.specs.declared.design.Primary.TheVariants as P
-use Rattle.sv_types.specs.declared.design.Expr.{Expr}
-use Rattle.sv_types.specs.declared.design.Expr.TheVariants.{Single, Binary}
+use Rattle.sv_types.specs.declared.design.EdgeOn.{EdgeOn}
+use Rattle.sv_types.specs.declared.design.ProcessKind.{ProcessKind}
+use Rattle.sv_types.specs.declared.design.ProcessKind.TheVariants.{Continuous, Comb, Edges}
 use Rattle.sv_types.specs.declared.design.Process.{Process}
+use Rattle.sv_types.specs.declared.design.Stmt.{Stmt}
 use Rattle.sv_types.specs.declared.design.Design.{Design}
-use Rattle.row_machine.specs.Places.{places_of, vector_at, assigned, without}
-use Rattle.sv_types.specs.Value.{primary_value, inverted_if, width_alone, value_at}
+use Rattle.sv_types.specs.Numbers.{holds, each_once}
+use Rattle.sv_types.specs.Statements.{width_of, doing}
 use Rattle.sv_types.specs.Machine as Source
-use Rattle.lower_design.specs.Translatable.{Translatable, IsOfKind, expr_signals, primary_signals, distinct_numbers}
-use Rattle.lower_design.proofs.Names.{true_or_false, member-left, member-right, member-map, member-unmap, member-split}
-use Rattle.lower_design.proofs.Places.{has-append, has-signal, assigned-within, vectors-same, has-without, has-without-only}
+use Rattle.sv_types.specs.Machine.{places_of_signals, comb_process, combs_of, edge_process, edges_of}
+use Rattle.lower_design.specs.Translatable.{Translatable, OneDriver, targets_by, targets_of, is_comb}
+use Rattle.lower_design.proofs.Names.{true_or_false}
+use Rattle.lower_design.proofs.Places.{has-append, has-signal, has-without, has-without-only}
+use Rattle.lower_design.proofs.Hangs.{stmt-tame}
 
--- a signal is of one kind
-pub one-kind : (signals : List Signal) (n : ℕ) → IsOfKind signals InputNet n → IsOfKind signals OutputVar n → ⊥
-one-kind signals n i o =
-    let same : i.signal ≡ o.signal = some-same i.signal o.signal (sym i.is_there ∙ o.is_there) in
-    differ (sym i.is_kind ∙ ap (λ (s : Signal). s.kind) same ∙ o.is_kind)
+-- numbers, each once, are the same numbers
+pub holds-member : (ks : List ℕ) (n : ℕ) → holds ks n ≡ true → Member ks n
+holds-member [] n e = absurd (false≢true e)
+holds-member (k ∷ ks) n e = elim (or_cases (k == n) (holds ks n) e) [ inl h ↦ inl (sym (eqb-true k n h)) | inr h ↦ inr (holds-member ks n h) ]
+
+pub once-member : (ks : List ℕ) (n : ℕ) → Member (each_once ks) n → Member ks n
+once-member [] n m = elim m [ ]
+once-member (k ∷ ks) n m = pick (once-member ks n) (holds ks k) m
   where
-    differ : InputNet ≡ OutputVar → ⊥
-    differ e = cc
+    pick : (Member (each_once ks) n → Member ks n) → (b : Bool) → Member (if b then each_once ks else k ∷ each_once ks) n → Member (k ∷ ks) n
+    pick rest true h = inr (rest h)
+    pick rest false (inl e) = inl e
+    pick rest false (inr h) = inr (rest h)
 
-    some-same : (a b : Signal) → Some a ≡ Some b → a ≡ b
-    some-same a b e = cc
+pub member-once : (ks : List ℕ) (n : ℕ) → Member ks n → Member (each_once ks) n
+member-once [] n m = elim m [ ]
+member-once (k ∷ ks) n m = pick (member-once ks n) (true_or_false (holds ks k)) m
+  where
+    pick : (Member ks n → Member (each_once ks) n) → (holds ks k ≡ true) ⊎ (holds ks k ≡ false) → Member (k ∷ ks) n → Member (if holds ks k then each_once ks else k ∷ each_once ks) n
+    pick rest (inl e) (inl h) = subst (λ b. Member (if b then each_once ks else k ∷ each_once ks) n) (sym e) (rest (subst (λ x. Member ks x) (sym h) (holds-member ks k e)))
+    pick rest (inl e) (inr h) = subst (λ b. Member (if b then each_once ks else k ∷ each_once ks) n) (sym e) (rest h)
+    pick rest (inr e) (inl h) = subst (λ b. Member (if b then each_once ks else k ∷ each_once ks) n) (sym e) (inl h)
+    pick rest (inr e) (inr h) = subst (λ b. Member (if b then each_once ks else k ∷ each_once ks) n) (sym e) (inr (rest h))
 
--- a place that an expression reads is of a signal that it reads
-pub primary-read : (signals : List Signal) (p : Primary) (q : Place) → has (Source.primary_reads signals p) q ≡ true → Member (primary_signals p) q.signal
-unfolding has
-primary-read signals (P.Signal n) q e = inl (has-signal n 0 (Source.width_of signals n) q e)
-primary-read signals (P.Literal bits) q e = absurd (false≢true e)
+module _ (ss : List Signal) where
+  -- a place of some signals is a place of one of them
+  pub in-signals : (ns : List ℕ) (q : Place) → has (places_of_signals ss ns) q ≡ true → (n : ℕ) × Member ns n × (has (places_of n (width_of ss n)) q ≡ true)
+  unfolding has
+  in-signals [] q e = absurd (false≢true e)
+  in-signals (n ∷ ns) q e =
+      elim (or_cases _ _ (sym (has-append (places_of n (width_of ss n)) (places_of_signals ss ns) q) ∙ e)) [
+        | inl h ↦ (n, inl refl, h)
+        | inr h ↦ (let r = in-signals ns q h in (r.0, inr r.1, r.2))
+      ]
 
-pub expr-read : (signals : List Signal) (x : Expr) (q : Place) → has (Source.expr_reads signals x) q ≡ true → Member (expr_signals x) q.signal
-expr-read signals (Single a) q e = primary-read signals a.primary q e
-expr-read signals (Binary op a b) q e =
-    elim (or_cases _ _ (sym (has-append (Source.primary_reads signals a.primary) (Source.primary_reads signals b.primary) q) ∙ e)) [
-      | inl h ↦ member-left _ _ _ (primary-read signals a.primary q h)
-      | inr h ↦ member-right (primary_signals a.primary) _ _ (primary-read signals b.primary q h)
-    ]
-
--- and each place of a signal that it reads is one that it reads
-pub primary-reads : (signals : List Signal) (p : Primary) (n : ℕ) (q : Place) → Member (primary_signals p) n → has (places_of n (Source.width_of signals n)) q ≡ true → has (Source.primary_reads signals p) q ≡ true
-primary-reads signals (P.Signal k) n q (inl e) h = subst (λ m. has (places_of m (Source.width_of signals m)) q ≡ true) e h
-primary-reads signals (P.Signal k) n q (inr m) h = elim m [ ]
-primary-reads signals (P.Literal bits) n q m h = elim m [ ]
-
-pub expr-reads : (signals : List Signal) (x : Expr) (n : ℕ) (q : Place) → Member (expr_signals x) n → has (places_of n (Source.width_of signals n)) q ≡ true → has (Source.expr_reads signals x) q ≡ true
-expr-reads signals (Single a) n q m h = primary-reads signals a.primary n q m h
-expr-reads signals (Binary op a b) n q m h =
-    has-append (Source.primary_reads signals a.primary) (Source.primary_reads signals b.primary) q
-    ∙ elim (member-split (primary_signals a.primary) (primary_signals b.primary) n m) [
-      | inl k ↦ or_left _ _ (primary-reads signals a.primary n q k h)
-      | inr k ↦ or_right (has (Source.primary_reads signals a.primary) q) _ (primary-reads signals b.primary n q k h)
-    ]
-
--- the value of an expression hangs on the signals that it reads
-pub primary-hangs : (held held' : ℕ → List Bit4) (w : ℕ) (p : Primary) → ((n : ℕ) → Member (primary_signals p) n → held n ≡ held' n) → primary_value held w p ≡ primary_value held' w p
-primary-hangs held held' w (P.Signal n) same = ap (ext w false) (same n (inl refl))
-primary-hangs held held' w (P.Literal bits) same = refl
-
-pub value-hangs : (held held' : ℕ → List Bit4) (w : ℕ) (x : Expr) → ((n : ℕ) → Member (expr_signals x) n → held n ≡ held' n) → value_at held w x ≡ value_at held' w x
-value-hangs held held' w (Single a) same = ap (inverted_if a.inverted) (primary-hangs held held' w a.primary same)
-value-hangs held held' w (Binary op a b) same =
-    λ i. binary_value op false
-    (inverted_if a.inverted (primary-hangs held held' w a.primary (λ n m. same n (member-left _ _ n m)) i))
-    (inverted_if b.inverted (primary-hangs held held' w b.primary (λ n m. same n (member-right (primary_signals a.primary) _ n m)) i))
-
-module _ (d : Design) (t : Translatable d) where
-  -- the bits of an operand aren't written by a process
-  pub operand-apart : (p q : Process) → Member d.processes p → Member d.processes q → (r : Place) → Member (expr_signals p.value) r.signal
-      → has (places_of q.target (Source.width_of d.signals q.target)) r ≡ true → ⊥
-  operand-apart p q mp mq r m h =
-      one-kind d.signals r.signal (t.operands p mp r.signal m)
-      (subst (λ n. IsOfKind d.signals OutputVar n) (sym (has-signal q.target 0 (Source.width_of d.signals q.target) r h)) (t.targets q mq))
-
-  pub process-honest : (p : Process) → Member d.processes p → Honest (Source.process_of d.signals p)
-  process-honest p m = record {
-    by_reads = λ v u same q. ap (λ bits. assigned p.target w bits q) (driven-same v u same);
-    within = λ v q h. assigned-within p.target w (Source.driven d.signals p v) q h;
-  }
+  pub signals-in : (ns : List ℕ) (n : ℕ) (q : Place) → Member ns n → has (places_of n (width_of ss n)) q ≡ true → has (places_of_signals ss ns) q ≡ true
+  signals-in [] n q m h = elim m [ ]
+  signals-in (k ∷ ns) n q m h = has-append (places_of k (width_of ss k)) (places_of_signals ss ns) q ∙ either (λ l. signals-in ns n q l h) m
     where
-      w : ℕ
-      w = Source.width_of d.signals p.target
+      either : (Member ns n → has (places_of_signals ss ns) q ≡ true) → Member (k ∷ ns) n → (has (places_of k (width_of ss k)) q || has (places_of_signals ss ns) q) ≡ true
+      either rest (inl e) = or_left _ _ (subst (λ x. has (places_of x (width_of ss x)) q ≡ true) e h)
+      either rest (inr l) = or_right (has (places_of k (width_of ss k)) q) _ (rest l)
 
-      driven-same : (v u : Valuation) → ((q : Place) → has (without (places_of p.target (Source.width_of d.signals p.target)) (Source.expr_reads d.signals p.value)) q ≡ true → v q ≡ u q) → Source.driven d.signals p v ≡ Source.driven d.signals p u
-      driven-same v u same =
-          ap (λ bits. ext (Source.width_of d.signals p.target) false bits)
-          (value-hangs (Source.held_at d.signals v) (Source.held_at d.signals u) (max (Source.width_of d.signals p.target) (width_alone (Source.width_of d.signals) p.value)) p.value
-          (λ n k. vectors-same v u n 0 (Source.width_of d.signals n) (λ q h. same q (has-without _ _ q (expr-reads d.signals p.value n q k h) (apart n q k h)))))
-        where
-          apart : (n : ℕ) (q : Place) → Member (expr_signals p.value) n → has (places_of n (Source.width_of d.signals n)) q ≡ true → has (places_of p.target (Source.width_of d.signals p.target)) q ≡ false
-          apart n q k h =
-              elim (true_or_false (has (places_of p.target (Source.width_of d.signals p.target)) q)) [
-                | inr e ↦ e
-                | inl e ↦ absurd (operand-apart p p m m q (subst (λ x. Member (expr_signals p.value) x) (sym (has-signal n 0 (Source.width_of d.signals n) q h)) k) e)
-              ]
+  -- so its number is one of theirs
+  pub at-number : (ns : List ℕ) (q : Place) → has (places_of_signals ss ns) q ≡ true → Member ns q.signal
+  at-number ns q h = let r = in-signals ns q h in subst (λ n. Member ns n) (sym (has-signal r.0 0 (width_of ss r.0) q r.2)) r.1
 
-  -- no process follows another one
-  pub never-follows : (p q : Process) → Member d.processes p → Member d.processes q → follows (Source.process_of d.signals p) (Source.process_of d.signals q) ≡ true → ⊥
-  never-follows p q mp mq e =
-      let a = any-member (has (Source.process_of d.signals q).writes) (Source.process_of d.signals p).reads e in
-      let reads : has (Source.expr_reads d.signals p.value) a.0 ≡ true = has-without-only _ _ a.0 (member-has (Source.process_of d.signals p).reads a.0 a.1) in
-      operand-apart p q mp mq a.0 (expr-read d.signals p.value a.0 reads) a.2
+  pub at-once : (ns : List ℕ) (q : Place) → has (places_of_signals ss (each_once ns)) q ≡ true → Member ns q.signal
+  at-once ns q h = once-member ns q.signal (at-number (each_once ns) q h)
 
-  pub all-free : (p : M.Process) → Member (Source.machine d).combs p → Free (Source.machine d).combs p
-  all-free p m =
-      let x = member-unmap (Source.process_of d.signals) d.processes p m in
-      free (λ q k e.
-      let y = member-unmap (Source.process_of d.signals) d.processes q k in
-      let first = subst (λ (a : M.Process). follows a q ≡ true) x.2 e in
-      absurd (never-follows x.0 y.0 x.1 y.1 (subst (λ (b : M.Process). follows (Source.process_of d.signals x.0) b ≡ true) y.2 first)))
+  -- and what isn't written is apart
+  apart-once : (ns : List ℕ) (q : Place) → has (places_of_signals ss (each_once ns)) q ≡ false → (n : ℕ) → Member ns n → has (places_of n (width_of ss n)) q ≡ false
+  apart-once ns q e n m =
+      elim (true_or_false (has (places_of n (width_of ss n)) q)) [
+        | inr f ↦ f
+        | inl h ↦ absurd (false≢true (sym e ∙ signals-in (each_once ns) n q (member-once ns n m) h))
+      ]
+
+  pub record IsComb (ps : List Process) (m : M.Process) : Type 0 where
+    pub process : Process
+    pub member : Member ps process
+    pub kind : is_comb process.kind ≡ true
+    pub is : m ≡ comb_process ss process.body
+
+  pub comb-member : (ps : List Process) (m : M.Process) → Member (combs_of ss ps) m → IsComb ps m
+  comb-member [] m k = elim k [ ]
+  comb-member (p ∷ ps) m k = by_kind (comb-member ps m) p.kind refl k
+    where
+      later : IsComb ps m → IsComb (p ∷ ps) m
+      later c = record { process = c.process; member = inr c.member; kind = c.kind; is = c.is }
+
+      here : (Member (combs_of ss ps) m → IsComb ps m) → is_comb p.kind ≡ true → Member (comb_process ss p.body ∷ combs_of ss ps) m → IsComb (p ∷ ps) m
+      here rest c (inl e) = record { process = p; member = inl refl; kind = c; is = e }
+      here rest c (inr l) = later (rest l)
+
+      by_kind : (Member (combs_of ss ps) m → IsComb ps m) → (kind : ProcessKind) → p.kind ≡ kind → Member (Source.comb_of ss kind p.body (combs_of ss ps)) m → IsComb (p ∷ ps) m
+      by_kind rest Continuous e l = here rest (ap is_comb e) l
+      by_kind rest Comb e l = here rest (ap is_comb e) l
+      by_kind rest (Edges es) e l = later (rest l)
+
+  pub record IsEdges (ps : List Process) (m : M.EdgeProcess) : Type 0 where
+    pub process : Process
+    pub member : Member ps process
+    pub edges : List EdgeOn
+    pub kind : process.kind ≡ Edges edges
+    pub is : m ≡ edge_process ss edges process.body
+
+  pub edge-member : (ps : List Process) (m : M.EdgeProcess) → Member (edges_of ss ps) m → IsEdges ps m
+  edge-member [] m k = elim k [ ]
+  edge-member (p ∷ ps) m k = by_kind (edge-member ps m) p.kind refl k
+    where
+      later : IsEdges ps m → IsEdges (p ∷ ps) m
+      later c = record { process = c.process; member = inr c.member; edges = c.edges; kind = c.kind; is = c.is }
+
+      by_kind : (Member (edges_of ss ps) m → IsEdges ps m) → (kind : ProcessKind) → p.kind ≡ kind → Member (Source.edge_process_of ss kind p.body (edges_of ss ps)) m → IsEdges (p ∷ ps) m
+      by_kind rest Continuous e l = later (rest l)
+      by_kind rest Comb e l = later (rest l)
+      by_kind rest (Edges es) e (inl h) = record { process = p; member = inl refl; edges = es; kind = e; is = h }
+      by_kind rest (Edges es) e (inr l) = later (rest l)
+
+  pub comb-targets : (kind : ProcessKind) (body : Stmt) → is_comb kind ≡ true → targets_by kind body ≡ (doing body).targets
+  comb-targets Continuous body e = refl
+  comb-targets Comb body e = refl
+  comb-targets (Edges es) body e = absurd (false≢true e)
+
+  -- a bit that a process writes is of one of its targets
+  pub comb-writes : (p : Process) → is_comb p.kind ≡ true → (q : Place) → has (comb_process ss p.body).writes q ≡ true → Member (targets_of p) q.signal
+  comb-writes p c q h = subst (λ ns. Member ns q.signal) (sym (comb-targets p.kind p.body c)) (at-once (doing p.body).targets q h)
+
+  pub edge-writes : (p : Process) (es : List EdgeOn) → p.kind ≡ Edges es → (q : Place) → has (edge_process ss es p.body).writes q ≡ true → Member (targets_of p) q.signal
+  edge-writes p es e q h = subst (λ k. Member (targets_by k p.body) q.signal) (sym e) (at-once (doing p.body).later_targets q h)
 
   -- no bit has two writers
-  pub writers-apart : (ps : List Process) → distinct_numbers (map (λ (p : Process). p.target) ps) → OneWriter (λ (p : M.Process). p.writes) (map (Source.process_of d.signals) ps)
-  writers-apart [] h = tt
-  writers-apart (p ∷ ps) h = (λ q e x m. other q e x (member-unmap (Source.process_of d.signals) ps x m), writers-apart ps h.1)
+  combs-apart : (ps : List Process) → OneDriver ps → OneWriter (λ (p : M.Process). p.writes) (combs_of ss ps)
+  combs-apart [] h = tt
+  combs-apart (p ∷ ps) h = by_kind (combs-apart ps h.1) p.kind refl
     where
-      other : (q : Place) → has (places_of p.target (Source.width_of d.signals p.target)) q ≡ true → (x : M.Process)
-          → (y : Process) × Member ps y × (x ≡ Source.process_of d.signals y) → has x.writes q ≡ false
-      other q e x y =
-          elim (true_or_false (has (Source.process_of d.signals y.0).writes q)) [
-            | inr n ↦ ap (λ (z : M.Process). has z.writes q) y.2 ∙ n
-            | inl n ↦ absurd (h.0 (subst (λ k. Member (map (λ (p : Process). p.target) ps) k)
-                (sym (has-signal y.0.target 0 (Source.width_of d.signals y.0.target) q n) ∙ has-signal p.target 0 (Source.width_of d.signals p.target) q e)
-                (member-map (λ (p : Process). p.target) ps y.0 y.1)))
+      others : is_comb p.kind ≡ true → (q : Place) → has (comb_process ss p.body).writes q ≡ true → NoneWrites (λ (x : M.Process). x.writes) (combs_of ss ps) q
+      others c q e x m =
+          let y = comb-member ps x m in
+          elim (true_or_false (has (comb_process ss y.process.body).writes q)) [
+            | inr f ↦ ap (λ (z : M.Process). has z.writes q) y.is ∙ f
+            | inl t ↦ absurd (h.0 q.signal (comb-writes p c q e) y.process y.member (comb-writes y.process y.kind q t))
           ]
+
+      by_kind : OneWriter (λ (x : M.Process). x.writes) (combs_of ss ps) → (kind : ProcessKind) → p.kind ≡ kind → OneWriter (λ (x : M.Process). x.writes) (Source.comb_of ss kind p.body (combs_of ss ps))
+      by_kind rest Continuous e = (others (ap is_comb e), rest)
+      by_kind rest Comb e = (others (ap is_comb e), rest)
+      by_kind rest (Edges es) e = rest
+
+  edges-apart : (ps : List Process) → OneDriver ps → OneWriter (λ (p : M.EdgeProcess). p.writes) (edges_of ss ps)
+  edges-apart [] h = tt
+  edges-apart (p ∷ ps) h = by_kind (edges-apart ps h.1) p.kind refl
+    where
+      others : (es : List EdgeOn) → p.kind ≡ Edges es → (q : Place) → has (edge_process ss es p.body).writes q ≡ true → NoneWrites (λ (x : M.EdgeProcess). x.writes) (edges_of ss ps) q
+      others es k q e x m =
+          let y = edge-member ps x m in
+          elim (true_or_false (has (edge_process ss y.edges y.process.body).writes q)) [
+            | inr f ↦ ap (λ (z : M.EdgeProcess). has z.writes q) y.is ∙ f
+            | inl t ↦ absurd (h.0 q.signal (edge-writes p es k q e) y.process y.member (edge-writes y.process y.edges y.kind q t))
+          ]
+
+      by_kind : OneWriter (λ (x : M.EdgeProcess). x.writes) (edges_of ss ps) → (kind : ProcessKind) → p.kind ≡ kind → OneWriter (λ (x : M.EdgeProcess). x.writes) (Source.edge_process_of ss kind p.body (edges_of ss ps))
+      by_kind rest Continuous e = rest
+      by_kind rest Comb e = rest
+      by_kind rest (Edges es) e = (others es e, rest)
+
+module _ (d : Design) (t : Translatable d) where
+  abbrev ss : List Signal
+  ss = d.signals
+
+  -- no combinational process reads a bit that one writes
+  reads-apart : (p y : Process) → Member d.processes p → Member d.processes y → is_comb p.kind ≡ true → is_comb y.kind ≡ true → (q : Place)
+      → Member (doing p.body).reads q.signal → has (comb_process ss y.body).writes q ≡ true → ⊥
+  reads-apart p y mp my cp cy q m h = t.independent p y mp my cp cy q.signal m (comb-writes ss y cy q h)
+
+  comb-honest : (p : Process) → Member d.processes p → is_comb p.kind ≡ true → Honest (comb_process ss p.body)
+  comb-honest p m c = record {
+    by_reads = λ v u same q.
+        ((stmt-tame ss p.body).hangs (doing p.body).reads (λ n k. k) (begun v) (begun u)
+        (record { now = λ n k r h. same r (kept n k r h); written = λ r. refl; pending = λ r. refl })).written q;
+    within = λ v q h. (stmt-tame ss p.body).written (begun v) q (apart-once ss (doing p.body).targets q h);
+  }
+    where
+      kept : (n : ℕ) → Member (doing p.body).reads n → (r : Place) → has (places_of n (width_of ss n)) r ≡ true → has (comb_process ss p.body).reads r ≡ true
+      kept n k r h =
+          has-without (comb_process ss p.body).writes (places_of_signals ss (doing p.body).reads) r (signals-in ss (doing p.body).reads n r k h) (elim (true_or_false (has (comb_process ss p.body).writes r)) [
+            | inr f ↦ f
+            | inl w ↦ absurd (reads-apart p p m m c c r (subst (λ x. Member (doing p.body).reads x) (sym (has-signal n 0 (width_of ss n) r h)) k) w)
+          ])
+
+  never-follows : (p y : Process) → Member d.processes p → Member d.processes y → is_comb p.kind ≡ true → is_comb y.kind ≡ true
+      → follows (comb_process ss p.body) (comb_process ss y.body) ≡ true → ⊥
+  never-follows p y mp my cp cy e =
+      let r = followed_bit (comb_process ss p.body) (comb_process ss y.body) e in
+      reads-apart p y mp my cp cy r.0 (at-number ss (doing p.body).reads r.0 (has-without-only (comb_process ss p.body).writes (places_of_signals ss (doing p.body).reads) r.0 r.1)) r.2
+
+  none-follows : (p q : M.Process) → Member (combs_of ss d.processes) p → Member (combs_of ss d.processes) q → follows p q ≡ false
+  none-follows p q mp mq =
+      let a = comb-member ss d.processes p mp in
+      let b = comb-member ss d.processes q mq in
+      (λ i. follows (a.is i) (b.is i))
+      ∙ elim (true_or_false (follows (comb_process ss a.process.body) (comb_process ss b.process.body))) [
+        | inr f ↦ f
+        | inl h ↦ absurd (never-follows a.process b.process a.member b.member a.kind b.kind h)
+      ]
 
   pub sound : Sound (Source.machine d)
   sound = record {
     well_written = record {
-      honest = λ p m. (let x = member-unmap (Source.process_of d.signals) d.processes p m in subst Honest (sym x.2) (process-honest x.0 x.1));
-      one_writer = writers-apart d.processes t.one_driver;
-      edges_within = λ p m. elim m [ ];
-      edges_one_writer = tt;
+      honest = λ p m. (let a = comb-member ss d.processes p m in subst Honest (sym a.is) (comb-honest a.process a.member a.kind));
+      one_writer = combs-apart ss d.processes t.one_driver;
+      edges_within = λ p m v q h. within p (edge-member ss d.processes p m) v q h;
+      edges_one_writer = edges-apart ss d.processes t.one_driver;
     };
-    all_free = all-free;
+    all_free = Laws.independent_are_free (combs_of ss d.processes) none-follows;
   }
+    where
+      within : (p : M.EdgeProcess) → IsEdges d.signals d.processes p → (v : Valuation) (q : Place) → has p.writes q ≡ false → p.updates v q ≡ None
+      within p a v q h =
+          ap (λ (x : M.EdgeProcess). x.updates v q) a.is
+          ∙ (stmt-tame d.signals a.process.body).pending (begun v) q
+          (apart-once d.signals (doing a.process.body).later_targets q (ap (λ (x : M.EdgeProcess). has x.writes q) (sym a.is) ∙ h))

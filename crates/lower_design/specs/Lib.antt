@@ -2,3 +2,4 @@ pub mod Translatable
 pub mod Agreement
 pub mod Shape
 pub mod Lowering
+pub mod Lowered

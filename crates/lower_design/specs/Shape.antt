@@ -20,7 +20,7 @@ use Rattle.v_tree.specs.Statements.{doing_of}
 use Rattle.v_tree.specs.declared.tree.VEdge.{VEdge}
 use Rattle.v_tree.specs.declared.tree.VModule.{VModule}
 use Rattle.v_tree.specs.declared.tree.VDesign.{VDesign}
-use Rattle.lower_design.specs.Translatable.{is_helper_name, path_of, targets_by}
+use Rattle.lower_design.specs.Translatable.{is_helper_name, path_of}
 
 -- the printed name of a signal: its path inside its module
 abbrev pub path_or_nothing : Option Signal → Name

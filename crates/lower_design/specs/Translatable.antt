@@ -1,5 +1,5 @@
 -- The elaborated designs that are translated: typed, within the limits, and without a break of the rules on processes.
-use Rattle.std.specs.Prelude.{◌≡◌, ◌≢◌, ◌≤◌, ◌<◌, ◌^◌, ℕ, suc, max, Bool, true, false, not, ◌&&◌, List, [], ◌∷◌, ◌++◌, take, map, sum, length, codes, slice_get, Option, Some, None}
+use Rattle.std.specs.Prelude.{◌≡◌, ◌≢◌, ◌≤◌, ◌<◌, ◌^◌, ℕ, suc, max, Bool, true, false, List, [], ◌∷◌, ◌++◌, take, map, sum, length, codes, slice_get, Option, Some, None}
 use Rattle.std.specs.Str.{bytes_eq}
 use Rattle.b4_core.specs.declared.operators.BinOp.{BinOp}
 use Rattle.b4_core.specs.declared.operators.BinOp.TheVariants.{And, Or, Xor, Xnor, Add, Sub, Mul, Div, Rem}
@@ -16,9 +16,9 @@ use Rattle.sv_types.specs.declared.design.ProcessKind.{ProcessKind}
 use Rattle.sv_types.specs.declared.design.ProcessKind.TheVariants.{Continuous, Comb, Edges}
 use Rattle.sv_types.specs.declared.design.Process.{Process}
 use Rattle.sv_types.specs.declared.design.Stmt.{Stmt, Stmt-F, fold-Stmt}
-use Rattle.sv_types.specs.declared.design.Stmt.TheVariants.{Block, If, Assign}
+use Rattle.sv_types.specs.declared.design.Stmt.TheVariants.{Assign}
 use Rattle.sv_types.specs.declared.design.Design.{Design}
-use Rattle.sv_types.specs.Statements.{expr_signals, doing}
+use Rattle.sv_types.specs.Statements.{doing}
 use Rattle.v_tree.specs.Names.{Name, distinct}
 use Rattle.v_tree.specs.Tokens.{is_simple}
 

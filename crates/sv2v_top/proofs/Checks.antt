@@ -4,7 +4,7 @@ use Rattle.std.specs.List.{list_all, fold, filter, flat_map}
 use Rattle.std.specs.Prelude.{IsTrue, ◌↔◌}
 use Rattle.std.specs.Bool.{Decides}
 use Rattle.std.specs.Str.{bytes_eq}
-use Rattle.std.specs.Option.{is_some}
+use Rattle.std.specs.Option.{is_some, option_or}
 use Rattle.std.proofs.lemmas.Bool.Decides.{same_from_decides}
 use Rattle.std.proofs.lemmas.Slice.Eq.{bytes_eq-Decides}
 use Rattle.sv_source.specs.declared.token.Spot.{Spot}
@@ -23,8 +23,8 @@ use Rattle.sv2v_top.specs.declared.sv_tree.Range.{Range}
 use Rattle.sv2v_top.specs.declared.sv_tree.Port.{Port}
 use Rattle.sv2v_top.specs.declared.sv_tree.Item.{Item}
 use Rattle.sv2v_top.specs.declared.package_scope.Names.{Names}
-use Rattle.sv2v_top.specs.source.Names.{Declared, ports_from, direction_after, range_after, variables, declared_by, name_of, port_word, port_names, signal_names}
-use Rattle.sv2v_top.specs.source.Statements.{word_of, if_target, targets_in, in_both}
+use Rattle.sv2v_top.specs.source.Names.{Declared, ports_from, direction_after, range_after, variables, declared_by, name_of, port_word, port_names, signal_names, undeclared, undeclared_in}
+use Rattle.sv2v_top.specs.source.Statements.{item_parts, word_of, if_target, targets_in, in_both}
 use Rattle.sv2v_top.specs.source.Rules.{range_width, total_bits, signal_of, width_of, is_plain_range, ranges_are_plain, inputs, if_input, input_paths, all_among, none_among}
 use Rattle.sv2v_top.specs.source.Lookup.{Numbers, holds}
 use Rattle.sv2v_top.proofs.Lookup.{some-among}
@@ -160,6 +160,36 @@ ports-named direction range (p ∷ ports) = ap (λ ws. p.name.word ∷ ws) (port
 pub signals-named : (m : Module) → port_names m ++ map name_of (variables m.items) ≡ signal_names m
 signals-named m =
     ap (λ ws. ws ++ map name_of (variables m.items)) (sym (ports-named Input None m.ports)) ∙ sym (map-append name_of (ports_from Input None m.ports) (variables m.items))
+
+pub in-none : (xs : List (List ℕ)) → in_both xs [] ≡ []
+in-none [] = refl
+in-none (x ∷ xs) = in-none xs
+
+pub take-past : {A : Type 0} (xs : List A) (i : ℕ) → length xs ≤ i → take i xs ≡ xs
+take-past [] zero h = refl
+take-past [] (suc i) h = refl
+take-past (x ∷ xs) zero h = absurd (omega arith)
+take-past (x ∷ xs) (suc i) h = ap (λ ys. x ∷ ys) (take-past xs i (omega arith))
+
+pub drop-past : {A : Type 0} (xs : List A) (i : ℕ) → length xs ≤ i → drop i xs ≡ []
+drop-past [] zero h = refl
+drop-past [] (suc i) h = refl
+drop-past (x ∷ xs) zero h = absurd (omega arith)
+drop-past (x ∷ xs) (suc i) h = drop-past xs i (omega arith)
+
+pub drop-here : {A : Type 0} (xs : List A) (i : ℕ) (x : A) → i < length xs → x ≡ slice_index_or xs i x → drop i xs ≡ x ∷ drop (i + 1) xs
+drop-here xs i x h e = drop-cons xs i x h ∙ ap (λ z. z ∷ drop (suc i) xs) (sym e) ∙ ap (λ k. x ∷ drop k xs) (sym (add-one i))
+
+-- the first use of an unknown name in an item, or behind it
+pub first-here : (own : List ℕ) (ns : List (List ℕ)) (items : List Item) (i : ℕ) (x : Item) (u : Use) → i < length items → x ≡ slice_index_or items i x
+    → undeclared own ns (item_parts x).names ≡ Some u → undeclared_in own ns (drop i items) ≡ Some u
+first-here own ns items i x u h e f =
+    ap (undeclared_in own ns) (drop-here items i x h e) ∙ ap (λ o. option_or o (undeclared_in own (ns ++ map name_of (declared_by x)) (drop (i + 1) items))) f
+
+pub first-later : (own : List ℕ) (ns : List (List ℕ)) (items : List Item) (i : ℕ) (x : Item) → i < length items → x ≡ slice_index_or items i x
+    → undeclared own ns (item_parts x).names ≡ None → undeclared_in own ns (drop i items) ≡ undeclared_in own (ns ++ map name_of (declared_by x)) (drop (i + 1) items)
+first-later own ns items i x h e f =
+    ap (undeclared_in own ns) (drop-here items i x h e) ∙ ap (λ o. option_or o (undeclared_in own (ns ++ map name_of (declared_by x)) (drop (i + 1) items))) f
 
 -- the test of equal bytes
 pub is-bytes : (r : Bool) (a b : List ℕ) → (IsTrue r ↔ (a ≡ b)) → r ≡ bytes_eq a b

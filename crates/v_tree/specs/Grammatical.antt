@@ -6,7 +6,6 @@ use Rattle.b4_core.specs.declared.operators.BinOp.{BinOp}
 use Rattle.b4_core.specs.declared.operators.BinOp.TheVariants.{And, Or, Xor, Xnor, Add, Sub, Mul, Div, Rem}
 use Rattle.b4_core.specs.declared.operators.UnOp.{UnOp}
 use Rattle.b4_core.specs.declared.operators.UnOp.TheVariants.{Not, Neg}
-use Rattle.v_tree.specs.Names.{Name}
 use Rattle.v_tree.specs.Tokens.{is_simple}
 use Rattle.v_tree.specs.Reading.{nesting_limit}
 use Rattle.v_tree.specs.declared.tree.VBranch.{VBranch, VBranch-F, fold-VBranch}
@@ -15,7 +14,7 @@ use Rattle.v_tree.specs.declared.tree.VExpr.{VExpr, VExpr-F, fold-VExpr}
 use Rattle.v_tree.specs.declared.tree.VItem.{VItem}
 use Rattle.v_tree.specs.declared.tree.VItem.TheVariants.{Input, Output, OutputReg, Wire, Reg, Initial, Assign, Always}
 use Rattle.v_tree.specs.declared.tree.VModule.{VModule}
-use Rattle.v_tree.specs.declared.tree.VPrim.{VPrim, VPrim-F, fold-VPrim}
+use Rattle.v_tree.specs.declared.tree.VPrim.{VPrim-F}
 use Rattle.v_tree.specs.declared.tree.VSensitivity.{VSensitivity}
 use Rattle.v_tree.specs.declared.tree.VSensitivity.TheVariants.{Star, Edges}
 use Rattle.v_tree.specs.declared.tree.VStmt.{VStmt, VStmt-F, fold-VStmt}
@@ -89,6 +88,9 @@ abbrev pub stmt_form : VStmt-F Form Form → Form
 stmt_form (VStmt-F.Block fs) = record { fits = all_fit fs; depth = suc (deepest fs); closed = true }
 stmt_form (VStmt-F.If on then other) = if_form on then other
 stmt_form (VStmt-F.Assign target value later) = record { fits = is_simple target && (form value).fits; depth = suc (form value).depth; closed = true }
+
+abbrev pub form_of_stmt : VStmt → Form
+form_of_stmt = fold-VStmt Form Form branch_form stmt_form
 
 abbrev pub form_of_branch : VBranch → Form
 form_of_branch = fold-VBranch Form Form branch_form stmt_form

@@ -1,9 +1,7 @@
 -- A target design as a machine over rows.
-use Rattle.std.specs.Prelude.{ℕ, suc, Bool, true, false, not, ◌&&◌, ◌||◌, List, [], ◌∷◌, ◌++◌, flat_map, cond, slice_index_or}
+use Rattle.std.specs.Prelude.{ℕ, suc, Bool, true, false, not, ◌&&◌, List, [], ◌∷◌, ◌++◌, flat_map, cond, slice_index_or}
 use Rattle.std.specs.List.{list_any}
-use Rattle.std.specs.Str.{bytes_eq}
-use Rattle.b4_core.specs.declared.bit.Bit4.{Bit4}
-use Rattle.b4_core.specs.declared.bit.Bit4.TheVariants.{Zero, One, X, Z}
+use Rattle.b4_core.specs.declared.bit.Bit4.TheVariants.{X, Z}
 use Rattle.b4_core.specs.Bitwise.{edge_of}
 use Rattle.row_machine.specs.Valuation.{Place, Valuation, has}
 use Rattle.row_machine.specs.Machine as M
@@ -13,7 +11,7 @@ use Rattle.row_machine.specs.Steps.{begun, is_edge}
 use Rattle.v_tree.specs.Names.{Name, once}
 use Rattle.v_tree.specs.Value.{meaning}
 use Rattle.v_tree.specs.Signals.{Kind, input_net, net, variable, Signal, Process, assign, star, on_edges, InitialValue, signals, processes, initials, number_of, places_named, items_of}
-use Rattle.v_tree.specs.Statements.{Doing, doing_of, changes_of}
+use Rattle.v_tree.specs.Statements.{doing_of, changes_of}
 use Rattle.v_tree.specs.declared.tree.VBranch.{VBranch}
 use Rattle.v_tree.specs.declared.tree.VDesign.{VDesign}
 use Rattle.v_tree.specs.declared.tree.VEdge.{VEdge}

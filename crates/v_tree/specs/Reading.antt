@@ -1,5 +1,5 @@
 -- What it is for a text to read as a design.
-use Rattle.std.specs.Prelude.{◌≡◌, ◌≢◌, ◌≤◌, ◌^◌, ℕ, Bool, true, false, not, List, [], ◌∷◌, ◌++◌, map, length, filter, sum}
+use Rattle.std.specs.Prelude.{◌≡◌, ◌≤◌, ◌^◌, ℕ, true, List, [], ◌∷◌, ◌++◌, map, length, filter, sum}
 use Rattle.row_machine.specs.Valuation.{Member}
 use Rattle.ll_engine.specs.declared.tree.Tree.{Tree}
 use Rattle.ll_engine.specs.Texts.{IsReading}
@@ -9,7 +9,7 @@ use Rattle.v_tree.specs.declared.tree.VModule.{VModule}
 use Rattle.v_tree.specs.declared.tree.VDesign.{VDesign}
 use Rattle.v_tree.specs.Names.{Name, distinct}
 use Rattle.v_tree.specs.Value.{meaning}
-use Rattle.v_tree.specs.Signals.{Kind, input_net, net, variable, Signal, Process, assign, star, on_edges, InitialValue, signals, processes, initials, items_of}
+use Rattle.v_tree.specs.Signals.{Kind, net, variable, Signal, Process, assign, star, on_edges, InitialValue, signals, processes, initials, items_of}
 use Rattle.v_tree.specs.Statements.{doing_of}
 use Rattle.v_tree.specs.Tokens.{tokens}
 use Rattle.v_tree.specs.Symbols.{symbol}
@@ -88,6 +88,10 @@ pub record VReads (bytes : List ℕ) (e : VDesign) : Type 0 where
   pub reading : IsReading table (map symbol (tokens bytes)) nesting_limit tree
   pub means : design_of (tokens bytes) tree ≡ e
   pub well_formed : WellFormed e
+
+-- A text reads as one design at most.
+abbrev pub OneDesign : Type 0
+OneDesign = (bytes : List ℕ) (e f : VDesign) → VReads bytes e → VReads bytes f → e ≡ f
 
 -- The design can be run with this module as its top. There are no instances under the top yet, so its signals are all.
 pub record FitsTop (e : VDesign) (top : Name) : Type 0 where

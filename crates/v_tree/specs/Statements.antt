@@ -1,5 +1,5 @@
 -- What statements of a target text read, write and do (IEEE 1364-2005 clauses 9.2, 9.4 and 9.8.1).
-use Rattle.std.specs.Prelude.{ℕ, max, Bool, true, false, List, [], ◌∷◌, ◌++◌, flat_map, map, Option, Some, None, cond}
+use Rattle.std.specs.Prelude.{max, Bool, true, false, List, [], ◌∷◌, ◌++◌, flat_map, map, Option, Some, None, cond}
 use Rattle.b4_core.specs.declared.bit.Bit4.{Bit4}
 use Rattle.b4_core.specs.Bitwise.{truth_of}
 use Rattle.b4_core.specs.Vectors.{ext}

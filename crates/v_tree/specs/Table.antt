@@ -3,10 +3,17 @@
 --   text   = { module }
 --   module = "module" NAME [ports] ";" { item } "endmodule"
 --   ports  = "(" NAME { next } ")"        next = "," NAME
---   item   = "input" [range] NAME ";" | "output" [range] NAME ";" | "assign" lval "=" expr ";"
---   range  = "[" bound ":" "0" "]"        bound = DECIMAL | "0"        lval = NAME
+--   item   = "input" [range] NAME ";" | "output" out | "wire" [range] NAME ";" | "reg" [range] NAME ";"
+--          | "initial" NAME "<=" NUMBER ";" | "assign" lval "=" expr ";" | "always" "@" event snull
+--   out    = [range] NAME ";" | "reg" [range] NAME ";"
+--   event  = "*" | "(" edge { more } ")"  more = "or" edge        edge = "posedge" NAME | "negedge" NAME
+--   snull  = stmt | ";"                   else = "else" snull     store = "=" | "<="
+--   stmt   = "begin" { stmt } "end" | "if" "(" expr ")" snull [else] | lval store expr ";"
+--   range  = "[" bound ":" "0" "]"        bound = DECIMAL | "0"   lval = NAME
 --   expr   = prim [rest] | "~" prim       rest = "&" prim | "|" prim | "^" prim
 --   prim   = NUMBER | "(" expr ")" | NAME
+--
+-- An optional part is read wherever it can be, so an `else` belongs to the nearest `if` (clause 9.4).
 use Rattle.std.specs.Prelude.{ℕ, List, [], ◌∷◌, true, false}
 use Rattle.ll_engine.specs.declared.table.Part.{Part}
 use Rattle.ll_engine.specs.declared.table.Part.TheVariants.{Term, Non, Maybe, Many}
@@ -28,23 +35,47 @@ next_port = 3
 abbrev pub item : ℕ
 item = 4
 
+abbrev pub out : ℕ
+out = 5
+
+abbrev pub event : ℕ
+event = 6
+
+abbrev pub next_edge : ℕ
+next_edge = 7
+
+abbrev pub edge : ℕ
+edge = 8
+
+abbrev pub snull : ℕ
+snull = 9
+
+abbrev pub stmt : ℕ
+stmt = 10
+
+abbrev pub else_part : ℕ
+else_part = 11
+
+abbrev pub store : ℕ
+store = 12
+
 abbrev pub range : ℕ
-range = 5
+range = 13
 
 abbrev pub bound : ℕ
-bound = 6
+bound = 14
 
 abbrev pub lval : ℕ
-lval = 7
+lval = 15
 
 abbrev pub expr : ℕ
-expr = 8
+expr = 16
 
 abbrev pub rest : ℕ
-rest = 9
+rest = 17
 
 abbrev pub prim : ℕ
-prim = 10
+prim = 18
 
 abbrev pub plain : ℕ → List Part → Row
 plain head parts = record { head = head; parts = parts; deep = false }
@@ -60,8 +91,27 @@ table =
     ∷ plain ports (Term symbol.left_paren ∷ Term symbol.name ∷ Many next_port ∷ Term symbol.right_paren ∷ [])
     ∷ plain next_port (Term symbol.comma ∷ Term symbol.name ∷ [])
     ∷ plain item (Term symbol.input ∷ Maybe range ∷ Term symbol.name ∷ Term symbol.semicolon ∷ [])
-    ∷ plain item (Term symbol.output ∷ Maybe range ∷ Term symbol.name ∷ Term symbol.semicolon ∷ [])
+    ∷ plain item (Term symbol.output ∷ Non out ∷ [])
+    ∷ plain item (Term symbol.wire ∷ Maybe range ∷ Term symbol.name ∷ Term symbol.semicolon ∷ [])
+    ∷ plain item (Term symbol.reg ∷ Maybe range ∷ Term symbol.name ∷ Term symbol.semicolon ∷ [])
+    ∷ plain item (Term symbol.initial ∷ Term symbol.name ∷ Term symbol.less_equal ∷ Term symbol.number ∷ Term symbol.semicolon ∷ [])
     ∷ plain item (Term symbol.assign ∷ Non lval ∷ Term symbol.equals ∷ Non expr ∷ Term symbol.semicolon ∷ [])
+    ∷ plain item (Term symbol.always ∷ Term symbol.at_mark ∷ Non event ∷ Non snull ∷ [])
+    ∷ plain out (Maybe range ∷ Term symbol.name ∷ Term symbol.semicolon ∷ [])
+    ∷ plain out (Term symbol.reg ∷ Maybe range ∷ Term symbol.name ∷ Term symbol.semicolon ∷ [])
+    ∷ plain event (Term symbol.star ∷ [])
+    ∷ plain event (Term symbol.left_paren ∷ Non edge ∷ Many next_edge ∷ Term symbol.right_paren ∷ [])
+    ∷ plain next_edge (Term symbol.or_word ∷ Non edge ∷ [])
+    ∷ plain edge (Term symbol.posedge ∷ Term symbol.name ∷ [])
+    ∷ plain edge (Term symbol.negedge ∷ Term symbol.name ∷ [])
+    ∷ plain snull (Non stmt ∷ [])
+    ∷ plain snull (Term symbol.semicolon ∷ [])
+    ∷ nested stmt (Term symbol.begin ∷ Many stmt ∷ Term symbol.end ∷ [])
+    ∷ nested stmt (Term symbol.if_word ∷ Term symbol.left_paren ∷ Non expr ∷ Term symbol.right_paren ∷ Non snull ∷ Maybe else_part ∷ [])
+    ∷ nested stmt (Non lval ∷ Non store ∷ Non expr ∷ Term symbol.semicolon ∷ [])
+    ∷ plain else_part (Term symbol.else_word ∷ Non snull ∷ [])
+    ∷ plain store (Term symbol.equals ∷ [])
+    ∷ plain store (Term symbol.less_equal ∷ [])
     ∷ plain range (Term symbol.left_bracket ∷ Non bound ∷ Term symbol.colon ∷ Term symbol.nought ∷ Term symbol.right_bracket ∷ [])
     ∷ plain bound (Term symbol.decimal ∷ [])
     ∷ plain bound (Term symbol.nought ∷ [])

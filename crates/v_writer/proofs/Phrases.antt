@@ -1,17 +1,19 @@
 -- Derivations by the target table, put together part by part with what they mean.
 use Rattle.std.proofs.Common.{◌≡◌, ℕ, zero, suc, ◌+◌, ◌≤◌, true, List, [], ◌∷◌, ◌++◌, map, drop, length, slice_get, Option, Some, refl, sym, ap, subst, ◌∙◌, append_assoc, arith, length-append}
 use Rattle.ll_engine.specs.declared.table.Part.{Part}
+use Rattle.ll_engine.specs.declared.table.Part.TheVariants.{Non, Maybe, Many}
 use Rattle.ll_engine.specs.declared.table.Row.{Row}
-use Rattle.ll_engine.specs.declared.tree.Tree.{Tree, Tree-F, fold-roll-Tree}
-use Rattle.ll_engine.specs.declared.tree.Tree.TheVariants.{Leaf, Node, rolls-Leaf, rolls-Node}
+use Rattle.ll_engine.specs.declared.tree.Tree.{Tree}
+use Rattle.ll_engine.specs.declared.tree.Tree.TheVariants.{Leaf, Node}
 use Rattle.ll_engine.specs.Grammar.{terminal, named, is_optional, IsRowOf, IsBegun}
 use Rattle.ll_engine.specs.Reading.{Nested, at_nesting, next, level, inside, left_after, Reads}
 use Rattle.ll_engine.specs.Texts.{symbol_of, Within}
 use Rattle.v_tree.specs.Tokens.{Token}
 use Rattle.v_tree.specs.Symbols.{symbol}
 use Rattle.v_tree.specs.Table.{table}
-use Rattle.v_tree.specs.Meaning.{Parts, nothing, followed, joined, row_meanings, by_row, token_parts, node_parts, parts_of}
+use Rattle.v_tree.specs.Meaning.{Parts, nothing, followed, joined, row_meanings, by_row, token_parts, parts_of}
 use Rattle.v_tree.specs.Reading.{nesting_limit}
+use Rattle.v_tree.proofs.Derivations.{leaf-parts, node-parts}
 
 -- the symbol that comes first
 abbrev pub front : List Token → Option ℕ → Option ℕ
@@ -50,12 +52,6 @@ map-joined f (x ∷ xs) ys = ap (λ zs. f x ∷ zs) (map-joined f xs ys)
 within-joined : (limit : ℕ) (v w : List Nested) → Within limit v → Within limit w → Within limit (v ++ w)
 within-joined limit [] w h k = k
 within-joined limit (at_nesting s n ∷ v) w h k = (h.0, within-joined limit v w h.1 k)
-
-leaf-parts : (all : List Token) (at : ℕ) → parts_of all (Leaf at) ≡ token_parts (slice_get all at)
-leaf-parts all at = ap (parts_of all) (sym (rolls-Leaf at)) ∙ fold-roll-Tree Parts (node_parts all) (Tree-F.Leaf at)
-
-pub node-parts : (all : List Token) (row : ℕ) (kids : List Tree) → parts_of all (Node row kids) ≡ by_row (slice_get row_meanings row) (joined (map (parts_of all) kids))
-node-parts all row kids = ap (parts_of all) (sym (rolls-Node row kids)) ∙ fold-roll-Tree Parts (node_parts all) (Tree-F.Node row kids)
 
 module _ (all : List Token) where
   -- The parts read these tokens wherever they stand among all, in front of the symbol `after`, and mean `m`.
@@ -143,3 +139,35 @@ module _ (all : List Token) where
 
   pub tokens-are : {around turn : ℕ} {ps : List Part} {ts us : List Token} {after : Option ℕ} {m : Parts} → ts ≡ us → Phrase around turn ps ts after m → Phrase around turn ps us after m
   tokens-are {around} {turn} {ps} {ts} {us} {after} {m} e h = subst (λ x. Phrase around turn ps x after m) e h
+
+  -- A row of the head reads these tokens in front of the symbol `after`, and means `n`.
+  pub record Derived (h around : ℕ) (ts : List Token) (after : Option ℕ) (n : Parts) : Type 0 where
+    pub number : ℕ
+    pub row : Row
+    pub is_row : IsRowOf table h number row
+    pub begun : IsBegun table row.parts (front ts after)
+    pub parts : Parts
+    pub inner : Phrase (inside suc row around) (inside suc row around) row.parts ts after parts
+    pub means : by_row (slice_get row_meanings number) parts ≡ n
+
+  pub by-row : (around : ℕ) {h i : ℕ} {row : Row} {ts : List Token} {after : Option ℕ} {m n : Parts} → IsRowOf table h i row
+      → IsBegun table row.parts (front ts after) → Phrase (inside suc row around) (inside suc row around) row.parts ts after m
+      → by_row (slice_get row_meanings i) m ≡ n → Derived h around ts after n
+  by-row around {h} {i} {row} {ts} {after} {m} {n} is_row begun inner means =
+      record { number = i; row = row; is_row = is_row; begun = begun; parts = m; inner = inner; means = means }
+
+  pub non-read : {around turn h : ℕ} {ps : List Part} {ts us : List Token} {after : Option ℕ} {m n : Parts}
+      → Derived h around ts (front us after) n → Phrase around around ps us after m → Phrase around turn (Non h ∷ ps) (ts ++ us) after (followed n m)
+  non-read {m = m} d b = meaning-is (ap (λ x. followed x m) d.means) (row-read refl d.is_row d.begun d.inner b)
+
+  pub maybe-read : {around turn h : ℕ} {ps : List Part} {ts us : List Token} {after : Option ℕ} {m n : Parts}
+      → Derived h around ts (front us after) n → Phrase around around ps us after m → Phrase around turn (Maybe h ∷ ps) (ts ++ us) after (followed n m)
+  maybe-read {m = m} d b = meaning-is (ap (λ x. followed x m) d.means) (row-read refl d.is_row d.begun d.inner b)
+
+  pub many-read : {around turn h : ℕ} {ps : List Part} {ts us : List Token} {after : Option ℕ} {m n : Parts}
+      → Derived h around ts (front us after) n → Phrase around around (Many h ∷ ps) us after m
+      → Phrase around turn (Many h ∷ ps) (ts ++ us) after (followed n m)
+  many-read {m = m} d b = meaning-is (ap (λ x. followed x m) d.means) (row-read refl d.is_row d.begun d.inner b)
+
+  pub derived-tokens : {h around : ℕ} {ts us : List Token} {after : Option ℕ} {n : Parts} → ts ≡ us → Derived h around ts after n → Derived h around us after n
+  derived-tokens {h} {around} {ts} {us} {after} {n} e d = subst (λ x. Derived h around x after n) e d

@@ -1,21 +1,32 @@
 -- The tokens of a piece that is written.
-use Rattle.std.proofs.Common.{◌≡◌, ℕ, ◌+◌, ◌<◌, ◌≤◌, ◌^◌, ◌==◌, Bool, true, false, not, ◌&&◌, List, [], ◌∷◌, ◌++◌, map, take, drop, length, reverse, decimal, get_or, refl, sym, ap, subst, ◌∙◌, append_assoc, le-leb, arith}
-use Rattle.std.specs.Prelude.{nat_le}
+use Rattle.std.proofs.Common.{◌≡◌, ℕ, zero, suc, ◌+◌, ◌<◌, ◌≤◌, ◌^◌, ◌==◌, Bool, true, false, not, ◌&&◌, List, [], ◌∷◌, ◌++◌, map, take, drop, length, reverse, codes, decimal, get_or, refl, sym, ap, subst, ◌∙◌, append_assoc, le-leb, arith}
+use Rattle.std.specs.Prelude.{nat_le, if◌then◌else◌}
 use Rattle.std.specs.List.{prefix_len, list_all}
 use Rattle.std.specs.Char.{is_ascii_digit}
 use Rattle.std.specs.Str.{all_ascii_digits}
 use Rattle.std.specs.Str.Parse.{digits_value}
 use Rattle.std.proofs.lemmas.Bool.{and_parts, false≢true}
 use Rattle.std.proofs.lemmas.Bool.Decides.{nat_tests}
-use Rattle.std.proofs.lemmas.Fmt.{digits_decimal, digits_value-decimal, first_decimal, decimal_nonempty}
+use Rattle.std.proofs.lemmas.Fmt.{digits_decimal, digits_value-decimal, first_decimal, decimal_nonempty, decimal_digit}
 use Rattle.std.proofs.lemmas.Str.Parse.{IsNumeralModel, numerals_by_value, tells_all_ascii_digits}
-use Rattle.std.proofs.lemmas.List.{reverse-reverse, length-map, length-append, length-reverse}
+use Rattle.std.proofs.lemmas.List.{append-nil, reverse-reverse, length-map, length-append, length-reverse}
 use Rattle.b4_core.specs.declared.bit.Bit4.{Bit4}
 use Rattle.b4_core.specs.declared.bit.Bit4.TheVariants.{Zero, One, X, Z}
 use Rattle.v_tree.specs.Reserved.{is_reserved}
-use Rattle.v_tree.specs.Tokens.{Token, Cut, gap, cut, tokens, tokens_from, first_cut, is_digit, is_letter, is_word, is_bit, bit_of, named, word_cut, sized_cut, is_simple}
+use Rattle.v_tree.specs.Tokens.{begins, Token, Cut, gap, cut, tokens, tokens_from, first_cut, is_digit, is_letter, is_word, is_bit, bit_of, named, word_cut, sized_cut, is_simple}
 use Rattle.v_writer.specs.Layout.{spelling, bit_digit}
-use Rattle.lower_design.proofs.Names.{pick_true, pick_false, not_true, append-nil}
+
+pub pick_true : {A : Type 0} (b : Bool) (x y : A) → b ≡ true → (if b then x else y) ≡ x
+pick_true true x y e = refl
+pick_true false x y e = absurd (false≢true e)
+
+pub pick_false : {A : Type 0} (b : Bool) (x y : A) → b ≡ false → (if b then x else y) ≡ y
+pick_false true x y e = absurd (false≢true (sym e))
+pick_false false x y e = refl
+
+pub not_true : (b : Bool) → not b ≡ true → b ≡ false
+not_true true e = absurd (false≢true e)
+not_true false e = refl
 
 -- the tokens of a text by what it begins with
 abbrev pub told : Cut → List ℕ → List Token
@@ -61,20 +72,39 @@ pub drop-front : (xs ys : List ℕ) → drop (length xs) (xs ++ ys) ≡ ys
 drop-front [] ys = refl
 drop-front (x ∷ xs) ys = drop-front xs ys
 
+-- a word is read whole, as the token that it is
+word-token : (c : ℕ) (n rest : List ℕ) (t : Token) → is_letter c ≡ true → list_all is_word n ≡ true → named (c ∷ n) ≡ t → Ends rest
+    → tokens ((c ∷ n) ++ rest) ≡ t ∷ tokens rest
+word-token c n rest t first others is ends =
+    let run : prefix_len is_word (n ++ rest) ≡ length n =
+    subst (λ r. prefix_len is_word (n ++ r) ≡ length n) (sym ends.is_text) (run-length is_word n ends.behind ends.byte others ends.no_word) in
+    let whole : word_cut c (n ++ rest) ≡ cut t (prefix_len is_word (n ++ rest)) =
+    ap (λ k. cut (named (c ∷ take k (n ++ rest))) (prefix_len is_word (n ++ rest))) run
+    ∙ ap (λ w. cut (named (c ∷ w)) (prefix_len is_word (n ++ rest))) (take-front n rest)
+    ∙ ap (λ u. cut u (prefix_len is_word (n ++ rest))) is in
+    cut-step c n rest t (prefix_len is_word (n ++ rest)) (pick_true (is_letter c) _ _ first ∙ whole) run
+
 -- a simple name
 pub name-read : (n rest : List ℕ) → is_simple n ≡ true → Ends rest → tokens (n ++ rest) ≡ Token.name n ∷ tokens rest
 name-read [] rest e ends = absurd (false≢true e)
 name-read (c ∷ n) rest e ends =
     let parts = and_parts (is_letter c && list_all is_word n) (not (is_reserved (c ∷ n))) e in
     let first = and_parts (is_letter c) (list_all is_word n) parts.0 in
-    let run : prefix_len is_word (n ++ rest) ≡ length n =
-    subst (λ r. prefix_len is_word (n ++ r) ≡ length n) (sym ends.is_text) (run-length is_word n ends.behind ends.byte first.1 ends.no_word) in
-    let plain : named (c ∷ n) ≡ Token.name (c ∷ n) = pick_false (is_reserved (c ∷ n)) (Token.word (c ∷ n)) (Token.name (c ∷ n)) (not_true _ parts.1) in
-    let whole : word_cut c (n ++ rest) ≡ cut (Token.name (c ∷ n)) (prefix_len is_word (n ++ rest)) =
-    ap (λ k. cut (named (c ∷ take k (n ++ rest))) (prefix_len is_word (n ++ rest))) run
-    ∙ ap (λ w. cut (named (c ∷ w)) (prefix_len is_word (n ++ rest))) (take-front n rest)
-    ∙ ap (λ t. cut t (prefix_len is_word (n ++ rest))) plain in
-    cut-step c n rest (Token.name (c ∷ n)) (prefix_len is_word (n ++ rest)) (pick_true (is_letter c) _ _ first.0 ∙ whole) run
+    word-token c n rest (Token.name (c ∷ n)) first.0 first.1
+    (pick_false (is_reserved (c ∷ n)) (Token.word (c ∷ n)) (Token.name (c ∷ n)) (not_true _ parts.1)) ends
+
+-- a reserved word
+abbrev pub is_keyword : List ℕ → Bool
+is_keyword [] = false
+is_keyword (c ∷ n) = is_letter c && list_all is_word n && is_reserved (c ∷ n)
+
+pub keyword-read : (n rest : List ℕ) → is_keyword n ≡ true → Ends rest → tokens (n ++ rest) ≡ Token.word n ∷ tokens rest
+keyword-read [] rest e ends = absurd (false≢true e)
+keyword-read (c ∷ n) rest e ends =
+    let parts = and_parts (is_letter c && list_all is_word n) (is_reserved (c ∷ n)) e in
+    let first = and_parts (is_letter c) (list_all is_word n) parts.0 in
+    word-token c n rest (Token.word (c ∷ n)) first.0 first.1
+    (pick_true (is_reserved (c ∷ n)) (Token.word (c ∷ n)) (Token.name (c ∷ n)) parts.1) ends
 
 -- the digits of a positive number
 pub all-digits : (ds : List ℕ) → all_ascii_digits ds ≡ true → list_all is_digit ds ≡ true
@@ -124,11 +154,22 @@ pub split : (xs : List ℕ) → 0 < length xs → (x : ℕ) × (ys : List ℕ) �
 split [] h = absurd (omega arith)
 split (x ∷ xs) h = (x, xs, refl)
 
-pub decimal-read : (n : ℕ) (behind : List ℕ) → 0 < n → n < 2 ^ 64 → tokens (decimal n ++ (58 ∷ behind)) ≡ Token.decimal n ∷ tokens (58 ∷ behind)
-decimal-read n behind pos small =
-    let cut_up = split (decimal n) (decimal_nonempty n small) in
-    ap (λ w. tokens (w ++ (58 ∷ behind))) (sym (append-nil (decimal n)))
-    ∙ digits-read n cut_up.0 cut_up.1 [] (58 ∷ behind) behind 58 (Token.decimal n) (length cut_up.1) pos small cut_up.2 refl refl refl
+no-digit : (b : ℕ) → is_word b ≡ false → is_digit b ≡ false
+no-digit b e = grind (arith, nat_tests)
+
+no-size : (n k c : ℕ) (behind : List ℕ) → (39 == c) ≡ false → sized_cut k n (c ∷ behind) ≡ cut (Token.decimal n) k
+no-size n k c behind e =
+    ap (λ b. if b && begins (codes "b") behind && nat_le 1 n && nat_le n 128 && nat_le n (prefix_len is_bit (drop 1 behind))
+    then cut (Token.number (reverse (map bit_of (take n (drop 1 behind))))) (k + (2 + n)) else cut (Token.decimal n) k) e
+
+pub decimal-read : (n : ℕ) (rest : List ℕ) → n < 2 ^ 64 → Ends rest → tokens (decimal n ++ rest) ≡ Token.decimal n ∷ tokens rest
+decimal-read zero rest small ends = ap (λ w. tokens (w ++ rest)) (decimal_digit 0 (omega arith))
+decimal-read (suc n) rest small ends =
+    let cut_up = split (decimal (suc n)) (decimal_nonempty (suc n) small) in
+    ap (λ w. tokens (w ++ rest)) (sym (append-nil (decimal (suc n))))
+    ∙ digits-read (suc n) cut_up.0 cut_up.1 [] rest ends.behind ends.byte (Token.decimal (suc n)) (length cut_up.1) (omega arith) small cut_up.2
+    ends.is_text (no-digit ends.byte ends.no_word)
+    (ap (sized_cut (length cut_up.1) (suc n)) ends.is_text ∙ no-size (suc n) (length cut_up.1) ends.byte ends.behind ends.no_tick)
     (ap length (sym (append-nil cut_up.1)))
 
 -- the digits of a vector

@@ -1,67 +1,133 @@
 -- The tokens of a written text are those of its layout.
-use Rattle.std.proofs.Common.{◌≡◌, ℕ, ◌-◌, ◌<◌, ◌≤◌, ◌^◌, ◌==◌, ◌⊎◌, inl, inr, Bool, true, false, ◌&&◌, not, List, [], ◌∷◌, ◌++◌, map, flat_map, length, codes, decimal, Some, None, find, refl, sym, ap, subst, ◌∙◌, append_assoc, arith}
+use Rattle.std.proofs.Common.{◌≡◌, ℕ, zero, suc, ◌<◌, ◌≤◌, ◌^◌, ◌==◌, ◌⊎◌, inl, inr, Bool, true, false, ◌&&◌, not, List, [], ◌∷◌, ◌++◌, length, codes, decimal, Some, find, refl, sym, ap, subst, ◌∙◌, append_assoc, arith, leb-true}
+use Rattle.std.specs.Prelude.{nat_le}
 use Rattle.std.specs.List.{list_all}
-use Rattle.std.proofs.lemmas.Bool.{and_parts, false≢true}
+use Rattle.std.specs.Str.{bytes_eq}
+use Rattle.std.proofs.lemmas.Bool.{and_parts, or_cases, false≢true}
+use Rattle.std.proofs.lemmas.Slice.Eq.{bytes_eq-Decides}
 use Rattle.std.proofs.lemmas.Bool.Decides.{nat_tests}
 use Rattle.std.proofs.lemmas.Fmt.{digits_decimal, decimal_nonempty}
 use Rattle.b4_core.specs.declared.bit.Bit4.{Bit4}
 use Rattle.b4_core.specs.declared.operators.BinOp.{BinOp}
 use Rattle.b4_core.specs.declared.operators.BinOp.TheVariants as B
-use Rattle.b4_core.specs.declared.operators.UnOp.TheVariants.{Not}
-use Rattle.row_machine.specs.Valuation.{Member}
-use Rattle.sv_types.specs.declared.design.SignalKind.{SignalKind}
-use Rattle.sv_types.specs.declared.design.SignalKind.TheVariants.{InputNet, OutputVar}
-use Rattle.sv_types.specs.declared.design.Signal.{Signal}
-use Rattle.sv_types.specs.declared.design.Primary.{Primary}
-use Rattle.sv_types.specs.declared.design.Primary.TheVariants as P
-use Rattle.sv_types.specs.declared.design.Expr.{Expr}
-use Rattle.sv_types.specs.declared.design.Expr.TheVariants as D
-use Rattle.sv_types.specs.declared.design.Design.{Design}
-use Rattle.v_tree.specs.declared.tree.VExpr.TheVariants.{Prim, Unary}
-use Rattle.v_tree.specs.declared.tree.VItem.{VItem}
-use Rattle.v_tree.specs.declared.tree.VItem.TheVariants.{Input, Output}
-use Rattle.lower_design.specs.Translatable.{Translatable, IsOfKind, primary_signals, expr_signals}
-use Rattle.lower_design.specs.Lowering.{name_of, path_or_nothing, range_of, parenthesized, alone, lowered_primary, lowered_operand, lowered_expr, lowered_process, declaration_of, lowered_module, lowered}
-use Rattle.lower_design.specs.Printable.{IsPrintablePrimary, IsPrintableOperator, IsPrintableExpr, Printable}
+use Rattle.b4_core.specs.declared.operators.UnOp.{UnOp}
+use Rattle.b4_core.specs.declared.operators.UnOp.TheVariants as U
+use Rattle.v_tree.specs.declared.tree.VPrim.{VPrim}
+use Rattle.v_tree.specs.declared.tree.VPrim.TheVariants.{Number, Name, Paren}
+use Rattle.v_tree.specs.declared.tree.VExpr.{VExpr}
+use Rattle.v_tree.specs.declared.tree.VExpr.TheVariants.{Prim, Unary, Binary}
+use Rattle.v_tree.specs.Names.{among}
 use Rattle.v_tree.specs.Reserved.{words_of, reserved_words, is_reserved}
 use Rattle.v_tree.specs.Tokens.{Token, tokens, is_digit, is_letter, is_word, is_simple, begins, marks, mark_or_stray, first_cut}
-use Rattle.v_writer.specs.Layout.{Piece, token, space, newline, bytes_of, tokens_of, spelling, binary_mark, prim_layout, expr_layout, range_layout, assign_layout, item_layout, items_layout, further_ports, ports_layout, module_layout, text_layout, text_of}
-use Rattle.lower_design.proofs.Names.{pick_true, pick_false, true_or_false, append-nil, member-left, member-right, member-split, member-unmap, member-at}
-use Rattle.v_writer.proofs.Layouts.{bytes-append, number-layout, name-layout, paren-layout, prim-layout, unary-layout, binary-layout, zero-decimal}
-use Rattle.v_writer.proofs.Spelled.{Ends, name-read, number-read, decimal-read, all-digits, own, split, told, is-told}
+use Rattle.v_tree.specs.Grammatical.{is_number, is_binary, is_unary, Form, form}
+use Rattle.v_tree.proofs.Induction.{ind-expr}
+use Rattle.v_tree.proofs.Forms.{form_of_prim, number-form, name-form, paren-form, prim-form, unary-form, binary-form}
+use Rattle.v_writer.specs.Layout.{Piece, token, space, line, word, mark, name, number, bytes_of, tokens_of, indentation, spelling, unary_mark, binary_mark, prim_layout, expr_layout}
+use Rattle.v_writer.proofs.Layouts.{number-layout, name-layout, paren-layout, prim-layout, unary-layout, binary-layout}
+use Rattle.v_writer.proofs.Spelled.{Ends, name-read, is_keyword, keyword-read, number-read, decimal-read, all-digits, own, split, told, is-told, pick_false, not_true}
 
--- pieces in front of a text are read as their tokens
-abbrev pub ReadsOn : List Piece → List ℕ → Type 0
-ReadsOn ps r = tokens (bytes_of ps ++ r) ≡ tokens_of ps ++ tokens r
+-- pieces are read as their tokens
+abbrev pub IsRead : List Piece → Type 0
+IsRead ps = tokens (bytes_of ps) ≡ tokens_of ps
 
 pub tokens-append : (ps qs : List Piece) → tokens_of (ps ++ qs) ≡ tokens_of ps ++ tokens_of qs
 tokens-append [] qs = refl
 tokens-append (token t ∷ ps) qs = ap (λ ts. t ∷ ts) (tokens-append ps qs)
 tokens-append (space ∷ ps) qs = tokens-append ps qs
-tokens-append (newline ∷ ps) qs = tokens-append ps qs
+tokens-append (line n ∷ ps) qs = tokens-append ps qs
 
-join : (ps qs : List Piece) (r : List ℕ) → ReadsOn ps (bytes_of qs ++ r) → ReadsOn qs r → ReadsOn (ps ++ qs) r
-join ps qs r h k =
-    ap (λ w. tokens (w ++ r)) (bytes-append ps qs) ∙ ap tokens (append_assoc (bytes_of ps) (bytes_of qs) r) ∙ h
-    ∙ ap (λ ts. tokens_of ps ++ ts) k ∙ sym (append_assoc (tokens_of ps) (tokens_of qs) (tokens r))
-    ∙ ap (λ ts. ts ++ tokens r) (sym (tokens-append ps qs))
+-- the byte ends a name, a word or a number
+abbrev ends_byte : List ℕ → Bool
+ends_byte [] = false
+ends_byte (c ∷ cs) = not (is_word c) && not (39 == c)
 
-name-on : (n : List ℕ) (ps : List Piece) (r : List ℕ) → is_simple n ≡ true → Ends (bytes_of ps ++ r) → ReadsOn ps r → ReadsOn (token (Token.name n) ∷ ps) r
-name-on n ps r s e h = ap tokens (append_assoc n (bytes_of ps) r) ∙ name-read n (bytes_of ps ++ r) s e ∙ ap (λ ts. Token.name n ∷ ts) h
+abbrev pub ends_token : Token → Bool
+ends_token (Token.name n) = false
+ends_token (Token.word n) = false
+ends_token (Token.number bits) = false
+ends_token (Token.decimal n) = false
+ends_token (Token.mark bytes) = ends_byte bytes
+ends_token Token.stray = false
 
-number-on : (bits : List Bit4) (ps : List Piece) (r : List ℕ) → 1 ≤ length bits → length bits ≤ 128 → ReadsOn ps r → ReadsOn (token (Token.number bits) ∷ ps) r
-number-on bits ps r low high h =
-    ap tokens (append_assoc (spelling (Token.number bits)) (bytes_of ps) r) ∙ number-read bits (bytes_of ps ++ r) (omega arith) high
-    ∙ ap (λ ts. Token.number bits ∷ ts) h
+-- the pieces begin with white space, or with a mark that ends a name, a word or a number
+abbrev pub ends : List Piece → Bool
+ends [] = false
+ends (token t ∷ ps) = ends_token t
+ends (space ∷ ps) = true
+ends (line n ∷ ps) = true
 
--- the text begins with a letter or a digit, which goes on with no mark
-record Opens (text : List ℕ) : Type 0 where
-  byte : ℕ
-  behind : List ℕ
-  is_text : text ≡ byte ∷ behind
-  no_xor : (94 == byte) ≡ false
-  no_and : (38 == byte) ≡ false
-  no_or : (124 == byte) ≡ false
+mark-ends : (bytes : List ℕ) (ps : List Piece) → ends_byte bytes ≡ true → Ends (bytes ++ bytes_of ps)
+mark-ends [] ps e = absurd (false≢true e)
+mark-ends (c ∷ cs) ps e =
+    let parts = and_parts (not (is_word c)) (not (39 == c)) e in
+    record { byte = c; behind = cs ++ bytes_of ps; is_text = refl; no_word = not_true (is_word c) parts.0; no_tick = not_true (39 == c) parts.1 }
+
+token-ends : (t : Token) (ps : List Piece) → ends_token t ≡ true → Ends (spelling t ++ bytes_of ps)
+token-ends (Token.name n) ps e = absurd (false≢true e)
+token-ends (Token.word n) ps e = absurd (false≢true e)
+token-ends (Token.number bits) ps e = absurd (false≢true e)
+token-ends (Token.decimal n) ps e = absurd (false≢true e)
+token-ends (Token.mark bytes) ps e = mark-ends bytes ps e
+token-ends Token.stray ps e = absurd (false≢true e)
+
+pieces-end : (ps : List Piece) → ends ps ≡ true → Ends (bytes_of ps)
+pieces-end [] e = absurd (false≢true e)
+pieces-end (token t ∷ ps) e = token-ends t ps e
+pieces-end (space ∷ ps) e = record { byte = 32; behind = bytes_of ps; is_text = refl; no_word = refl; no_tick = refl }
+pieces-end (line n ∷ ps) e = record { byte = 10; behind = indentation n ++ bytes_of ps; is_text = refl; no_word = refl; no_tick = refl }
+
+indented : (n : ℕ) (text : List ℕ) → tokens (indentation n ++ text) ≡ tokens text
+indented zero text = refl
+indented (suc n) text = indented n text
+
+pub line-on : (n : ℕ) (ps : List Piece) → IsRead ps → IsRead (line n ∷ ps)
+line-on n ps h = indented n (bytes_of ps) ∙ h
+
+pub name-on : (n : List ℕ) (ps : List Piece) → is_simple n ≡ true → ends ps ≡ true → IsRead ps → IsRead (name n ∷ ps)
+name-on n ps s e h = name-read n (bytes_of ps) s (pieces-end ps e) ∙ ap (λ ts. Token.name n ∷ ts) h
+
+-- the words of the layout
+abbrev keywords : List (List ℕ)
+keywords = words_of (codes "module endmodule input output wire reg initial assign always posedge negedge or begin end if else")
+
+keywords-are : list_all is_keyword keywords ≡ true
+unfolding reserved_words
+keywords-are = refl
+
+keyword-is : (ws : List (List ℕ)) (w : List ℕ) → list_all is_keyword ws ≡ true → among ws w ≡ true → is_keyword w ≡ true
+keyword-is [] w all e = absurd (false≢true e)
+keyword-is (v ∷ ws) w all e =
+    let parts = and_parts (is_keyword v) (list_all is_keyword ws) all in
+    elim (or_cases (bytes_eq v w) (among ws w) e) [
+      | inl k ↦ subst (λ x. is_keyword x ≡ true) ((bytes_eq-Decides v w).0 k) parts.0
+      | inr k ↦ keyword-is ws w parts.1 k
+    ]
+
+pub word-on : (w : List ℕ) (ps : List Piece) → among keywords w ≡ true → ends ps ≡ true → IsRead ps → IsRead (word w ∷ ps)
+word-on w ps k e h =
+    keyword-read w (bytes_of ps) (keyword-is keywords w keywords-are k) (pieces-end ps e) ∙ ap (λ ts. Token.word w ∷ ts) h
+
+is-number : (bits : List Bit4) → is_number bits ≡ true → (1 ≤ length bits) × (length bits ≤ 128)
+is-number bits e =
+    let parts = and_parts (nat_le 1 (length bits)) (nat_le (length bits) 128) e in
+    (leb-true 1 (length bits) parts.0, leb-true (length bits) 128 parts.1)
+
+pub number-on : (bits : List Bit4) (ps : List Piece) → is_number bits ≡ true → IsRead ps → IsRead (number bits ∷ ps)
+number-on bits ps e h =
+    let fits = is-number bits e in
+    number-read bits (bytes_of ps) (omega (arith, fits.0)) fits.1 ∙ ap (λ ts. Token.number bits ∷ ts) h
+
+pub decimal-on : (n : ℕ) (ps : List Piece) → n < 2 ^ 64 → ends ps ≡ true → IsRead ps → IsRead (token (Token.decimal n) ∷ ps)
+decimal-on n ps small e h = decimal-read n (bytes_of ps) small (pieces-end ps e) ∙ ap (λ ts. Token.decimal n ∷ ts) h
+
+-- The text begins with a byte that makes no longer mark with `~`.
+pub record Opens (text : List ℕ) : Type 0 where
+  pub byte : ℕ
+  pub behind : List ℕ
+  pub is_text : text ≡ byte ∷ behind
+  pub no_xor : (94 == byte) ≡ false
+  pub no_and : (38 == byte) ≡ false
+  pub no_or : (124 == byte) ≡ false
 
 letter-or-digit : (c : ℕ) (behind text : List ℕ) → text ≡ c ∷ behind → (is_letter c ≡ true) ⊎ (is_digit c ≡ true) → Opens text
 letter-or-digit c behind text e (inl h) =
@@ -97,234 +163,88 @@ tilde-byte c behind x a o =
     ∙ later test (codes "~|") single (ap (λ b. b && true) o) in
     is-told (first_cut 126 (c ∷ behind)) (c ∷ behind) ∙ ap (λ m. told (mark_or_stray m) (c ∷ behind)) found
 
-tilde-on : (ps : List Piece) (r : List ℕ) → Opens (bytes_of ps ++ r) → ReadsOn ps r → ReadsOn (token (Token.mark (codes "~")) ∷ ps) r
-tilde-on ps r o h =
+tilde-on : (ps : List Piece) → Opens (bytes_of ps) → IsRead ps → IsRead (mark (codes "~") ∷ ps)
+tilde-on ps o h =
     ap (λ w. tokens (126 ∷ w)) o.is_text ∙ tilde-byte o.byte o.behind o.no_xor o.no_and o.no_or
     ∙ ap (λ w. Token.mark (codes "~") ∷ tokens w) (sym o.is_text) ∙ ap (λ ts. Token.mark (codes "~") ∷ ts) h
 
-range-digits : (ps : List Piece) (r : List ℕ) → ReadsOn ps r
-    → tokens ((decimal 0 ++ (93 ∷ 32 ∷ bytes_of ps)) ++ r) ≡ Token.decimal 0 ∷ Token.mark (codes "]") ∷ (tokens_of ps ++ tokens r)
-range-digits ps r h =
-    ap (λ w. tokens ((w ++ (93 ∷ 32 ∷ bytes_of ps)) ++ r)) zero-decimal
-    ∙ ap (λ ts. Token.decimal 0 ∷ Token.mark (codes "]") ∷ ts) h
+-- operands and expressions in front of what ends a name
+abbrev pub PrimOn : VPrim → Type 0
+PrimOn a = (form_of_prim a).fits ≡ true
+    → ((ps : List Piece) → ends ps ≡ true → IsRead ps → IsRead (prim_layout a ++ ps)) × ((ps : List Piece) → Opens (bytes_of (prim_layout a ++ ps)))
 
-some-range-on : (left : ℕ) (ps : List Piece) (r : List ℕ) → 0 < left → left < 2 ^ 64 → ReadsOn ps r → ReadsOn (range_layout (Some left) ++ ps) r
-some-range-on left ps r low high h =
-    ap (λ ts. Token.mark (codes "[") ∷ ts)
-    (ap tokens (append_assoc (decimal left) (58 ∷ (decimal 0 ++ (93 ∷ 32 ∷ bytes_of ps))) r)
-    ∙ decimal-read left ((decimal 0 ++ (93 ∷ 32 ∷ bytes_of ps)) ++ r) low high
-    ∙ ap (λ ts. Token.decimal left ∷ Token.mark (codes ":") ∷ ts) (range-digits ps r h))
+abbrev pub ExprOn : VExpr → Type 0
+ExprOn x = (form x).fits ≡ true → (ps : List Piece) → ends ps ≡ true → IsRead ps → IsRead (expr_layout x ++ ps)
 
-pub more-than-one : (w : ℕ) → 1 ≤ w → (w == 1) ≡ false → 0 < w - 1
-more-than-one w low e = grind (arith, nat_tests)
+-- the form of a tree by that of its parts
+pub fits-as : {f g : Form} → f ≡ g → f.fits ≡ true → g.fits ≡ true
+fits-as e h = ap (λ (f : Form). f.fits) (sym e) ∙ h
 
-range-on : (w : ℕ) (ps : List Piece) (r : List ℕ) → 1 ≤ w → w ≤ 65536 → ReadsOn ps r → ReadsOn (range_layout (range_of w) ++ ps) r
-range-on w ps r low high h = elim (true_or_false (w == 1)) [
-  | inl e ↦ subst (λ o. ReadsOn (range_layout o ++ ps) r) (sym (pick_true (w == 1) None (Some (w - 1)) e)) h
-  | inr e ↦ subst (λ o. ReadsOn (range_layout o ++ ps) r) (sym (pick_false (w == 1) None (Some (w - 1)) e))
-      (some-range-on (w - 1) ps r (more-than-one w low e) (omega arith) h)
-]
+number-prim-on : (bits : List Bit4) → PrimOn (Number bits)
+number-prim-on bits fits =
+    let good : is_number bits ≡ true = fits-as (number-form bits) fits in
+    let low = (is-number bits good).1 in (
+      (λ ps e h. subst (λ l. IsRead (l ++ ps)) (sym (number-layout bits)) (number-on bits ps good h)),
+      (λ ps. subst (λ l. Opens (bytes_of (l ++ ps))) (sym (number-layout bits))
+          (subst Opens (sym (append_assoc (decimal (length bits)) _ (bytes_of ps))) (decimal-opens (length bits) _ (omega (arith, low))))),
+    )
 
--- `a;` and the end of the line
-port-end : (n : List ℕ) (ps : List Piece) (r : List ℕ) → is_simple n ≡ true → ReadsOn ps r
-    → ReadsOn (token (Token.name n) ∷ token (Token.mark (codes ";")) ∷ newline ∷ ps) r
-port-end n ps r s h =
-    name-on n (token (Token.mark (codes ";")) ∷ newline ∷ ps) r s (record { byte = 59; behind = _; is_text = refl; no_word = refl; no_tick = refl })
-    (ap (λ ts. Token.mark (codes ";") ∷ ts) h)
+name-prim-on : (n : List ℕ) → PrimOn (Name n)
+name-prim-on n fits =
+    let good : is_simple n ≡ true = fits-as (name-form n) fits in (
+      (λ ps e h. subst (λ l. IsRead (l ++ ps)) (sym (name-layout n)) (name-on n ps good e h)),
+      (λ ps. subst (λ l. Opens (bytes_of (l ++ ps))) (sym (name-layout n)) (name-opens n (bytes_of ps) good)),
+    )
 
-input-on : (ps : List Piece) (r : List ℕ) → ReadsOn ps r → ReadsOn (space ∷ space ∷ token (Token.word (codes "input")) ∷ space ∷ ps) r
-unfolding reserved_words
-input-on ps r h = ap (λ ts. Token.word (codes "input") ∷ ts) h
-
-output-on : (ps : List Piece) (r : List ℕ) → ReadsOn ps r → ReadsOn (space ∷ space ∷ token (Token.word (codes "output")) ∷ space ∷ ps) r
-unfolding reserved_words
-output-on ps r h = ap (λ ts. Token.word (codes "output") ∷ ts) h
-
-assign-word-on : (ps : List Piece) (r : List ℕ) → ReadsOn ps r → ReadsOn (space ∷ space ∷ token (Token.word (codes "assign")) ∷ space ∷ ps) r
-unfolding reserved_words
-assign-word-on ps r h = ap (λ ts. Token.word (codes "assign") ∷ ts) h
-
-module-word-on : (ps : List Piece) (r : List ℕ) → ReadsOn ps r → ReadsOn (token (Token.word (codes "module")) ∷ space ∷ ps) r
-unfolding reserved_words
-module-word-on ps r h = ap (λ ts. Token.word (codes "module") ∷ ts) h
-
-endmodule-on : ReadsOn (token (Token.word (codes "endmodule")) ∷ newline ∷ []) []
-unfolding reserved_words
-endmodule-on = refl
-
-port-rest : (w : ℕ) (n : List ℕ) (ps : List Piece) (r : List ℕ) → 1 ≤ w → w ≤ 65536 → is_simple n ≡ true → ReadsOn ps r
-    → ReadsOn ((range_layout (range_of w) ++ token (Token.name n) ∷ token (Token.mark (codes ";")) ∷ newline ∷ []) ++ ps) r
-port-rest w n ps r low high s h =
-    subst (λ (l : List Piece). ReadsOn l r) (sym (append_assoc (range_layout (range_of w)) _ ps))
-    (range-on w _ r low high (port-end n ps r s h))
-
-declaration-on : (kind : SignalKind) (w : ℕ) (n : List ℕ) (ps : List Piece) (r : List ℕ) → 1 ≤ w → w ≤ 65536 → is_simple n ≡ true → ReadsOn ps r
-    → ReadsOn (item_layout (elim kind [ InputNet ↦ Input (range_of w) n | OutputVar ↦ Output (range_of w) n ]) ++ ps) r
-declaration-on InputNet w n ps r low high s h = input-on ((range_layout (range_of w) ++ token (Token.name n) ∷ token (Token.mark (codes ";")) ∷ newline ∷ []) ++ ps) r (port-rest w n ps r low high s h)
-declaration-on OutputVar w n ps r low high s h = output-on ((range_layout (range_of w) ++ token (Token.name n) ∷ token (Token.mark (codes ";")) ∷ newline ∷ []) ++ ps) r (port-rest w n ps r low high s h)
-
-flat-on : {A : Type 0} (f : A → List Piece) (xs : List A) (ps : List Piece) (r : List ℕ)
-    → ((x : A) → Member xs x → (qs : List Piece) → ReadsOn qs r → ReadsOn (f x ++ qs) r) → ReadsOn ps r → ReadsOn (flat_map f xs ++ ps) r
-flat-on f [] ps r each h = h
-flat-on f (x ∷ xs) ps r each h =
-    subst (λ (l : List Piece). ReadsOn l r) (sym (append_assoc (f x) (flat_map f xs) ps))
-    (each x (inl refl) (flat_map f xs ++ ps) (flat-on f xs ps r (λ y m. each y (inr m)) h))
-
-further-on : (ns : List (List ℕ)) (ps : List Piece) (r : List ℕ) → ((n : List ℕ) → Member ns n → is_simple n ≡ true) → ReadsOn ps r
-    → ReadsOn (further_ports ns ++ token (Token.mark (codes ")")) ∷ ps) r
-further-on [] ps r simple h = ap (λ ts. Token.mark (codes ")") ∷ ts) h
-further-on (n ∷ ns) ps r simple h =
-    ap (λ ts. Token.mark (codes ",") ∷ ts)
-    (name-on n (further_ports ns ++ token (Token.mark (codes ")")) ∷ ps) r (simple n (inl refl)) (port-ends ns)
-    (further-on ns ps r (λ m k. simple m (inr k)) h))
-  where
-    port-ends : (ms : List (List ℕ)) → Ends (bytes_of (further_ports ms ++ token (Token.mark (codes ")")) ∷ ps) ++ r)
-    port-ends [] = record { byte = 41; behind = _; is_text = refl; no_word = refl; no_tick = refl }
-    port-ends (m ∷ ms) = record { byte = 44; behind = _; is_text = refl; no_word = refl; no_tick = refl }
-
-module _ (signals : List Signal) where
-  -- the names of what an operand reads are simple
-  abbrev pub IsNamed : Primary → Type 0
-  IsNamed p = (n : ℕ) → Member (primary_signals p) n → is_simple (name_of signals n) ≡ true
-
-  abbrev pub primary_layout : Primary → List Piece
-  primary_layout p = prim_layout (lowered_primary signals p)
-
-  primary-on : (p : Primary) (ps : List Piece) (r : List ℕ) → IsPrintablePrimary p → IsNamed p → Ends (bytes_of ps ++ r) → ReadsOn ps r → ReadsOn (primary_layout p ++ ps) r
-  primary-on (P.Signal n) ps r k named e h =
-      subst (λ (l : List Piece). ReadsOn (l ++ ps) r) (sym (name-layout (name_of signals n))) (name-on (name_of signals n) ps r (named n (inl refl)) e h)
-  primary-on (P.Literal bits) ps r k named e h =
-      subst (λ (l : List Piece). ReadsOn (l ++ ps) r) (sym (number-layout bits)) (number-on bits ps r k.0 k.1 h)
-
-  primary-opens : (p : Primary) (ps : List Piece) (r : List ℕ) → IsPrintablePrimary p → IsNamed p → Opens (bytes_of (primary_layout p ++ ps) ++ r)
-  primary-opens (P.Signal n) ps r k named =
-      subst (λ (l : List Piece). Opens (bytes_of (l ++ ps) ++ r)) (sym (name-layout (name_of signals n)))
-      (subst (λ w. Opens w) (sym (append_assoc (name_of signals n) (bytes_of ps) r)) (name-opens (name_of signals n) (bytes_of ps ++ r) (named n (inl refl))))
-  primary-opens (P.Literal bits) ps r k named =
-      let small : length bits < 2 ^ 64 = omega (arith, k.1) in
-      subst (λ (l : List Piece). Opens (bytes_of (l ++ ps) ++ r)) (sym (number-layout bits))
-      (subst (λ w. Opens w) (sym (append_assoc (spelling (Token.number bits)) (bytes_of ps) r ∙ append_assoc (decimal (length bits)) _ (bytes_of ps ++ r)))
-      (decimal-opens (length bits) _ small))
-
-  -- `~a`
-  negated-on : (p : Primary) (ps : List Piece) (r : List ℕ) → IsPrintablePrimary p → IsNamed p → Ends (bytes_of ps ++ r) → ReadsOn ps r
-      → ReadsOn (token (Token.mark (codes "~")) ∷ (primary_layout p ++ ps)) r
-  negated-on p ps r k named e h = tilde-on (primary_layout p ++ ps) r (primary-opens p ps r k named) (primary-on p ps r k named e h)
-
-  -- `(~a)`, or `a`
-  operand-on : (inverted : Bool) (p : Primary) (ps : List Piece) (r : List ℕ) → IsPrintablePrimary p → IsNamed p → Ends (bytes_of ps ++ r) → ReadsOn ps r
-      → ReadsOn (prim_layout (parenthesized inverted (lowered_primary signals p)) ++ ps) r
-  operand-on true p ps r k named e h =
-      subst (λ (l : List Piece). ReadsOn (l ++ ps) r) (sym (paren-layout (Unary Not (lowered_primary signals p))))
-      (subst (λ (l : List Piece). ReadsOn (token (Token.mark (codes "(")) ∷ ((l ++ token (Token.mark (codes ")")) ∷ []) ++ ps)) r)
-      (sym (unary-layout Not (lowered_primary signals p)))
+paren-on : (x : VExpr) → ExprOn x → PrimOn (Paren x)
+paren-on x on fits = (
+  (λ ps e h. subst (λ l. IsRead (l ++ ps)) (sym (paren-layout x))
       (ap (λ ts. Token.mark (codes "(") ∷ ts)
-      (subst (λ (l : List Piece). ReadsOn (token (Token.mark (codes "~")) ∷ l) r)
-      (sym (append_assoc (primary_layout p) (token (Token.mark (codes ")")) ∷ []) ps))
-      (negated-on p (token (Token.mark (codes ")")) ∷ ps) r k named
-      (record { byte = 41; behind = bytes_of ps ++ r; is_text = refl; no_word = refl; no_tick = refl })
-      (ap (λ ts. Token.mark (codes ")") ∷ ts) h)))))
-  operand-on false p ps r k named e h = primary-on p ps r k named e h
+      (subst IsRead (sym (append_assoc (expr_layout x) (mark (codes ")") ∷ []) ps))
+      (on (fits-as (paren-form x) fits) (mark (codes ")") ∷ ps) refl (ap (λ ts. Token.mark (codes ")") ∷ ts) h))))),
+  (λ ps. subst (λ l. Opens (bytes_of (l ++ ps))) (sym (paren-layout x))
+      (record { byte = 40; behind = _; is_text = refl; no_xor = refl; no_and = refl; no_or = refl })),
+)
 
-  alone-on : (inverted : Bool) (p : Primary) (ps : List Piece) (r : List ℕ) → IsPrintablePrimary p → IsNamed p → Ends (bytes_of ps ++ r) → ReadsOn ps r
-      → ReadsOn (expr_layout (alone inverted (lowered_primary signals p)) ++ ps) r
-  alone-on true p ps r k named e h =
-      subst (λ (l : List Piece). ReadsOn (l ++ ps) r) (sym (unary-layout Not (lowered_primary signals p))) (negated-on p ps r k named e h)
-  alone-on false p ps r k named e h =
-      subst (λ (l : List Piece). ReadsOn (l ++ ps) r) (sym (prim-layout (lowered_primary signals p))) (primary-on p ps r k named e h)
+unary-fits : (op : UnOp) (b : Bool) → (is_unary op && b) ≡ true → (op ≡ U.Not) × (b ≡ true)
+unary-fits U.Not b e = (refl, e)
+unary-fits U.Neg b e = absurd (false≢true e)
 
-  abbrev pub between : BinOp → List Piece → List Piece
-  between op ps = space ∷ token (Token.mark (binary_mark op)) ∷ space ∷ ps
+unary-on : (op : UnOp) (a : VPrim) → PrimOn a → ExprOn (Unary op a)
+unary-on op a on fits ps e h =
+    let parts = unary-fits op (form_of_prim a).fits (fits-as (unary-form op a) fits) in
+    let own_prim = on parts.1 in
+    subst (λ l. IsRead (l ++ ps)) (sym (unary-layout op a))
+    (subst (λ o. IsRead (mark (unary_mark o) ∷ (prim_layout a ++ ps))) (sym parts.0)
+    (tilde-on (prim_layout a ++ ps) (own_prim.1 ps) (own_prim.0 ps e h)))
 
-  operator-on : (op : BinOp) (ps : List Piece) (r : List ℕ) → IsPrintableOperator op → ReadsOn ps r → ReadsOn (between op ps) r
-  operator-on B.And ps r k h = ap (λ ts. Token.mark (codes "&") ∷ ts) h
-  operator-on B.Or ps r k h = ap (λ ts. Token.mark (codes "|") ∷ ts) h
-  operator-on B.Xor ps r k h = ap (λ ts. Token.mark (codes "^") ∷ ts) h
-  operator-on B.Xnor ps r k h = absurd k
-  operator-on B.Add ps r k h = absurd k
-  operator-on B.Sub ps r k h = absurd k
-  operator-on B.Mul ps r k h = absurd k
-  operator-on B.Div ps r k h = absurd k
-  operator-on B.Rem ps r k h = absurd k
+-- a binary operator between spaces
+operator-on : (op : BinOp) (ps : List Piece) → is_binary op ≡ true → IsRead ps → IsRead (space ∷ mark (binary_mark op) ∷ space ∷ ps)
+operator-on B.And ps k h = ap (λ ts. Token.mark (codes "&") ∷ ts) h
+operator-on B.Or ps k h = ap (λ ts. Token.mark (codes "|") ∷ ts) h
+operator-on B.Xor ps k h = ap (λ ts. Token.mark (codes "^") ∷ ts) h
+operator-on B.Xnor ps k h = absurd (false≢true k)
+operator-on B.Add ps k h = absurd (false≢true k)
+operator-on B.Sub ps k h = absurd (false≢true k)
+operator-on B.Mul ps k h = absurd (false≢true k)
+operator-on B.Div ps k h = absurd (false≢true k)
+operator-on B.Rem ps k h = absurd (false≢true k)
 
-  expr-on : (x : Expr) (ps : List Piece) (r : List ℕ) → IsPrintableExpr x → ((n : ℕ) → Member (expr_signals x) n → is_simple (name_of signals n) ≡ true)
-      → Ends (bytes_of ps ++ r) → ReadsOn ps r → ReadsOn (expr_layout (lowered_expr signals x) ++ ps) r
-  expr-on (D.Single a) ps r k named e h = alone-on a.inverted a.primary ps r k named e h
-  expr-on (D.Binary op a b) ps r k named e h =
-      subst (λ (l : List Piece). ReadsOn (l ++ ps) r) (sym (binary-layout op (lowered_operand signals a) (lowered_operand signals b)))
-      (subst (λ (l : List Piece). ReadsOn l r) (sym (append_assoc (prim_layout (lowered_operand signals a)) (between op (prim_layout (lowered_operand signals b))) ps))
-      (operand-on a.inverted a.primary (between op (prim_layout (lowered_operand signals b) ++ ps)) r k.1
-      (λ n m. named n (member-left (primary_signals a.primary) (primary_signals b.primary) n m))
-      (record { byte = 32; behind = _; is_text = refl; no_word = refl; no_tick = refl })
-      (operator-on op (prim_layout (lowered_operand signals b) ++ ps) r k.0
-      (operand-on b.inverted b.primary ps r k.2 (λ n m. named n (member-right (primary_signals a.primary) (primary_signals b.primary) n m)) e h))))
+binary-on : (op : BinOp) (a b : VPrim) → PrimOn a → PrimOn b → ExprOn (Binary op a b)
+binary-on op a b left right fits ps e h =
+    let all = and_parts (is_binary op && (form_of_prim a).fits) (form_of_prim b).fits (fits-as (binary-form op a b) fits) in
+    let parts = and_parts (is_binary op) (form_of_prim a).fits all.0 in
+    subst (λ l. IsRead (l ++ ps)) (sym (binary-layout op a b))
+    (subst IsRead (sym (append_assoc (prim_layout a) (space ∷ mark (binary_mark op) ∷ space ∷ prim_layout b) ps))
+    ((left parts.1).0 (space ∷ mark (binary_mark op) ∷ space ∷ (prim_layout b ++ ps)) refl
+    (operator-on op (prim_layout b ++ ps) parts.0 ((right all.1).0 ps e h))))
 
-  assign-on : (n : List ℕ) (x : Expr) (ps : List Piece) (r : List ℕ) → is_simple n ≡ true → IsPrintableExpr x
-      → ((k : ℕ) → Member (expr_signals x) k → is_simple (name_of signals k) ≡ true) → ReadsOn ps r
-      → ReadsOn (assign_layout n (lowered_expr signals x) ++ ps) r
-  assign-on n x ps r s k named h =
-      let assigned_value : List Piece =
-      space ∷ token (Token.mark (codes "=")) ∷ space ∷ ((expr_layout (lowered_expr signals x) ++ token (Token.mark (codes ";")) ∷ newline ∷ []) ++ ps) in
-      assign-word-on (token (Token.name n) ∷ assigned_value) r
-      (name-on n assigned_value r s
-      (record { byte = 32; behind = _; is_text = refl; no_word = refl; no_tick = refl })
-      (ap (λ ts. Token.mark (codes "=") ∷ ts)
-      (subst (λ (l : List Piece). ReadsOn l r) (sym (append_assoc (expr_layout (lowered_expr signals x)) _ ps))
-      (expr-on x (token (Token.mark (codes ";")) ∷ newline ∷ ps) r k named
-      (record { byte = 59; behind = _; is_text = refl; no_word = refl; no_tick = refl })
-      (ap (λ ts. Token.mark (codes ";") ∷ ts) h)))))
-
-first-port : (n : List ℕ) (ns : List (List ℕ)) (ps : List Piece) (r : List ℕ) → is_simple n ≡ true → ((m : List ℕ) → Member ns m → is_simple m ≡ true)
-    → ReadsOn ps r → ReadsOn (token (Token.name n) ∷ (further_ports ns ++ token (Token.mark (codes ")")) ∷ ps)) r
-first-port n [] ps r s simple h =
-    name-on n (token (Token.mark (codes ")")) ∷ ps) r s (record { byte = 41; behind = _; is_text = refl; no_word = refl; no_tick = refl })
-    (further-on [] ps r simple h)
-first-port n (m ∷ ms) ps r s simple h =
-    name-on n (further_ports (m ∷ ms) ++ token (Token.mark (codes ")")) ∷ ps) r s (record { byte = 44; behind = _; is_text = refl; no_word = refl; no_tick = refl })
-    (further-on (m ∷ ms) ps r simple h)
-
--- ` (a, b)`, `;` and the end of the line, behind the module's name
-ports-on : (n : List ℕ) (ports : List (List ℕ)) (ps : List Piece) (r : List ℕ) → is_simple n ≡ true → ((m : List ℕ) → Member ports m → is_simple m ≡ true)
-    → ReadsOn ps r → ReadsOn (token (Token.name n) ∷ (ports_layout ports ++ token (Token.mark (codes ";")) ∷ newline ∷ ps)) r
-ports-on n [] ps r s simple h = port-end n ps r s h
-ports-on n (m ∷ ms) ps r s simple h =
-    name-on n (ports_layout (m ∷ ms) ++ token (Token.mark (codes ";")) ∷ newline ∷ ps) r s
-    (record { byte = 32; behind = _; is_text = refl; no_word = refl; no_tick = refl })
-    (ap (λ ts. Token.mark (codes "(") ∷ ts)
-    (subst (λ (l : List Piece). ReadsOn (token (Token.name m) ∷ l) r)
-    (sym (append_assoc (further_ports ms) (token (Token.mark (codes ")")) ∷ []) (token (Token.mark (codes ";")) ∷ newline ∷ ps)))
-    (first-port m ms (token (Token.mark (codes ";")) ∷ newline ∷ ps) r (simple m (inl refl)) (λ k l. simple k (inr l))
-    (ap (λ ts. Token.mark (codes ";") ∷ ts) h))))
-
-module _ (d : Design) (t : Translatable d) (p : Printable d) where
-  -- the printed name of a signal of some kind is simple
-  pub named-simple : (kind : SignalKind) (n : ℕ) → IsOfKind d.signals kind n → is_simple (name_of d.signals n) ≡ true
-  named-simple kind n k = ap (λ o. is_simple (path_or_nothing o)) k.is_there ∙ p.names k.signal (member-at d.signals n k.signal k.is_there)
-
-  item-on : (i : VItem) → Member (lowered_module d).items i → (ps : List Piece) → ReadsOn ps [] → ReadsOn (item_layout i ++ ps) []
-  item-on i m ps h =
-      elim (member-split (map declaration_of d.signals) (map (lowered_process d.signals) d.processes) i m) [
-        | inl a ↦ (let u = member-unmap declaration_of d.signals i a in
-            subst (λ (x : VItem). ReadsOn (item_layout x ++ ps) []) (sym u.2)
-            (declaration-on u.0.kind u.0.width u.0.path ps [] (t.widths u.0 u.1) (p.widths u.0 u.1) (p.names u.0 u.1) h))
-        | inr a ↦ (let u = member-unmap (lowered_process d.signals) d.processes i a in
-            subst (λ (x : VItem). ReadsOn (item_layout x ++ ps) []) (sym u.2)
-            (assign-on d.signals (name_of d.signals u.0.target) u.0.value ps [] (named-simple OutputVar u.0.target (t.targets u.0 u.1)) (p.values u.0 u.1)
-            (λ n k. named-simple InputNet n (t.operands u.0 u.1 n k)) h))
-      ]
-
-  port-simple : (n : List ℕ) → Member (lowered_module d).ports n → is_simple n ≡ true
-  port-simple n m = let u = member-unmap (λ (s : Signal). s.path) d.signals n m in subst (λ x. is_simple x ≡ true) (sym u.2) (p.names u.0 u.1)
-
-  -- the tokens of the written text
-  pub text-tokens : tokens (text_of (lowered d)) ≡ tokens_of (text_layout (lowered d))
-  text-tokens =
-      let m = lowered_module d in
-      let after : List Piece = items_layout m.items ++ token (Token.word (codes "endmodule")) ∷ newline ∷ [] in
-      let items : ReadsOn (items_layout m.items ++ token (Token.word (codes "endmodule")) ∷ newline ∷ []) [] =
-      flat-on item_layout m.items (token (Token.word (codes "endmodule")) ∷ newline ∷ []) [] item-on endmodule-on in
-      let all : ReadsOn (module_layout m) [] =
-      module-word-on (token (Token.name m.name) ∷ (ports_layout m.ports ++ token (Token.mark (codes ";")) ∷ newline ∷ after)) []
-      (ports-on m.name m.ports after [] p.top port-simple items) in
-      ap (λ l. tokens (bytes_of l)) (append-nil (module_layout m)) ∙ ap tokens (sym (append-nil (bytes_of (module_layout m)))) ∙ all
-      ∙ append-nil (tokens_of (module_layout m)) ∙ ap tokens_of (sym (append-nil (module_layout m)))
+pub expr-on : (x : VExpr) → ExprOn x
+expr-on = ind-expr ExprOn PrimOn (record {
+  number = number-prim-on;
+  name = name-prim-on;
+  paren = paren-on;
+  prim = λ a on fits ps e h. subst (λ l. IsRead (l ++ ps)) (sym (prim-layout a)) ((on (fits-as (prim-form a) fits)).0 ps e h);
+  unary = unary-on;
+  binary = binary-on;
+})

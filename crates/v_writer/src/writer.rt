@@ -1,14 +1,17 @@
 //! The text of a target design.
 
-ghost use Rattle.std.specs.Prelude.{◌≡◌, ◌++◌, ◌∷◌, [], codes, decimal, flat_map, map, reverse, OnOk};
-ghost use Rattle.v_writer.specs.Layout.{spelling, bytes_of, unary_mark, binary_mark, bit_digit, prim_layout, expr_layout, range_layout, port_layout, assign_layout, item_layout, items_layout, further_ports, ports_layout, module_layout, text_of};
-ghost use Rattle.v_tree.specs.Tokens.{Token, number};
+ghost use Rattle.std.specs.Prelude.{◌≡◌, true, ◌++◌, ◌∷◌, [], codes, decimal, flat_map, map, reverse, OnOk};
+ghost use Rattle.v_tree.specs.Tokens.{Token};
+ghost use Rattle.v_writer.specs.Margins.{levels};
+ghost use Rattle.v_writer.specs.Writing.{Writes};
+ghost use Rattle.v_writer.specs.Layout.{line, indentation, spelling, bytes_of, unary_mark, binary_mark, bit_digit, prim_layout, expr_layout, range_layout, declaration_layout, store_mark, store_layout, number, lines_layout, else_of, stmt_layout, branch_layout, edge_word, edge_layout, further_edges, edges_layout, sensitivity_layout, always_layout, item_layout, items_layout, further_ports, ports_layout, header_layout, module_layout};
 
-use crate::v_tree::{VDesign, VExpr, VItem, VModule, VPrim};
+use crate::margin::Margin;
 use b4_core::{BinOp, Bit4, UnOp, Vec4};
 use itoa::Buffer;
 use std::alloc::AllocError;
 use sv_source::Text;
+use v_tree::{VBranch, VDesign, VEdge, VExpr, VItem, VModule, VPrim, VSensitivity, VStmt};
 
 /// Appends a decimal number.
 fn write_decimal(n: u64, to: &mut Text) -> Result<(), AllocError>
@@ -43,7 +46,7 @@ fn write_bits(bits: &[Bit4], to: &mut Text) -> Result<(), AllocError>
 /// Appends a sized binary number.
 #[tactic(auto, using(crate::proofs::Layouts::writing))]
 fn write_number(bits: &Vec4, to: &mut Text) -> Result<(), AllocError>
-    ensures { OnOk result (to.new ≡ to.old ++ spelling (number bits.now)) }
+    ensures { OnOk result (to.new ≡ to.old ++ spelling (Token.number bits.now)) }
 {
     write_decimal(bits.len() as u64, to)?;
     to.push_bytes(b"'b")?;
@@ -129,44 +132,227 @@ fn write_range(range: Option<u32>, to: &mut Text) -> Result<(), AllocError>
     Ok(())
 }
 
-/// Appends the line of a port's declaration.
+/// Appends the end of a line, and the indentation of the next one.
 #[tactic(auto, using(crate::proofs::Layouts::writing))]
-fn write_port(
+fn write_line(margin: Margin<'_>, to: &mut Text) -> Result<(), AllocError>
+    ensures { OnOk result (to.new ≡ to.old ++ 10 ∷ indentation (levels margin.entry)) }
+{
+    to.push(b'\n')?;
+    margin.write(to)
+}
+
+/// Appends a declaration behind its other keywords.
+#[tactic(auto, using(crate::proofs::Layouts::writing))]
+fn write_declaration(
     keyword: &[u8],
     range: Option<u32>,
     name: &Text,
     to: &mut Text,
 ) -> Result<(), AllocError>
-    ensures { OnOk result (to.new ≡ to.old ++ bytes_of (port_layout keyword.now range name.now)) }
+    ensures { OnOk result (to.new ≡ to.old ++ bytes_of (declaration_layout keyword.now range name.now)) }
 {
-    to.push_bytes(b"  ")?;
     to.push_bytes(keyword)?;
     to.push_bytes(b" ")?;
     write_range(range, to)?;
     to.push_bytes(name.as_bytes())?;
-    to.push_bytes(b";\n")
+    to.push_bytes(b";")
 }
 
-/// Appends the line of a continuous assignment.
-#[tactic(auto, using(crate::proofs::Layouts::writing))]
-fn write_assign(target: &Text, value: &VExpr, to: &mut Text) -> Result<(), AllocError>
-    ensures { OnOk result (to.new ≡ to.old ++ bytes_of (assign_layout target.now value.now)) }
+/// The mark of an assignment.
+fn store_bytes(later: bool) -> &'static [u8]
+    ensures { result.now ≡ store_mark later }
 {
-    to.push_bytes(b"  assign ")?;
-    to.push_bytes(target.as_bytes())?;
-    to.push_bytes(b" = ")?;
-    write_expr(value, to)?;
-    to.push_bytes(b";\n")
+    if later { b"<=" } else { b"=" }
 }
 
-/// Appends the line of an item.
+/// Appends a target, the mark of its assignment, and spaces around that.
+#[tactic(auto, using(crate::proofs::Layouts::writing))]
+fn write_target(target: &Text, later: bool, to: &mut Text) -> Result<(), AllocError>
+    ensures { OnOk result (to.new ≡ to.old ++ (target.now ++ (32 ∷ store_mark later ++ 32 ∷ []))) }
+{
+    to.push_bytes(target.as_bytes())?;
+    to.push_bytes(b" ")?;
+    to.push_bytes(store_bytes(later))?;
+    to.push_bytes(b" ")
+}
+
+/// Appends an assignment.
+#[tactic(auto, using(crate::proofs::Layouts::writing))]
+fn write_store(target: &Text, later: bool, value: &VExpr, to: &mut Text) -> Result<(), AllocError>
+    ensures { OnOk result (to.new ≡ to.old ++ bytes_of (store_layout target.now later (expr_layout value.now))) }
+{
+    write_target(target, later, to)?;
+    write_expr(value, to)?;
+    to.push_bytes(b";")
+}
+
+/// Appends a statement whose line has this margin.
+#[cycle(write_stmt)]
+#[tactic(auto, using(crate::proofs::Layouts::writing))]
+fn write_stmt(stmt: &VStmt, margin: Margin<'_>, to: &mut Text) -> Result<(), AllocError>
+    ensures { OnOk result (to.new ≡ to.old ++ bytes_of (stmt_layout stmt.now (levels margin.entry))) }
+{
+    match stmt {
+        VStmt::Block(stmts) => {
+            to.push_bytes(b"begin")?;
+            write_lines(stmts.as_slice(), margin.inner(), to)?;
+            write_line(margin, to)?;
+            to.push_bytes(b"end")
+        }
+        VStmt::If { on, then, other } => {
+            to.push_bytes(b"if (")?;
+            write_expr(on, to)?;
+            to.push_bytes(b") ")?;
+            write_branch(then, margin, to)?;
+            write_else(other, margin, to)
+        }
+        VStmt::Assign {
+            target,
+            value,
+            later,
+        } => write_store(target, *later, value, to),
+    }
+}
+
+/// Appends statements, each on a line of its own.
+#[cycle(write_stmt)]
+#[tactic(auto, using(crate::proofs::Layouts::writing))]
+fn write_lines(stmts: &[VStmt], margin: Margin<'_>, to: &mut Text) -> Result<(), AllocError>
+    ensures { OnOk result (to.new ≡ to.old ++ bytes_of (lines_layout (levels margin.entry) (map stmt_layout stmts.now))) }
+{
+    for stmt in stmts {
+        write_line(margin, to)?;
+        write_stmt(stmt, margin, to)?;
+    }
+    Ok(())
+}
+
+/// Appends what an `if`, an `else` or an `always` governs.
+#[cycle(write_stmt)]
+#[tactic(auto, using(crate::proofs::Layouts::writing))]
+fn write_branch(branch: &VBranch, margin: Margin<'_>, to: &mut Text) -> Result<(), AllocError>
+    ensures { OnOk result (to.new ≡ to.old ++ bytes_of (branch_layout branch.now (levels margin.entry))) }
+{
+    match branch {
+        VBranch::Statement(stmt) => write_stmt(stmt.get(), margin, to),
+        VBranch::Empty => to.push_bytes(b";"),
+    }
+}
+
+/// Appends an `else`, or nothing where there is none.
+#[cycle(write_stmt)]
+#[tactic(auto, using(crate::proofs::Layouts::writing))]
+fn write_else(other: &Option<VBranch>, margin: Margin<'_>, to: &mut Text) -> Result<(), AllocError>
+    ensures { OnOk result (to.new ≡ to.old ++ bytes_of (else_of (levels margin.entry) other.now)) }
+{
+    if let Some(branch) = other {
+        write_line(margin, to)?;
+        to.push_bytes(b"else ")?;
+        write_branch(branch, margin, to)?;
+    }
+    Ok(())
+}
+
+/// The keyword of an edge.
+fn edge_bytes(rising: bool) -> &'static [u8]
+    ensures { result.now ≡ edge_word rising }
+{
+    if rising { b"posedge" } else { b"negedge" }
+}
+
+/// Appends an edge.
+#[tactic(auto, using(crate::proofs::Layouts::writing))]
+fn write_edge(edge: &VEdge, to: &mut Text) -> Result<(), AllocError>
+    ensures { OnOk result (to.new ≡ to.old ++ bytes_of (edge_layout edge.now)) }
+{
+    to.push_bytes(edge_bytes(edge.rising))?;
+    to.push_bytes(b" ")?;
+    to.push_bytes(edge.name.as_bytes())
+}
+
+/// Appends ` or ` and the edge for each of these edges.
+#[tactic(auto, using(crate::proofs::Layouts::writing))]
+fn write_further_edges(edges: &[VEdge], to: &mut Text) -> Result<(), AllocError>
+    ensures { OnOk result (to.new ≡ to.old ++ bytes_of (further_edges edges.now)) }
+{
+    for edge in edges {
+        to.push_bytes(b" or ")?;
+        write_edge(edge, to)?;
+    }
+    Ok(())
+}
+
+/// Appends edges.
+#[tactic(auto, using(crate::proofs::Layouts::writing))]
+fn write_edges(edges: &[VEdge], to: &mut Text) -> Result<(), AllocError>
+    ensures { OnOk result (to.new ≡ to.old ++ bytes_of (edges_layout edges.now)) }
+{
+    match edges {
+        [] => Ok(()),
+        [first, others @ ..] => {
+            write_edge(first, to)?;
+            write_further_edges(others, to)
+        }
+    }
+}
+
+/// Appends what an `always` waits for.
+#[tactic(auto, using(crate::proofs::Layouts::writing))]
+fn write_sensitivity(on: &VSensitivity, to: &mut Text) -> Result<(), AllocError>
+    ensures { OnOk result (to.new ≡ to.old ++ bytes_of (sensitivity_layout on.now)) }
+{
+    match on {
+        VSensitivity::Star => to.push_bytes(b"*"),
+        VSensitivity::Edges(edges) => {
+            to.push_bytes(b"(")?;
+            write_edges(edges.as_slice(), to)?;
+            to.push_bytes(b")")
+        }
+    }
+}
+
+/// Appends an `always`.
+#[tactic(auto, using(crate::proofs::Layouts::writing))]
+fn write_always(on: &VSensitivity, body: &VBranch, to: &mut Text) -> Result<(), AllocError>
+    ensures { OnOk result (to.new ≡ to.old ++ bytes_of (always_layout on.now body.now)) }
+{
+    to.push_bytes(b"always @")?;
+    write_sensitivity(on, to)?;
+    to.push_bytes(b" ")?;
+    write_branch(body, Margin::edge().inner(), to)
+}
+
+/// Appends an `initial`.
+#[tactic(auto, using(crate::proofs::Layouts::writing))]
+fn write_initial(name: &Text, value: &Vec4, to: &mut Text) -> Result<(), AllocError>
+    ensures { OnOk result (to.new ≡ to.old ++ (codes "initial " ++ bytes_of (store_layout name.now true (number value.now ∷ [])))) }
+{
+    to.push_bytes(b"initial ")?;
+    write_target(name, true, to)?;
+    write_number(value, to)?;
+    to.push_bytes(b";")
+}
+
+/// Appends an item.
+#[tactic(auto, using(crate::proofs::Layouts::writing))]
 fn write_item(item: &VItem, to: &mut Text) -> Result<(), AllocError>
     ensures { OnOk result (to.new ≡ to.old ++ bytes_of (item_layout item.now)) }
 {
     match item {
-        VItem::Input { range, name } => write_port(b"input", *range, name, to),
-        VItem::Output { range, name } => write_port(b"output", *range, name, to),
-        VItem::Assign { target, value } => write_assign(target, value, to),
+        VItem::Input { range, name } => write_declaration(b"input", *range, name, to),
+        VItem::Output { range, name } => write_declaration(b"output", *range, name, to),
+        VItem::OutputReg { range, name } => {
+            to.push_bytes(b"output ")?;
+            write_declaration(b"reg", *range, name, to)
+        }
+        VItem::Wire { range, name } => write_declaration(b"wire", *range, name, to),
+        VItem::Reg { range, name } => write_declaration(b"reg", *range, name, to),
+        VItem::Initial { name, value } => write_initial(name, value, to),
+        VItem::Assign { target, value } => {
+            to.push_bytes(b"assign ")?;
+            write_store(target, false, value, to)
+        }
+        VItem::Always { on, body } => write_always(on, body, to),
     }
 }
 
@@ -204,15 +390,35 @@ fn write_ports(ports: &[Text], to: &mut Text) -> Result<(), AllocError>
     }
 }
 
-/// Appends the lines of items.
+/// Appends an item on a line of its own.
+#[tactic(auto, using(crate::proofs::Layouts::writing))]
+fn write_item_line(item: &VItem, to: &mut Text) -> Result<(), AllocError>
+    ensures { OnOk result (to.new ≡ to.old ++ bytes_of (line 1 ∷ item_layout item.now)) }
+{
+    write_line(Margin::edge().inner(), to)?;
+    write_item(item, to)
+}
+
+/// Appends items, each on a line of its own.
 #[tactic(auto, using(crate::proofs::Layouts::writing))]
 fn write_items(items: &[VItem], to: &mut Text) -> Result<(), AllocError>
     ensures { OnOk result (to.new ≡ to.old ++ bytes_of (items_layout items.now)) }
 {
     for item in items {
-        write_item(item, to)?;
+        write_item_line(item, to)?;
     }
     Ok(())
+}
+
+/// Appends the header of a module.
+#[tactic(auto, using(crate::proofs::Layouts::writing))]
+fn write_header(m: &VModule, to: &mut Text) -> Result<(), AllocError>
+    ensures { OnOk result (to.new ≡ to.old ++ bytes_of (header_layout m.now)) }
+{
+    to.push_bytes(b"module ")?;
+    to.push_bytes(m.name.as_bytes())?;
+    write_ports(m.ports.as_slice(), to)?;
+    to.push_bytes(b";")
 }
 
 /// Appends a module.
@@ -220,12 +426,9 @@ fn write_items(items: &[VItem], to: &mut Text) -> Result<(), AllocError>
 fn write_module(m: &VModule, to: &mut Text) -> Result<(), AllocError>
     ensures { OnOk result (to.new ≡ to.old ++ bytes_of (module_layout m.now)) }
 {
-    to.push_bytes(b"module ")?;
-    to.push_bytes(m.name.as_bytes())?;
-    write_ports(m.ports.as_slice(), to)?;
-    to.push_bytes(b";\n")?;
+    write_header(m, to)?;
     write_items(m.items.as_slice(), to)?;
-    to.push_bytes(b"endmodule\n")
+    to.push_bytes(b"\nendmodule\n")
 }
 
 /// Appends modules one after the other.
@@ -239,9 +442,10 @@ fn write_modules(modules: &[VModule], to: &mut Text) -> Result<(), AllocError>
     Ok(())
 }
 
-/// Appends the text of a design, in time linear in its length, or wants memory.
+/// Appends the text of a design, in time linear in its length, or wants memory. The text of a tree of the target
+/// grammar (IEEE 1364-2005 annex A) that keeps the rules on names and sizes reads as that tree.
 pub fn write_text(d: &VDesign, to: &mut Text) -> Result<(), AllocError>
-    ensures { OnOk result (to.new ≡ to.old ++ text_of d.now) }
+    ensures { OnOk result (Writes d.now to.old to.new) }
 {
     write_modules(d.modules.as_slice(), to)
 }

@@ -1,17 +1,20 @@
 -- What elaboration answers.
-use Rattle.std.specs.Prelude.{◌≡◌, ℕ, Bool, true, false, List, Option, Some, None, Result, Ok, Err, codes}
+use Rattle.std.specs.Prelude.{◌≡◌, ◌++◌, ℕ, Bool, true, false, List, Option, Some, None, Result, Ok, Err, codes}
 use Rattle.std.specs.Option.{option_or, option_map}
 use Rattle.sv_source.specs.declared.token.Spot.{Spot}
 use Rattle.sv_source.specs.declared.refusal.Refusal.{Refusal}
 use Rattle.sv_source.specs.declared.refusal.Fail.{Fail}
 use Rattle.sv_source.specs.declared.refusal.Fail.TheVariants.{Memory, Refused}
 use Rattle.sv2v_top.specs.declared.uses.Use.{Use}
+use Rattle.v_tree.specs.Names.{among}
+use Rattle.sv2v_top.specs.source.Statements.{targets}
+use Rattle.sv2v_top.specs.declared.sv_tree.Item.{Item}
 use Rattle.sv2v_top.specs.declared.sv_tree.Module.{Module}
 use Rattle.sv_types.specs.declared.design.Design.{Design}
 use Rattle.sv2v_top.specs.source.Names.{first_undeclared, signal_names}
 use Rattle.sv2v_top.specs.source.Lookup.{Numbers}
 use Rattle.sv2v_top.specs.declared.package_scope.Names.{Names}
-use Rattle.sv2v_top.specs.source.Rules.{elaborates, first_process_break, is_built}
+use Rattle.sv2v_top.specs.source.Rules.{writes_break, always_written, target_words, elaborates, first_process_break, is_built}
 use Rattle.sv2v_top.specs.source.Elaboration.{design_of}
 
 -- E401 at the name
@@ -49,3 +52,8 @@ ElaborationGives m top (Err (Refused r)) = refusal_of m top ≡ Some r
 abbrev pub UndeclaredGives : Module → Result Names Refusal → Type 0
 UndeclaredGives m (Ok names) = (first_undeclared m ≡ None) × Numbers names (signal_names m)
 UndeclaredGives m (Err r) = option_map (λ (u : Use). undeclared_refusal u.name) (first_undeclared m) ≡ Some r
+
+-- the first break of an item behind those that write these names, and the names that are written then
+pub record BreaksAfter (written : List (List ℕ)) (i : Item) (r : Option Refusal) (table : Names) : Type 0 where
+  pub first : r ≡ writes_break (among written) (among (always_written i)) (targets i)
+  pub table_is : Numbers table (written ++ target_words i)

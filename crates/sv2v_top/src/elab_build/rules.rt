@@ -8,7 +8,8 @@ ghost use Rattle.sv2v_top.specs.source.Names.{declared, signal_names};
 ghost use Rattle.sv2v_top.specs.source.Statements.{word_of, parts, sequence, item_parts, targets_in, reads_in, targets, reads, in_both};
 ghost use Rattle.sv2v_top.specs.source.Literals.{is_plain_literal};
 ghost use Rattle.sv_source.specs.declared.token.Spot.{Spot as SourceSpot};
-ghost use Rattle.sv2v_top.specs.source.Rules.{refused_at, size_holds, item_holds, writes_break, processes_break, always_written, comb_targets, has_procedure, is_comb_item, is_bit_signal, clock_is_bit, item_is_built_among};
+ghost use Rattle.sv2v_top.specs.source.Answers.{BreaksAfter};
+ghost use Rattle.sv2v_top.specs.source.Rules.{sizes_hold, are_plain, refused_at, size_holds, item_holds, writes_break, processes_break, always_written, comb_targets, has_procedure, is_comb_item, is_bit_signal, clock_is_bit, item_is_built_among};
 ghost use Rattle.sv2v_top.specs.source.Lookup.{Numbers, holds};
 
 use crate::literals::{decimal_up_to, is_plain};
@@ -71,19 +72,37 @@ fn is_procedural(item: &Item) -> bool
     matches!(item, Item::Comb(_) | Item::Edge { .. })
 }
 
+/// Whether the names that are used are in the table.
+fn uses_are_in(names: &Names, uses: &[Use]) -> bool
+    ensures { result ≡ list_all (λ (u : SourceUse). holds names.now u.name.word) uses.now }
+{
+    uses.iter()
+        .all(|item| names.number(&item.name.word).is_some())
+}
+
+/// Whether literals have sizes from 1 to 128.
+fn sizes_fit(literals: &[Literal]) -> bool
+    ensures { result ≡ sizes_hold literals.now }
+{
+    literals.iter().all(size_fits)
+}
+
+/// Whether the procedure of an item, if it has one, assigns to no input.
+fn procedure_fits(item: &Item, inputs: &Names, uses: &[Use]) -> bool
+    ensures { result ≡ (not (has_procedure item.now) || list_all (λ (s : SourceSpot). not (holds inputs.now s.word)) (targets_in uses.now)) }
+{
+    !is_procedural(item) || targets_are_outside(inputs, uses)
+}
+
 /// Whether an item holds: its names are those of signals, its procedures assign to no input, and its literals have a size.
 fn item_fits(found: &Found, item: &Item, names: &Names, inputs: &Names) -> bool
     requires uses { found.now.names ≡ (item_parts item.now).names }
     requires literals { found.now.literals ≡ (item_parts item.now).literals }
     ensures { (ns is : List (List ℕ)) → Numbers names.now ns → Numbers inputs.now is → result ≡ item_holds ns is item.now }
 {
-    let known = found
-        .names
-        .as_slice()
-        .iter()
-        .all(|item| names.number(&item.name.word).is_some());
-    let sizes = found.literals.as_slice().iter().all(size_fits);
-    let outside = !is_procedural(item) || targets_are_outside(inputs, found.names.as_slice());
+    let known = uses_are_in(names, found.names.as_slice());
+    let outside = procedure_fits(item, inputs, found.names.as_slice());
+    let sizes = sizes_fit(found.literals.as_slice());
     known & outside & sizes
 }
 
@@ -255,19 +274,30 @@ fn first_write_break(
     Ok(None)
 }
 
+/// The first break of an item, by the names that earlier ones write. Adds those that it writes.
+fn item_break(
+    alloc: Global,
+    written: &mut Names,
+    item: &Item,
+) -> Result<Option<Refusal>, AllocError>
+    ensures { IfOk result (λ r. (ws : List (List ℕ)) → Numbers written.old ws → BreaksAfter ws item.now r written.new) }
+{
+    let found = find_in(alloc, item)?;
+    let always = always_table(alloc, item, found.names.as_slice())?;
+    let first = first_write_break(alloc, written, &always, found.names.as_slice())?;
+    add_targets(alloc, written, found.names.as_slice())?;
+    Ok(first)
+}
+
 /// The first break of the processes among items.
 pub fn process_break(alloc: Global, items: &[Item]) -> Result<Option<Refusal>, AllocError>
     ensures { IfOk result (λ r. r ≡ processes_break [] items.now) }
 {
     let mut written = Names::new(alloc);
     for item in items {
-        let found = find_in(alloc, item)?;
-        let always = always_table(alloc, item, found.names.as_slice())?;
-        let first = first_write_break(alloc, &written, &always, found.names.as_slice())?;
-        if first.is_some() {
-            return Ok(first);
+        if let Some(refusal) = item_break(alloc, &mut written, item)? {
+            return Ok(Some(refusal));
         }
-        add_targets(alloc, &mut written, found.names.as_slice())?;
     }
     Ok(None)
 }
@@ -327,6 +357,20 @@ pub struct Tables<'a> {
     pub signals: &'a [Signal],
 }
 
+/// Whether literals have the plain form.
+fn literals_are_plain(literals: &[Literal]) -> bool
+    ensures { result ≡ are_plain literals.now }
+{
+    literals.iter().all(is_plain_one)
+}
+
+/// Whether an item, if it is a combinational process, reads no name of the table.
+fn reads_fit(item: &Item, written: &Names, uses: &[Use]) -> bool
+    ensures { result ≡ (not (is_comb_item item.now) || list_all (λ (s : SourceSpot). not (holds written.now s.word)) (reads_in uses.now)) }
+{
+    !is_combinational(item) || reads_are_outside(written, uses)
+}
+
 /// Whether an item has built forms and breaks no rule that isn't built.
 fn item_is_built_by(found: &Found, item: &Item, tables: &Tables<'_>) -> bool
     requires uses { found.now.names ≡ (item_parts item.now).names }
@@ -335,8 +379,8 @@ fn item_is_built_by(found: &Found, item: &Item, tables: &Tables<'_>) -> bool
     ensures { (ns is ws : List (List ℕ)) → Numbers tables.now.names.now ns → Numbers tables.now.inputs.now is → Numbers tables.now.written.now ws → result ≡ item_is_built_among tables.now.signals.now ns is ws item.now }
 {
     let uses = found.names.as_slice();
-    let plain = found.literals.as_slice().iter().all(is_plain_one);
-    let apart = !is_combinational(item) || reads_are_outside(tables.written, uses);
+    let plain = literals_are_plain(found.literals.as_slice());
+    let apart = reads_fit(item, tables.written, uses);
     let outside = targets_are_outside(tables.inputs, uses);
     let clock = clock_fits(item, tables.names, tables.signals);
     let few = has_at_most(item, 1 << 20);
