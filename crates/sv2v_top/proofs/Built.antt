@@ -1,5 +1,5 @@
 -- A module that is refused nothing elaborates to a design that can be translated.
-use Rattle.std.proofs.Common.{◌≡◌, ◌≤◌, ◌^◌, ◌⊎◌, ◌+◌, ◌-◌, ℕ, zero, suc, Bool, true, false, not, ◌&&◌, ◌||◌, if◌then◌else◌, List, [], ◌∷◌, ◌++◌, map, flat_map, length, sum, drop, reverse, slice_get, Option, Some, None, refl, sym, ap, subst, ◌∙◌, inl, inr, arith}
+use Rattle.std.proofs.Common.{◌≡◌, ◌<◌, ◌≤◌, ◌^◌, ◌⊎◌, ◌+◌, ◌-◌, ℕ, zero, suc, Bool, true, false, not, ◌&&◌, ◌||◌, if◌then◌else◌, List, [], ◌∷◌, ◌++◌, map, flat_map, length, sum, drop, reverse, slice_get, Option, Some, None, refl, sym, ap, subst, ◌∙◌, inl, inr, arith}
 use Rattle.std.specs.List.{list_all}
 use Rattle.std.specs.Prelude.{nat_le, nat_lt, ◌==◌, ◌*◌}
 use Rattle.std.specs.Str.{bytes_eq}
@@ -40,7 +40,7 @@ use Rattle.sv2v_top.specs.source.Answers.{unless_built, refusal_if_elaborates, r
 use Rattle.sv2v_top.specs.source.Building.{nesting_limit}
 use Rattle.sv2v_top.proofs.Names.{same_bytes, true_or_false, not_true, among-member, member-at, member-map, member-unmap, member-split, pick_false}
 use Rattle.sv2v_top.proofs.Decimals.{decimal_grows}
-use Rattle.sv2v_top.proofs.Checks.{bits-summed}
+use Rattle.sv2v_top.proofs.Checks.{sum-cons, bits-summed}
 use Rattle.sv2v_top.proofs.Readable.{AllOf, Bitwise, IsName, NamedItem, GoodItem, NamedModule, length-map}
 use Rattle.sv2v_top.proofs.Parts.{OwnLiterals, own-none, own-assignment, own-literals}
 use Rattle.sv2v_top.proofs.Processes.{all-member, member-parts, parts-member, position-there, position-one, MadeOf, made-of, option-none, NamesThere, target-there, read-there, target-source, read-source, drivers}
@@ -411,3 +411,18 @@ module _ (top : List ℕ) (tokens : List Token) (m : Module) (named : NamedModul
     exprs = fits;
     nesting = nesting;
   }
+
+-- fewer names than the bits of all signals
+pub names-few : (ds : List Declared) → length (map name_of ds) ≤ total_bits ds
+names-few [] = omega arith
+names-few (d ∷ ds) =
+    let rest = names-few ds in
+    let one = width-some d.range in
+    let all = sum-cons (width_of d) (map width_of ds) in
+    omega arith
+
+pub elaborated-few : (m : Module) (top : List ℕ) → elaborates m top ≡ true → length (signal_names m) < 2 ^ 32
+elaborated-few m top e =
+    let few = leb-true (total_bits (declared m)) (2 ^ 22) (elaborates-parts m top e).bits in
+    let names = names-few (declared m) in
+    omega arith

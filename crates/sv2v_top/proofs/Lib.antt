@@ -10,6 +10,8 @@ pub mod Spines
 pub mod Readable
 pub mod SimpleNames
 pub mod Built
+pub mod Correct
 pub mod AskedFor
 pub mod Fit
 pub mod Runs
+pub mod Promises
