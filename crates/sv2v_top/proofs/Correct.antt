@@ -1,9 +1,11 @@
 -- A source text that reads and is refused nothing elaborates to a design that can be translated.
-use Rattle.std.proofs.Common.{◌≡◌, ℕ, suc, ◌<◌, ◌≤◌, Bool, true, false, not, cond, List, [], ◌∷◌, length, Some, None, refl, sym, subst, ◌∙◌, inl, inr, arith}
+use Rattle.std.proofs.Common.{◌≡◌, ℕ, suc, ◌<◌, ◌≤◌, Bool, true, false, not, cond, List, [], ◌∷◌, length, Some, None, Err, refl, sym, subst, ◌∙◌, inl, inr, arith}
 use Rattle.std.specs.List.{All}
 use Rattle.std.proofs.lemmas.List.Elements.{All-head, All-tail}
 use Rattle.row_machine.specs.Valuation.{Member}
 use Rattle.sv_source.specs.declared.token.Token.{Token}
+use Rattle.sv_source.specs.declared.refusal.Fail.{Fail}
+use Rattle.sv_source.specs.declared.refusal.Fail.TheVariants.{Memory, Refused}
 use Rattle.sv_lexer.specs.Lexing.{tokens_of}
 use Rattle.sv_lexer.specs.Facts.{IsRaw}
 use Rattle.lower_design.specs.Translatable.{Translatable}
@@ -11,8 +13,8 @@ use Rattle.v_tree.specs.Tokens.{is_simple}
 use Rattle.sv2v_top.specs.declared.sv_tree.Module.{Module}
 use Rattle.sv2v_top.specs.source.Elaboration.{design_of}
 use Rattle.sv2v_top.specs.source.Answers.{refusal_of}
-use Rattle.sv2v_top.specs.source.Reading.{ReadsAs}
-use Rattle.sv2v_top.specs.Translation.{is_line, kept_tokens, source_tokens}
+use Rattle.sv2v_top.specs.source.Reading.{ReadsAs, ReadingGives}
+use Rattle.sv2v_top.specs.Translation.{is_line, kept_tokens, source_tokens, last_place, TranslationGives}
 use Rattle.sv2v_top.proofs.Names.{member-at}
 use Rattle.sv2v_top.proofs.Readable.{IsName, NamedModule, readable}
 use Rattle.sv2v_top.proofs.SimpleNames.{name-is-simple}
@@ -58,3 +60,8 @@ module _ (top bytes : List ℕ) (m : Module) (reads : ReadsAs (source_tokens byt
 
   pub correct : Translatable (design_of m)
   correct = translatable top (source_tokens bytes) m named unbroken simple
+
+-- a text that doesn't read has a break
+pub unread-breaks : (top bytes : List ℕ) (e : Fail) → ReadingGives (source_tokens bytes) (last_place bytes) (Err e) → TranslationGives top bytes (Err e)
+unread-breaks top bytes Memory g = tt
+unread-breaks top bytes (Refused r) g = record { cause = inl g }

@@ -1,4 +1,4 @@
-use Rattle.std.proofs.Common.{◌≡◌, ◌<◌, ◌≤◌, ◌++◌, [], List, ℕ, length, None, refl, sym, ap, subst, ◌∙◌, arith}
+use Rattle.std.proofs.Common.{◌≡◌, ◌<◌, ◌≤◌, ◌++◌, [], List, ℕ, length, None, Err, refl, sym, ap, subst, ◌∙◌, arith}
 use Rattle.std.specs.List.{All}
 use Rattle.sv_lexer.specs.Facts.{IsRaw}
 use Rattle.row_machine.specs.Valuation.{Member}
@@ -10,11 +10,11 @@ use Rattle.lower_design.specs.Lowering.{Lowers}
 use Rattle.v_tree.specs.declared.tree.VDesign.{VDesign}
 use Rattle.v_tree.specs.Reading.{VReads}
 use Rattle.v_tree.proofs.OneReading.{one_design}
-use Rattle.sv2v_top.specs.source.Reading.{ReadsAs}
+use Rattle.sv2v_top.specs.source.Reading.{ReadsAs, ReadingGives}
 use Rattle.sv2v_top.specs.source.Elaboration.{design_of}
 use Rattle.sv2v_top.specs.source.Answers.{refusal_of}
-use Rattle.sv2v_top.specs.Translation.{kept_tokens, source_tokens, Right}
-use Rattle.sv2v_top.proofs.Correct.{kept-fewer, correct, raw-some}
+use Rattle.sv2v_top.specs.Translation.{kept_tokens, source_tokens, last_place, TranslationGives, Right}
+use Rattle.sv2v_top.proofs.Correct.{kept-fewer, correct, raw-some, unread-breaks}
 use Rattle.sv2v_top.proofs.translation.translate.Goals as goal
 
 pub read_source-requires : goal.read_source-requires
@@ -25,6 +25,18 @@ read_source-requires c =
     let count : length c.in_ok-tokens.tokens ≤ length c.args.bytes.now = c.in_ok-tokens.ensures.count in
     let same = ap length kept in
     omega arith
+
+pub returns-in_err-source : goal.returns-in_err-source
+returns-in_err-source c =
+    let bytes = c.args.bytes.now in
+    let raw : c.as_slice.result.now ≡ c.in_ok-tokens.tokens = c.as_slice.ensures in
+    let all : c.in_ok-tokens.tokens ≡ tokens_of 0 bytes = c.in_ok-tokens.ensures.tokens in
+    let kept : c.as_slice-2.result.now ≡ source_tokens bytes = c.as_slice-2.ensures ∙ c.in_ok-tokens-2.ensures ∙ ap kept_tokens (raw ∙ all) in
+    let last : c.place_behind.result ≡ last_place bytes = c.place_behind.ensures.value in
+    let unread : ReadingGives (source_tokens bytes) (last_place bytes) (Err c.in_err-source.field-0) =
+    subst (λ ts. ReadingGives ts (last_place bytes) (Err c.in_err-source.field-0)) kept
+    (subst (λ at. ReadingGives c.as_slice-2.result.now at (Err c.in_err-source.field-0)) last c.in_err-source.ensures) in
+    subst (TranslationGives c.args.top.now bytes) (sym c.from_residual-in_err-source.ensures) (unread-breaks c.args.top.now bytes c.in_err-source.field-0 unread)
 
 pub lower-requires : goal.lower-requires
 lower-requires c =
