@@ -1,5 +1,6 @@
 use Rattle.std.proofs.Common.{◌≡◌, ◌<◌, ◌≤◌, ◌++◌, [], List, ℕ, length, None, Err, refl, sym, ap, subst, ◌∙◌, arith}
 use Rattle.std.specs.List.{All}
+use Rattle.std.proofs.lemmas.Result.{err_from_is_err_and}
 use Rattle.sv_lexer.specs.Facts.{IsRaw}
 use Rattle.row_machine.specs.Valuation.{Member}
 use Rattle.sv_source.specs.declared.token.Token.{Token}
@@ -33,10 +34,12 @@ returns-in_err-source c =
     let all : c.in_ok-tokens.tokens ≡ tokens_of 0 bytes = c.in_ok-tokens.ensures.tokens in
     let kept : c.as_slice-2.result.now ≡ source_tokens bytes = c.as_slice-2.ensures ∙ c.in_ok-tokens-2.ensures ∙ ap kept_tokens (raw ∙ all) in
     let last : c.place_behind.result ≡ last_place bytes = c.place_behind.ensures.value in
-    let unread : ReadingGives (source_tokens bytes) (last_place bytes) (Err c.in_err-source.field-0) =
-    subst (λ ts. ReadingGives ts (last_place bytes) (Err c.in_err-source.field-0)) kept
-    (subst (λ at. ReadingGives c.as_slice-2.result.now at (Err c.in_err-source.field-0)) last c.in_err-source.ensures) in
-    subst (TranslationGives c.args.top.now bytes) (sym c.from_residual-in_err-source.ensures) (unread-breaks c.args.top.now bytes c.in_err-source.field-0 unread)
+    let unread : ReadingGives (source_tokens bytes) (last_place bytes) (Err c.in_err-source.field-0.0) =
+    subst (λ ts. ReadingGives ts (last_place bytes) (Err c.in_err-source.field-0.0)) kept
+    (subst (λ at. ReadingGives c.as_slice-2.result.now at (Err c.in_err-source.field-0.0)) last c.in_err-source.ensures) in
+    let p = err_from_is_err_and c.from_residual-in_err-source.result c.from_residual-in_err-source.ensures.1 in
+    let same : p.0 ≡ c.in_err-source.field-0.0 = p.2 in
+    subst (TranslationGives c.args.top.now bytes) (sym (p.1 ∙ ap Err same)) (unread-breaks c.args.top.now bytes c.in_err-source.field-0.0 unread)
 
 pub lower-requires : goal.lower-requires
 lower-requires c =
