@@ -41,13 +41,9 @@ use Rattle.sv2v_top.specs.source.Building.{nesting_limit}
 use Rattle.sv2v_top.proofs.Names.{same_bytes, true_or_false, not_true, among-member, member-at, member-map, member-unmap, member-split, pick_false}
 use Rattle.sv2v_top.proofs.Decimals.{decimal_grows}
 use Rattle.sv2v_top.proofs.Checks.{sum-cons, bits-summed}
-use Rattle.sv2v_top.proofs.Readable.{AllOf, Bitwise, IsName, NamedItem, GoodItem, NamedModule, length-map}
+use Rattle.sv2v_top.proofs.Readable.{AllOf, Bitwise, IsName, NamedItem, GoodItem, NamedModule, length-map, map-get}
 use Rattle.sv2v_top.proofs.Parts.{OwnLiterals, own-none, own-assignment, own-literals}
 use Rattle.sv2v_top.proofs.Processes.{all-member, member-parts, parts-member, position-there, position-one, MadeOf, made-of, option-none, NamesThere, target-there, read-there, target-source, read-source, drivers}
-
--- a conjunction that is true, part by part
-pub both : (a b : Bool) → (a && b) ≡ true → (a ≡ true) × (b ≡ true)
-both a b e = and_parts a b e
 
 -- what elaborates, rule by rule
 pub record Elaborates (m : Module) (top : List ℕ) : Type 0 where
@@ -112,11 +108,6 @@ pub get-map : {A B : Type 0} (f : A → B) (xs : List A) (n : ℕ) (y : B) → s
 get-map f [] n y e = cc
 get-map f (x ∷ xs) zero y e = (x, refl, cc)
 get-map f (x ∷ xs) (suc n) y e = get-map f xs n y e
-
-pub map-get : {A B : Type 0} (f : A → B) (xs : List A) (n : ℕ) (x : A) → slice_get xs n ≡ Some x → slice_get (map f xs) n ≡ Some (f x)
-map-get f [] n x e = cc
-map-get f (y ∷ xs) zero x e = (let same : y ≡ x = cc in ap (λ z. Some (f z)) same)
-map-get f (y ∷ xs) (suc n) x e = map-get f xs n x e
 
 pub map-map : {A B C : Type 0} (f : B → C) (g : A → B) (xs : List A) → map f (map g xs) ≡ map (λ x. f (g x)) xs
 map-map f g [] = refl

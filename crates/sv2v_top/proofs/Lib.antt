@@ -2,9 +2,9 @@ pub mod Names
 pub mod Decimals
 pub mod Lookup
 pub mod Levels
+pub mod Checks
 pub mod Parts
 pub mod Processes
-pub mod Checks
 pub mod Building
 pub mod Spines
 pub mod Readable

@@ -3,10 +3,10 @@ use Rattle.std.proofs.Common.{◌≡◌, ℕ, suc, max, Bool, true, false, cond,
 use Rattle.row_machine.specs.Valuation.{Member}
 use Rattle.sv_source.specs.declared.token.Spot.{Spot}
 use Rattle.sv_types.specs.declared.design.Expr.{Expr as TypedExpr}
-use Rattle.sv_types.specs.declared.design.Stmt.{Stmt as Typed, Stmt-F as Typed-F, fold-Stmt, fold-roll-Stmt}
-use Rattle.sv_types.specs.declared.design.Stmt.TheVariants as D
+use Rattle.sv_types.specs.declared.design.Stmt.{Stmt as Typed}
 use Rattle.sv_types.specs.Statements.{Doing, idle, primary_signals, expr_signals, stmt_doing, doing}
 use Rattle.sv_types.specs.Statements as Meaning
+use Rattle.lower_design.proofs.Levels.{block-level, alone-level, either-level, assign-level}
 use Rattle.lower_design.specs.Translatable.{Inside, all_exprs, deepest, inside_or, stmt_inside, inside}
 use Rattle.sv2v_top.specs.declared.uses.Use.{Use}
 use Rattle.sv2v_top.specs.declared.uses.Literal.{Literal}
@@ -24,6 +24,7 @@ use Rattle.sv2v_top.specs.source.Statements.{primary_uses, expr_uses, expr_liter
 use Rattle.v_tree.specs.Names.{position}
 use Rattle.sv2v_top.specs.source.Elaboration.{primary_of, expr_of, assign_of, stmt_of}
 use Rattle.sv2v_top.proofs.Names.{append-nil, member-unmap}
+use Rattle.sv2v_top.proofs.Checks.{map-append}
 use Rattle.sv2v_top.proofs.Levels.{block-parts, alone-parts, either-parts, assign-parts, block-typed, alone-typed, either-typed, assign-typed}
 
 -- what is to be shown of each kind of statement, where it holds of the statements inside
@@ -46,28 +47,7 @@ module _ (P : Stmt → Type 0) (steps : Steps P) where
   pub by_statement : (s : Stmt) → P s
   by_statement = ind-Stmt P (λ x y e. subst (λ z. P (roll-Stmt z)) e (level _ (λ a. a.0) (λ a. a.1) y))
 
--- one level of a typed statement at a time
-module _ (A : Type 0) (step : Typed-F A → A) where
-  abbrev folded : Typed → A
-  folded = fold-Stmt A step
-
-  block-level : (ss : List Typed) → folded (D.Block ss) ≡ step (Typed-F.Block (map folded ss))
-  block-level ss = ap folded (sym (D.rolls-Block ss)) ∙ fold-roll-Stmt A step (Typed-F.Block ss)
-
-  alone-level : (on : TypedExpr) (body : Typed) → folded (D.If on body None) ≡ step (Typed-F.If on (folded body) None)
-  alone-level on body = ap folded (sym (D.rolls-If on body None)) ∙ fold-roll-Stmt A step (Typed-F.If on body None)
-
-  either-level : (on : TypedExpr) (body other : Typed) → folded (D.If on body (Some other)) ≡ step (Typed-F.If on (folded body) (Some (folded other)))
-  either-level on body other = ap folded (sym (D.rolls-If on body (Some other))) ∙ fold-roll-Stmt A step (Typed-F.If on body (Some other))
-
-  assign-level : (to : ℕ) (value : TypedExpr) (later : Bool) → folded (D.Assign to value later) ≡ step (Typed-F.Assign to value later)
-  assign-level to value later = ap folded (sym (D.rolls-Assign to value later)) ∙ fold-roll-Stmt A step (Typed-F.Assign to value later)
-
 -- uses one after the other
-pub map-append : {A B : Type 0} (f : A → B) (xs ys : List A) → map f (xs ++ ys) ≡ map f xs ++ map f ys
-map-append f [] ys = refl
-map-append f (x ∷ xs) ys = ap (λ zs. f x ∷ zs) (map-append f xs ys)
-
 pub reads-append : (us vs : List Use) → reads_in (us ++ vs) ≡ reads_in us ++ reads_in vs
 reads-append [] vs = refl
 reads-append (u ∷ us) vs = ap (if_read u.role u.name) (reads-append us vs) ∙ pushed u.role (reads_in us) (reads_in vs)
