@@ -1,14 +1,13 @@
 -- A module that is refused nothing elaborates to a design that can be translated.
-use Rattle.std.proofs.Common.{◌≡◌, ◌<◌, ◌≤◌, ◌^◌, ◌⊎◌, ◌+◌, ◌-◌, ℕ, zero, suc, Bool, true, false, not, ◌&&◌, ◌||◌, if◌then◌else◌, List, [], ◌∷◌, ◌++◌, map, flat_map, length, sum, drop, reverse, slice_get, Option, Some, None, refl, sym, ap, subst, ◌∙◌, inl, inr, arith}
+use Rattle.std.proofs.Common.{◌≡◌, ◌<◌, ◌≤◌, ◌^◌, ◌+◌, ◌-◌, ℕ, zero, suc, Bool, true, false, not, ◌&&◌, ◌||◌, if◌then◌else◌, List, [], ◌∷◌, ◌++◌, map, flat_map, length, sum, reverse, slice_get, Option, Some, None, refl, sym, ap, subst, ◌∙◌, inl, inr, arith}
 use Rattle.std.specs.List.{list_all}
 use Rattle.std.specs.Prelude.{nat_le, nat_lt, ◌==◌, ◌*◌}
 use Rattle.std.specs.Str.{bytes_eq}
-use Rattle.std.proofs.lemmas.Bool.{or_cases, or_left, or_right, and_parts, false≢true, leb-true, ltb-true, eqb-true, eq-eqb}
+use Rattle.std.proofs.lemmas.Bool.{or_left, or_right, and_parts, false≢true, leb-true, ltb-true, eqb-true, eq-eqb}
 use Rattle.std.proofs.lemmas.List.{length-reverse}
 use Rattle.row_machine.specs.Valuation.{Member}
 use Rattle.sv_source.specs.declared.token.Spot.{Spot}
 use Rattle.sv_source.specs.declared.token.Token.{Token}
-use Rattle.sv_source.specs.declared.refusal.Refusal.{Refusal}
 use Rattle.sv_types.specs.declared.design.SignalKind.{SignalKind}
 use Rattle.sv_types.specs.declared.design.SignalKind.TheVariants.{InputNet, OutputVar, Variable}
 use Rattle.sv_types.specs.declared.design.Signal.{Signal}
@@ -31,13 +30,12 @@ use Rattle.sv2v_top.specs.declared.sv_tree.Expr.TheVariants.{Single, Binary}
 use Rattle.sv2v_top.specs.declared.sv_tree.Item.{Item}
 use Rattle.sv2v_top.specs.declared.sv_tree.Item.TheVariants as I
 use Rattle.sv2v_top.specs.declared.sv_tree.Module.{Module}
-use Rattle.sv2v_top.specs.source.Literals.{decimal, with_digit, is_digit, are_digits, is_plain_size, is_plain_literal, has_binary_base, are_bit_digits, behind_base, literal_bits, bit_of_digit}
+use Rattle.sv2v_top.specs.source.Literals.{decimal, with_digit, is_digit, are_digits, is_plain_size, is_plain_literal, behind_base, literal_bits, bit_of_digit}
 use Rattle.sv2v_top.specs.source.Names.{Declared, ports_from, direction_after, range_after, declared_by, variables, declared, name_of, signal_names, first_undeclared}
-use Rattle.sv2v_top.specs.source.Statements.{primary_literals, expr_literals, item_parts, parts, word_of, targets, reads}
-use Rattle.sv2v_top.specs.source.Rules.{first_is_directed, header_holds, if_input, inputs, all_among, none_among, has_procedure, range_width, range_holds, width_of, signal_of, ranges_hold, total_bits, size_holds, sizes_hold, types_hold, item_holds, items_hold, elaborates, first_process_break, is_comb_item, target_words, comb_targets, are_plain, ranges_are_plain, clock_is_bit, item_is_built_among, is_built}
+use Rattle.sv2v_top.specs.source.Statements.{primary_literals, expr_literals, item_parts, word_of, targets, reads}
+use Rattle.sv2v_top.specs.source.Rules.{if_input, inputs, none_among, range_width, range_holds, width_of, signal_of, ranges_hold, total_bits, item_holds, items_hold, elaborates, first_process_break, is_comb_item, target_words, comb_targets, are_plain, clock_is_bit, item_is_built_among, is_built}
 use Rattle.sv2v_top.specs.source.Elaboration.{primary_of, expr_of, process_of, processes_of, design_of}
 use Rattle.sv2v_top.specs.source.Answers.{unless_built, refusal_if_elaborates, refusal_or, refusal_of}
-use Rattle.sv2v_top.specs.source.Building.{nesting_limit}
 use Rattle.sv2v_top.proofs.Names.{same_bytes, true_or_false, not_true, among-member, member-at, member-map, member-unmap, member-split, pick_false}
 use Rattle.sv2v_top.proofs.Decimals.{decimal_grows}
 use Rattle.sv2v_top.proofs.Checks.{sum-cons, bits-summed}

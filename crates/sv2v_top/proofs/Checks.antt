@@ -1,8 +1,7 @@
 -- The checks by tables are those of the rules.
-use Rattle.std.proofs.Common.{◌≡◌, ◌≤◌, ◌^◌, ℕ, zero, suc, ◌+◌, Option, Some, None, length, Bool, true, false, not, cond, ◌&&◌, ◌||◌, List, [], ◌∷◌, ◌++◌, map, sum, find, take, drop, drop-cons, slice_index_or, ◌<◌, refl, sym, ap, ◌∙◌, arith, add-one, append_assoc}
-use Rattle.std.specs.List.{list_all, fold, filter, flat_map}
+use Rattle.std.proofs.Common.{◌≡◌, ◌≤◌, ℕ, zero, suc, ◌+◌, Option, Some, None, length, Bool, true, false, not, cond, ◌&&◌, ◌||◌, List, [], ◌∷◌, ◌++◌, map, sum, find, take, drop, drop-cons, slice_index_or, ◌<◌, refl, sym, ap, ◌∙◌, arith, add-one, append_assoc}
+use Rattle.std.specs.List.{list_all, fold, filter}
 use Rattle.std.specs.Prelude.{IsTrue, ◌↔◌}
-use Rattle.std.specs.Bool.{Decides}
 use Rattle.std.specs.Str.{bytes_eq}
 use Rattle.std.specs.Option.{is_some, option_or}
 use Rattle.std.proofs.lemmas.Bool.Decides.{same_from_decides}
@@ -25,7 +24,7 @@ use Rattle.sv2v_top.specs.declared.sv_tree.Item.{Item}
 use Rattle.sv2v_top.specs.declared.package_scope.Names.{Names}
 use Rattle.sv2v_top.specs.source.Names.{Declared, ports_from, direction_after, range_after, variables, declared_by, name_of, port_word, port_names, signal_names, undeclared, undeclared_in}
 use Rattle.sv2v_top.specs.source.Statements.{item_parts, word_of, if_target, targets_in, in_both}
-use Rattle.sv2v_top.specs.source.Rules.{range_width, total_bits, signal_of, width_of, is_plain_range, ranges_are_plain, inputs, if_input, input_paths, all_among, none_among}
+use Rattle.sv2v_top.specs.source.Rules.{total_bits, signal_of, width_of, is_plain_range, ranges_are_plain, inputs, if_input, input_paths, all_among, none_among}
 use Rattle.sv2v_top.specs.source.Lookup.{Numbers, holds}
 use Rattle.sv2v_top.proofs.Lookup.{some-among}
 use Rattle.sv2v_top.proofs.Names.{append-nil}

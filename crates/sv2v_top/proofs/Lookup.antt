@@ -9,7 +9,7 @@ use Rattle.std.proofs.lemmas.Slice.Eq.{bytes_eq-Decides}
 use Rattle.v_tree.specs.Names.{among, position}
 use Rattle.v_tree.specs.Names.{distinct}
 use Rattle.sv2v_top.specs.source.Lookup.{first_number}
-use Rattle.sv2v_top.proofs.Names.{pick_true, pick_false, true_or_false, bytes_same, same_bytes}
+use Rattle.sv2v_top.proofs.Names.{pick_true, pick_false, true_or_false, bytes_same}
 
 pub among-more : (ns : List (List ℕ)) (w q : List ℕ) → among (ns ++ w ∷ []) q ≡ (among ns q || bytes_eq w q)
 among-more [] w q = or-false (bytes_eq w q)

@@ -1,8 +1,7 @@
 -- Lists of names, and members of lists.
-use Rattle.std.proofs.Common.{◌≡◌, ℕ, zero, suc, ◌⊎◌, Bool, true, false, not, ◌||◌, if◌then◌else◌, List, [], ◌∷◌, ◌++◌, map, Some, refl, sym, ap, subst, inl, inr}
+use Rattle.std.proofs.Common.{◌≡◌, ℕ, zero, suc, ◌⊎◌, Bool, true, false, not, if◌then◌else◌, List, [], ◌∷◌, ◌++◌, map, Some, refl, sym, ap, subst, inl, inr}
 use Rattle.std.specs.List.{slice_get}
 use Rattle.std.specs.Str.{bytes_eq}
-use Rattle.std.specs.Bool.{Decides}
 use Rattle.std.proofs.lemmas.Slice.Eq.{bytes_eq-Decides}
 use Rattle.std.proofs.lemmas.Bool.{or_cases, or_left, or_right, false≢true}
 use Rattle.row_machine.specs.Valuation.{Member}
@@ -72,4 +71,3 @@ pub member-split : {A : Type 0} (xs ys : List A) (x : A) → Member (xs ++ ys) x
 member-split [] ys x m = inr m
 member-split (z ∷ zs) ys x (inl e) = inl (inl e)
 member-split (z ∷ zs) ys x (inr m) = elim (member-split zs ys x m) [ inl k ↦ inl (inr k) | inr k ↦ inr k ]
-

@@ -1,13 +1,12 @@
 -- A statement of a design has the reads, targets, expressions and nesting of the source statement that it is made of.
-use Rattle.std.proofs.Common.{◌≡◌, ℕ, suc, max, Bool, true, false, cond, List, [], ◌∷◌, ◌++◌, map, flat_map, Option, Some, None, refl, sym, ap, subst, ◌∙◌, inl, inr, append_assoc}
+use Rattle.std.proofs.Common.{◌≡◌, ℕ, suc, max, Bool, true, false, cond, List, [], ◌∷◌, ◌++◌, map, flat_map, Some, None, refl, sym, ap, subst, ◌∙◌, inl, inr, append_assoc}
 use Rattle.row_machine.specs.Valuation.{Member}
 use Rattle.sv_source.specs.declared.token.Spot.{Spot}
-use Rattle.sv_types.specs.declared.design.Expr.{Expr as TypedExpr}
 use Rattle.sv_types.specs.declared.design.Stmt.{Stmt as Typed}
 use Rattle.sv_types.specs.Statements.{Doing, idle, primary_signals, expr_signals, stmt_doing, doing}
 use Rattle.sv_types.specs.Statements as Meaning
 use Rattle.lower_design.proofs.Levels.{block-level, alone-level, either-level, assign-level}
-use Rattle.lower_design.specs.Translatable.{Inside, all_exprs, deepest, inside_or, stmt_inside, inside}
+use Rattle.lower_design.specs.Translatable.{Inside, all_exprs, deepest, stmt_inside, inside}
 use Rattle.sv2v_top.specs.declared.uses.Use.{Use}
 use Rattle.sv2v_top.specs.declared.uses.Literal.{Literal}
 use Rattle.sv2v_top.specs.declared.uses.Role.{Role}
@@ -20,7 +19,7 @@ use Rattle.sv2v_top.specs.declared.sv_tree.Assign.{Assign}
 use Rattle.sv2v_top.specs.declared.sv_tree.Stmt.{Stmt, Stmt-F, ind-Stmt, roll-Stmt, map-Stmt}
 use Rattle.sv2v_top.specs.declared.sv_tree.Stmt.TheVariants.{Block, If, rolls-Block, rolls-If, rolls-Assign}
 use Rattle.sv2v_top.specs.declared.sv_tree.Stmt.TheVariants as T
-use Rattle.sv2v_top.specs.source.Statements.{primary_uses, expr_uses, expr_literals, Parts, none, sequence, choice, one_more, assignment, parts, if_target, targets_in, if_read, reads_in}
+use Rattle.sv2v_top.specs.source.Statements.{primary_uses, expr_uses, expr_literals, Parts, none, sequence, choice, assignment, parts, if_target, targets_in, if_read, reads_in}
 use Rattle.v_tree.specs.Names.{position}
 use Rattle.sv2v_top.specs.source.Elaboration.{primary_of, expr_of, assign_of, stmt_of}
 use Rattle.sv2v_top.proofs.Names.{append-nil, member-unmap}
@@ -173,7 +172,7 @@ module _ (names : List (List ℕ)) where
     -- a list of statements
     list-matches : (ss : List Stmt) → ((s : Stmt) → Member ss s → StatementMatches s)
         → Matches later (sequence (map parts ss)) (Meaning.sequence (map doing (map typed ss)))
-          (record { exprs = all_exprs (map inside (map typed ss)); depth = deepest (map inside (map typed ss)) })
+        (record { exprs = all_exprs (map inside (map typed ss)); depth = deepest (map inside (map typed ss)) })
     list-matches [] h = record { reads = refl; targets = cond-none later; later_targets = cond-none later; exprs = refl; depth = refl }
     list-matches (s ∷ ss) h =
         let m = h s (inl refl) in

@@ -1,9 +1,9 @@
 -- The processes of a module's items: which item one is made of, and that no two of them write one signal.
-use Rattle.std.proofs.Common.{◌≡◌, ◌≢◌, ◌≤◌, ◌⊎◌, ◌==◌, ℕ, suc, Bool, true, false, not, ◌||◌, List, [], ◌∷◌, ◌++◌, map, flat_map, slice_get, Option, Some, None, if◌then◌else◌, refl, sym, ap, subst, ◌∙◌, inl, inr}
+use Rattle.std.proofs.Common.{◌≡◌, ◌⊎◌, ◌==◌, ℕ, Bool, true, false, List, [], ◌∷◌, ◌++◌, map, flat_map, slice_get, Option, Some, None, if◌then◌else◌, refl, sym, ap, subst, ◌∙◌, inl, inr}
 use Rattle.std.specs.Option.{option_or}
 use Rattle.std.specs.List.{list_all}
 use Rattle.std.specs.Str.{bytes_eq}
-use Rattle.std.proofs.lemmas.Bool.{or_cases, or_left, or_right, and_parts, false≢true, eqb-true}
+use Rattle.std.proofs.lemmas.Bool.{or_cases, and_parts, false≢true, eqb-true}
 use Rattle.row_machine.specs.Valuation.{Member}
 use Rattle.sv_source.specs.declared.token.Spot.{Spot}
 use Rattle.sv_source.specs.declared.refusal.Refusal.{Refusal}
@@ -11,8 +11,6 @@ use Rattle.sv_types.specs.declared.design.SignalKind.{SignalKind}
 use Rattle.sv_types.specs.declared.design.SignalKind.TheVariants.{InputNet, OutputVar, Variable}
 use Rattle.sv_types.specs.declared.design.Signal.{Signal}
 use Rattle.sv_types.specs.declared.design.EdgeOn.{EdgeOn}
-use Rattle.sv_types.specs.declared.design.ProcessKind.{ProcessKind}
-use Rattle.sv_types.specs.declared.design.ProcessKind.TheVariants.{Continuous, Comb, Edges}
 use Rattle.sv_types.specs.declared.design.Process.{Process}
 use Rattle.sv_types.specs.Statements.{doing}
 use Rattle.lower_design.specs.Translatable.{inside, targets_of, OneDriver, EdgeFits, KindFits, is_comb}
@@ -22,10 +20,10 @@ use Rattle.sv2v_top.specs.declared.uses.Role.{Role}
 use Rattle.sv2v_top.specs.declared.uses.Role.TheVariants.{Target, Read, Clock}
 use Rattle.sv2v_top.specs.declared.sv_tree.Item.{Item}
 use Rattle.sv2v_top.specs.declared.sv_tree.Item.TheVariants as I
-use Rattle.sv2v_top.specs.source.Statements.{word_of, item_parts, parts, if_target, targets_in, if_read, reads_in, targets, reads}
-use Rattle.sv2v_top.specs.source.Rules.{all_among, is_bit_signal, is_bit, clock_is_bit, is_comb_item, target_words, always_written, write_break, writes_break, processes_break}
-use Rattle.sv2v_top.specs.source.Elaboration.{expr_of, assign_of, stmt_of, clock_of, process, process_of, processes_of}
-use Rattle.sv2v_top.proofs.Names.{bytes_same, true_or_false, among-member, member-among, member-at, member-map, member-unmap, member-left, member-right, member-split, pick_true, pick_false}
+use Rattle.sv2v_top.specs.source.Statements.{word_of, item_parts, if_target, targets_in, if_read, reads_in, targets, reads}
+use Rattle.sv2v_top.specs.source.Rules.{all_among, is_bit, clock_is_bit, is_comb_item, target_words, always_written, write_break, writes_break, processes_break}
+use Rattle.sv2v_top.specs.source.Elaboration.{expr_of, clock_of, process_of, processes_of}
+use Rattle.sv2v_top.proofs.Names.{bytes_same, true_or_false, among-member, member-among, member-map, member-unmap, member-left, member-right, member-split, pick_true, pick_false}
 use Rattle.sv2v_top.proofs.Parts.{numbers, assignment-matches, statement-matches}
 
 pub all-member : {A : Type 0} (t : A → Bool) (xs : List A) (x : A) → list_all t xs ≡ true → Member xs x → t x ≡ true
@@ -228,10 +226,10 @@ module _ (signals : List Signal) (names : List (List ℕ)) where
       driver-append (process_of names i) (processes_of names items) (item-driver i)
       (drivers (written ++ target_words i) items (option-none _ _ e).1 (λ j m. there j (inr m)))
       (λ p m n k q l r.
-          let s = target-source i p m n k in
-          let j = member-parts (process_of names) items q l in
-          let t = target-source j.0 q j.2 n r in
-          let same = position-one names (t.0).word (s.0).word (target-there j.0 (there j.0 (inr j.1)) t.0 t.1) (target-there i (there i (inl refl)) s.0 s.1) (sym t.2 ∙ s.2) in
-          let now : among (written ++ target_words i) (s.0).word ≡ true =
-          among-member _ _ (member-right written (target_words i) (s.0).word (member-map word_of (targets i) s.0 s.1)) in
-          later-free (written ++ target_words i) items (option-none _ _ e).1 (s.0).word now j.0 j.1 t.0 t.1 same)
+      let s = target-source i p m n k in
+      let j = member-parts (process_of names) items q l in
+      let t = target-source j.0 q j.2 n r in
+      let same = position-one names (t.0).word (s.0).word (target-there j.0 (there j.0 (inr j.1)) t.0 t.1) (target-there i (there i (inl refl)) s.0 s.1) (sym t.2 ∙ s.2) in
+      let now : among (written ++ target_words i) (s.0).word ≡ true =
+      among-member _ _ (member-right written (target_words i) (s.0).word (member-map word_of (targets i) s.0 s.1)) in
+      later-free (written ++ target_words i) items (option-none _ _ e).1 (s.0).word now j.0 j.1 t.0 t.1 same)

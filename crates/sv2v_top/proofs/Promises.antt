@@ -1,29 +1,29 @@
 -- How a run ends keeps each promise of the call.
-use Rattle.std.proofs.Common.{◌≡◌, ◌⊎◌, ◌<◌, ◌≤◌, ◌^◌, ◌+◌, ℕ, List, length, map, min, Option, Some, None, Result, Ok, Err, refl, sym, ap, subst, ◌∙◌, inl, inr, arith}
+use Rattle.std.proofs.Common.{◌≡◌, ◌⊎◌, ◌<◌, ◌≤◌, ℕ, List, length, map, Option, Some, None, Result, Ok, Err, refl, sym, ap, subst, ◌∙◌, inl, inr, arith}
 use Rattle.std.specs.List.{slice_get}
-use Rattle.sv_source.specs.Faults.{Rose, NoFault, NotRaised}
+use Rattle.sv_source.specs.Faults.{Rose, NoFault}
 use Rattle.sv_source.specs.Loading.{Contents}
 use Rattle.sv_source.specs.declared.text.Text.{Text}
 use Rattle.sv_source.specs.declared.refusal.Refusal.{Refusal}
 use Rattle.sv_source.specs.declared.token.Token.{Token}
 use Rattle.sv_source.specs.declared.token.Place.{Place}
-use Rattle.sv_source.specs.Message.{usage_line, memory_line, read_fault_line, refusal_line, write_fault_line}
+use Rattle.sv_source.specs.Message.{memory_line, read_fault_line, refusal_line}
 use Rattle.ll_engine.proofs.Laws.{one_answer}
-use Rattle.sv2v_top.specs.Words.{Asked, asked}
+use Rattle.sv2v_top.specs.Words.{Asked}
 use Rattle.sv2v_top.specs.declared.run.Stop.{Stop}
 use Rattle.sv2v_top.specs.declared.run.Stop.TheVariants as S
 use Rattle.sv2v_top.specs.declared.sv_tree.Module.{Module}
 use Rattle.sv_types.specs.declared.design.Design.{Design}
 use Rattle.sv2v_top.specs.declared.status.Status.{Status}
-use Rattle.sv2v_top.specs.declared.status.Status.TheVariants.{Done, Refused, Usage, Memory, FileFault, SinkFault, Unsettled}
+use Rattle.sv2v_top.specs.declared.status.Status.TheVariants.{Done, Refused, Usage, Memory, FileFault, SinkFault}
 use Rattle.sv2v_top.specs.source.Grammar.{source_rows, symbol_of}
 use Rattle.sv2v_top.specs.source.Building.{module_of, nesting_limit}
 use Rattle.sv2v_top.specs.source.Reading.{ReadsAs, SyntaxBreak, fails, nests, refusal_at}
 use Rattle.sv2v_top.specs.source.Answers.{refusal_of}
 use Rattle.sv2v_top.specs.Translation.{Accepted, Breaks, source_tokens, last_place}
-use Rattle.sv2v_top.specs.Headline.{file_limit, Holds, IsTooLong, IsTranslated, IsRefused, IsFaulty, Cause, is_absent, is_too_long, breaks, AskedGives, Answers, RunGives}
+use Rattle.sv2v_top.specs.Headline.{file_limit, Holds, IsTooLong, IsTranslated, Cause, is_absent, is_too_long, breaks, Answers, RunGives}
 use Rattle.sv2v_top.specs.Endings.{Put_on, Took, Untouched, FailedAt, Says, said, unsaid, Writes, written, unwritten, Ends, Runs, line_of, status_of}
-use Rattle.sv2v_top.specs.Promises.{Call, call, Said, IsDone, OnDone, IsRefusal, OnRefused, IsUsage, OnUsage, OnMemory, IsFileFault, OnFileFault, IsSinkFault, of_output, of_errors, OnSinkFault, NeverUnsettled, Unless, UsageComes, Accepts, DoneComes, RefusalComes}
+use Rattle.sv2v_top.specs.Promises.{Call, call, Said, IsDone, OnDone, IsRefusal, OnRefused, IsUsage, OnUsage, OnMemory, IsFileFault, OnFileFault, IsSinkFault, of_output, of_errors, OnSinkFault, NeverUnsettled, UsageComes, Accepts, DoneComes, RefusalComes}
 use Rattle.sv2v_top.proofs.Fit.{source-fit}
 
 -- the run of a call

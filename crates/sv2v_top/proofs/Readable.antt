@@ -1,46 +1,42 @@
 -- A derivation by the table of the source grammar means a module.
-use Rattle.std.proofs.Common.{◌≡◌, ℕ, zero, suc, ◌+◌, ◌<◌, ◌≤◌, max, ◌⊎◌, Bool, true, false, if◌then◌else◌, List, [], ◌∷◌, ◌++◌, length, map, drop, Option, Some, None, refl, sym, ap, subst, ◌∙◌, inl, inr, arith}
+use Rattle.std.proofs.Common.{◌≡◌, ℕ, zero, suc, ◌+◌, ◌<◌, ◌≤◌, Bool, true, false, if◌then◌else◌, List, [], ◌∷◌, ◌++◌, length, map, drop, Option, Some, None, refl, sym, ap, subst, ◌∙◌, inl, inr, arith}
 use Rattle.std.specs.List.{slice_get}
 use Rattle.std.specs.Prelude.{◌==◌}
 use Rattle.std.proofs.lemmas.Bool.{false≢true, eq-eqb}
 use Rattle.sv_source.specs.declared.token.Token.{Token}
 use Rattle.sv_source.specs.declared.token.Spot.{Spot}
 use Rattle.ll_engine.specs.declared.table.Part.{Part}
-use Rattle.ll_engine.specs.declared.table.Part.TheVariants.{Term, Non, Maybe, Many, Chain}
+use Rattle.ll_engine.specs.declared.table.Part.TheVariants.{Term, Non}
 use Rattle.ll_engine.specs.declared.table.Row.{Row}
-use Rattle.ll_engine.specs.declared.tree.Tree.{Tree, Tree-F, out-Tree, roll-Tree, out-roll-Tree}
+use Rattle.ll_engine.specs.declared.tree.Tree.{Tree, Tree-F, out-Tree, out-roll-Tree}
 use Rattle.ll_engine.specs.declared.tree.Tree.TheVariants.{Leaf, Node, rolls-Leaf, rolls-Node}
 use Rattle.ll_engine.specs.Reading.{Nested, at_nesting, Reads, ended, symbol, taken, left_out, empty}
 use Rattle.sv_source.specs.declared.token.Kind.{Kind}
 use Rattle.sv_source.specs.declared.token.Kind.TheVariants as Kinds
 use Rattle.sv2v_top.specs.declared.sv_tree.Module.{Module}
 use Rattle.sv2v_top.specs.declared.sv_tree.Expr.{Expr}
-use Rattle.sv2v_top.specs.declared.sv_tree.Assign.{Assign}
 use Rattle.sv2v_top.specs.declared.sv_tree.Stmt.{Stmt}
 use Rattle.sv2v_top.specs.declared.sv_tree.Stmt.TheVariants as T
-use Rattle.sv2v_top.specs.declared.sv_tree.Declaration.{Declaration}
 use Rattle.sv2v_top.specs.declared.sv_tree.Item.{Item}
 use Rattle.sv2v_top.specs.declared.sv_tree.Item.TheVariants as I
 use Rattle.lower_design.specs.Translatable.{OperatorFits}
-use Rattle.sv2v_top.specs.source.Statements.{Parts, sequence, choice, none, parts, item_parts}
+use Rattle.sv2v_top.specs.source.Statements.{Parts, sequence, parts, item_parts}
 use Rattle.sv2v_top.proofs.Levels.{block-parts, alone-parts, either-parts, assign-parts}
 use Rattle.row_machine.specs.Valuation.{Member}
 use Rattle.b4_core.specs.declared.operators.BinOp.{BinOp}
 use Rattle.b4_core.specs.declared.operators.BinOp.TheVariants.{And, Or, Xor}
-use Rattle.sv2v_top.specs.declared.sv_tree.Direction.{Direction}
 use Rattle.sv2v_top.specs.declared.sv_tree.Direction.TheVariants.{Input, Output}
 use Rattle.sv2v_top.specs.declared.sv_tree.Operand.{Operand}
 use Rattle.sv2v_top.specs.declared.sv_tree.Expr.TheVariants as E
 use Rattle.sv2v_top.specs.declared.sv_tree.Port.{Port}
-use Rattle.sv2v_top.specs.declared.sv_tree.Primary.{Primary}
 use Rattle.sv2v_top.specs.declared.sv_tree.Primary.TheVariants as P
 use Rattle.sv2v_top.specs.declared.sv_build.grammar.TheConstants.{SOURCE, PORTS, PORT_LIST, MORE_PORTS, MORE_PORT, PORT, DIRECTION, RANGE, ITEMS, ITEM, EXPR, TAIL, OPERAND, PRIMARY, COMB, COMBS, COMB_ELSE, EDGE, EDGES, EDGE_ELSE}
 use Rattle.sv2v_top.specs.declared.sv_build.symbols.TheConstants.{OTHER, NAME, DECIMAL, BASED, MODULE, ENDMODULE, INPUT, OUTPUT, LOGIC, ASSIGN, OPEN, CLOSE, COMMA, SEMICOLON, LEFT, RIGHT, COLON, EQUALS, AND, OR, XOR, NOT, ALWAYS_COMB, ALWAYS_FF, POSEDGE, BEGIN, END, IF, ELSE, AT, ARROW}
 use Rattle.ll_engine.specs.Texts.{IsReading, Within}
 use Rattle.ll_engine.specs.Texts.{symbol_of as symbol_of_nested}
 use Rattle.sv2v_top.specs.source.Grammar.{source_rows, row, word_symbol, process_symbol, statement_symbol, bracket_symbol, mark_symbol, symbol_by, symbol_of}
-use Rattle.sv2v_top.specs.source.Building.{then_one, then_two, each, kids_in, kids_of, row_in, row_of, spot_at, spot_in, spot_of, primary_from, primary_of, operand_with, operand_from, operand_of, operator_of, binary_with, tail_from, expr_with, expr_from, expr_of, assign_with, range_with, range_from, range_of, direction_of, head_with, port_with, headed_port, port_from, port_of, more_from, more_of, ports_with, port_list_from, ports_from, body_with, module_from, module_of, applied, if_with, other_from, stmt_from, stmt_within, nesting_limit, stmt_of, declaration_with, edge_with, item_from, item_of}
-use Rattle.sv2v_top.proofs.Spines.{Node_read, Spine, done, leaf, node, Turns, none_more, one_more, spine, turns, node-advance, node-spine, node-turns, rows_headed, row-among}
+use Rattle.sv2v_top.specs.source.Building.{then_one, then_two, each, kids_in, kids_of, row_in, row_of, spot_at, spot_in, spot_of, primary_from, primary_of, operand_with, operand_from, operand_of, operator_of, binary_with, tail_from, expr_with, expr_from, expr_of, assign_with, range_with, range_from, range_of, direction_of, head_with, port_with, headed_port, port_from, port_of, more_from, more_of, ports_with, port_list_from, ports_from, body_with, module_from, module_of, applied, if_with, other_from, stmt_from, stmt_within, nesting_limit, declaration_with, edge_with, item_from, item_of}
+use Rattle.sv2v_top.proofs.Spines.{Node_read, Spine, done, leaf, node, Turns, none_more, one_more, spine, node-spine, node-turns, rows_headed, row-among}
 
 -- the first row of the table
 abbrev pub first_row : Row
@@ -629,7 +625,7 @@ module _ (tokens : List Token) where
       (leaf s e (leaf r f (leaf q g (leaf p h (leaf {x = y} o j (leaf i c (node {mid = mid} {u = u} {x = x} n (done k l)))))))) fits =
       let clock = leaf-meant y (suc (suc (suc (suc at)))) j (within (step (step (step (step fits))))) in
       let body = stmt-meant EDGE EDGES EDGE_ELSE ARROW edge-statements nesting_limit lev (omega arith) x (suc (suc (suc (suc (suc (suc at)))))) mid _ u n
-          (step (step (step (step (step (step fits)))))) in
+      (step (step (step (step (step (step fits)))))) in
       record {
         value = edge_with clock.value body.value;
         is = λ i. then_two edge_with (clock.is i) (body.is i);

@@ -1,5 +1,5 @@
 -- What a derivation by a table looks like, part by part.
-use Rattle.std.proofs.Common.{◌≡◌, ℕ, zero, suc, ◌+◌, ◌==◌, ◌⊎◌, Bool, true, false, cond, List, [], ◌∷◌, length, map, Option, Some, None, refl, sym, ap, subst, ◌∙◌, inl, inr, arith}
+use Rattle.std.proofs.Common.{◌≡◌, ℕ, zero, suc, ◌+◌, ◌==◌, Bool, true, false, List, [], ◌∷◌, length, Some, refl, ap, subst, ◌∙◌, inl, inr, arith}
 use Rattle.std.specs.List.{slice_get, list_all}
 use Rattle.std.proofs.lemmas.Bool.{eq-eqb}
 use Rattle.ll_engine.specs.declared.table.Part.{Part}
@@ -7,7 +7,7 @@ use Rattle.ll_engine.specs.declared.table.Part.TheVariants.{Term, Non, Maybe, Ma
 use Rattle.ll_engine.specs.declared.table.Row.{Row}
 use Rattle.ll_engine.specs.declared.tree.Tree.{Tree}
 use Rattle.ll_engine.specs.declared.tree.Tree.TheVariants.{Leaf, Node}
-use Rattle.ll_engine.specs.Grammar.{terminal, named, is_optional, IsRowOf}
+use Rattle.ll_engine.specs.Grammar.{IsRowOf}
 use Rattle.ll_engine.specs.Reading.{Nested, at_nesting, inside, Reads, ended, symbol, taken, left_out, empty}
 use Rattle.row_machine.specs.Valuation.{Member}
 

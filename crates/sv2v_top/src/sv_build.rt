@@ -52,11 +52,7 @@ fn syntax_refusal(
         Some(token) => {
             let word = token.text.copy(alloc)?;
             let place = token.place;
-            Ok(Refusal {
-                rule,
-                place,
-                word,
-            })
+            Ok(Refusal { rule, place, word })
         }
     }
 }

@@ -5,9 +5,9 @@ ghost use Rattle.sv2v_top.specs.Translation.{is_line, kept_tokens, last_place, T
 
 use crate::elab_build::elaborate;
 use crate::sv_build::read_source;
+use lower_design::lower;
 use std::alloc::{AllocError, Global};
 use sv_lexer::{lex, place_behind};
-use lower_design::lower;
 use sv_source::{Fail, Items, Kind, Place, Text, Token, Tokens};
 use v_writer::write_text;
 

@@ -10,7 +10,6 @@ use Rattle.sv2v_top.specs.declared.sv_tree.Stmt as SourceStmt
 use Rattle.sv2v_top.specs.declared.sv_tree.Item.{Item}
 use Rattle.sv2v_top.specs.declared.sv_tree.Item.TheVariants as I
 use Rattle.sv2v_top.specs.declared.sv_tree.Module.{Module}
-use Rattle.sv_types.specs.declared.design.Signal.{Signal}
 use Rattle.sv_types.specs.declared.design.Primary.{Primary}
 use Rattle.sv_types.specs.declared.design.Primary.TheVariants as P
 use Rattle.sv_types.specs.declared.design.Operand.{Operand}
@@ -24,7 +23,7 @@ use Rattle.sv_types.specs.declared.design.ProcessKind.TheVariants.{Continuous, C
 use Rattle.sv_types.specs.declared.design.Process.{Process}
 use Rattle.sv_types.specs.declared.design.Design.{Design}
 use Rattle.sv2v_top.specs.source.Literals.{literal_bits}
-use Rattle.sv2v_top.specs.source.Names.{Declared, declared, signal_names}
+use Rattle.sv2v_top.specs.source.Names.{declared, signal_names}
 use Rattle.v_tree.specs.Names.{position}
 use Rattle.sv2v_top.specs.source.Rules.{signal_of}
 

@@ -1,7 +1,7 @@
 -- The grammar of the source texts that are read (IEEE 1800-2017 Annex A.1.2, A.1.3, A.6.1 to A.6.4 and A.8.3): one module
 -- of continuous assignments, variables and processes. A group that may be left out is a head of its own with an empty row.
 -- The statements of `always_comb` assign by `=`, and those of `always_ff` by `<=`.
-use Rattle.std.specs.Prelude.{ℕ, ◌==◌, ◌&&◌, Bool, true, false, List, [], ◌∷◌, ◌++◌, if◌then◌else◌, codes, slice_index_or}
+use Rattle.std.specs.Prelude.{ℕ, ◌==◌, ◌&&◌, true, false, List, [], ◌∷◌, ◌++◌, if◌then◌else◌, codes}
 use Rattle.std.specs.Str.{bytes_eq}
 use Rattle.sv_source.specs.declared.token.Kind.{Kind}
 use Rattle.sv_source.specs.declared.token.Kind.TheVariants as Kinds

@@ -1,5 +1,5 @@
 -- What the statements of a source text name and hold, before anything is known of the names.
-use Rattle.std.specs.Prelude.{ℕ, suc, ◌+◌, max, Bool, List, [], ◌∷◌, ◌++◌, map, filter, Option, Some, None}
+use Rattle.std.specs.Prelude.{ℕ, suc, ◌+◌, max, List, [], ◌∷◌, ◌++◌, filter, Option, Some, None}
 use Rattle.sv_source.specs.declared.token.Spot.{Spot}
 use Rattle.sv2v_top.specs.declared.sv_tree.Primary.{Primary}
 use Rattle.sv2v_top.specs.declared.sv_tree.Primary.TheVariants.{Name}

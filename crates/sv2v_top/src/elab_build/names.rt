@@ -39,8 +39,7 @@ fn add_declared(alloc: Global, names: &mut Names, item: &Item) -> Result<(), All
 fn first_unknown<'a>(own: &Text, names: &Names, uses: &'a [Use]) -> Option<&'a Use>
     ensures { option_copied result ≡ find (λ (u : SourceUse). not (holds names.now u.name.word || bytes_eq own.now u.name.word)) uses.now }
 {
-    uses.iter()
-        .find(|item| names.number(&item.name.word).is_none() && *own != item.name.word)
+    uses.iter().find(|item| names.number(&item.name.word).is_none() && *own != item.name.word)
 }
 
 /// The refusal of a name that isn't declared.
@@ -57,10 +56,7 @@ fn undeclared_name(alloc: Global, name: &Spot) -> Result<Refusal, AllocError>
 }
 
 /// The names of the signals of a module, or the refusal of the first use of a name that isn't declared.
-pub fn signal_table(
-    alloc: Global,
-    source: &Module,
-) -> Result<Result<Names, Refusal>, AllocError>
+pub fn signal_table(alloc: Global, source: &Module) -> Result<Result<Names, Refusal>, AllocError>
     ensures { IfOk result (UndeclaredGives source.now) }
 {
     let mut names = port_table(alloc, source.ports.as_slice())?;

@@ -125,12 +125,7 @@ pub fn items_fit(
 }
 
 /// Adds those of the first names that are in the second table.
-fn add_both(
-    alloc: Global,
-    first: &[Text],
-    second: &Names,
-    to: &mut Texts,
-) -> Result<(), AllocError>
+fn add_both(alloc: Global, first: &[Text], second: &Names, to: &mut Texts) -> Result<(), AllocError>
     ensures { OnOk result ((ns : List (List ℕ)) → Numbers second.now ns → to.new ≡ to.old ++ in_both first.now ns) }
 {
     for name in first {
@@ -155,11 +150,7 @@ fn table(alloc: Global, names: &[Text]) -> Result<Names, AllocError>
 /// Adds the names that statements write on every path.
 #[cycle(always)]
 #[tactic(auto, using(crate::proofs::Levels::levels))]
-fn add_always_all(
-    alloc: Global,
-    statements: &[Stmt],
-    to: &mut Texts,
-) -> Result<(), AllocError>
+fn add_always_all(alloc: Global, statements: &[Stmt], to: &mut Texts) -> Result<(), AllocError>
     ensures { OnOk result (to.new ≡ to.old ++ (sequence (map parts statements.now)).always) }
 {
     for stmt in statements {

@@ -49,11 +49,7 @@ fn signal_kind(direction: Direction) -> SignalKind
 }
 
 /// Adds the signals of the ports, if each range holds.
-fn add_ports(
-    alloc: Global,
-    ports: &[Port],
-    signals: &mut Signals,
-) -> Result<bool, AllocError>
+fn add_ports(alloc: Global, ports: &[Port], signals: &mut Signals) -> Result<bool, AllocError>
     ensures { IfOk result (λ holds. (holds ≡ ranges_hold (ports_from Input None ports.now)) × (holds ≡ true → signals.new ≡ signals.old ++ map signal_of (ports_from Input None ports.now))) }
 {
     let mut direction = Direction::Input;
@@ -90,11 +86,7 @@ fn variable(alloc: Global, declaration: &Declaration) -> Result<Option<Signal>, 
 }
 
 /// Adds the signals that items declare, if each range holds.
-fn add_variables(
-    alloc: Global,
-    items: &[Item],
-    signals: &mut Signals,
-) -> Result<bool, AllocError>
+fn add_variables(alloc: Global, items: &[Item], signals: &mut Signals) -> Result<bool, AllocError>
     ensures { IfOk result (λ holds. (holds ≡ ranges_hold (variables items.now)) × (holds ≡ true → signals.new ≡ signals.old ++ map signal_of (variables items.now))) }
 {
     for item in items {

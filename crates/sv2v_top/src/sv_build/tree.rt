@@ -3,11 +3,11 @@
 ghost use Rattle.std.specs.Prelude.{◌≡◌, IfOk};
 ghost use Rattle.sv2v_top.specs.source.Building as means;
 
-use super::grammar::{AND_ROW, INPUT_ROW, OR_ROW, OUTPUT_ROW, XOR_ROW};
 use super::NESTING_LIMIT;
+use super::grammar::{AND_ROW, INPUT_ROW, OR_ROW, OUTPUT_ROW, XOR_ROW};
 use crate::sv_tree::{
-    Assign, Declaration, Direction, Expr, Item, Module, ModuleItems, Operand, Port, PortHead, Ports,
-    Primary, Range, Stmt, Stmts,
+    Assign, Declaration, Direction, Expr, Item, Module, ModuleItems, Operand, Port, PortHead,
+    Ports, Primary, Range, Stmt, Stmts,
 };
 use b4_core::BinOp;
 use ll_engine::Tree;
@@ -417,7 +417,11 @@ fn item(alloc: Global, tokens: &[Token], tree: &Tree) -> Result<Option<Item>, Al
 }
 
 /// The items.
-fn items_of(alloc: Global, tokens: &[Token], trees: &[Tree]) -> Result<Option<ModuleItems>, AllocError>
+fn items_of(
+    alloc: Global,
+    tokens: &[Token],
+    trees: &[Tree],
+) -> Result<Option<ModuleItems>, AllocError>
     ensures { IfOk result (λ xs. xs ≡ means.each (means.item_of tokens.now) trees.now) }
 {
     let mut items = Items::new(alloc);
@@ -472,11 +476,7 @@ pub fn module(alloc: Global, tokens: &[Token], tree: &Tree) -> Result<Option<Mod
             let Some(name) = spot(alloc, tokens, name)? else {
                 return Ok(None);
             };
-            Ok(Some(Module {
-                name,
-                ports,
-                items,
-            }))
+            Ok(Some(Module { name, ports, items }))
         }
         _ => Ok(None),
     }

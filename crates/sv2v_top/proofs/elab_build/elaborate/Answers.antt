@@ -1,11 +1,9 @@
-use Rattle.std.proofs.Common.{◌≡◌, ◌<◌, ◌^◌, Bool, true, false, not, List, map, length, Option, None, sym, ap, subst, ◌∙◌, arith}
+use Rattle.std.proofs.Common.{◌≡◌, true, false, List, map, Option, None, sym, ap, subst, ◌∙◌, arith}
 use Rattle.std.specs.Prelude.{MatchOption}
-use Rattle.sv_source.specs.declared.refusal.Refusal.{Refusal}
 use Rattle.sv_types.specs.declared.design.Signal.{Signal}
-use Rattle.sv2v_top.specs.declared.package_scope.Names.{Names}
 use Rattle.sv2v_top.specs.source.Names.{declared, signal_names, first_undeclared}
 use Rattle.sv2v_top.specs.source.Lookup.{Numbers}
-use Rattle.sv2v_top.specs.source.Rules.{input_paths, inputs, signal_of, ranges_hold, elaborates}
+use Rattle.sv2v_top.specs.source.Rules.{input_paths, signal_of, ranges_hold, elaborates}
 use Rattle.sv2v_top.specs.source.Answers.{UndeclaredGives}
 use Rattle.sv2v_top.proofs.Checks.{inputs-named}
 use Rattle.sv2v_top.proofs.Built.{elaborated-few}

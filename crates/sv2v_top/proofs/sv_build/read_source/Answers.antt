@@ -1,14 +1,13 @@
-use Rattle.std.proofs.Common.{◌≡◌, List, ℕ, map, Some, None, Ok, Err, refl, sym, ap, subst, ◌∙◌}
+use Rattle.std.proofs.Common.{◌≡◌, List, ℕ, map, None, Ok, Err, sym, subst, ◌∙◌}
 use Rattle.ll_engine.specs.declared.table.Row.{Row}
 use Rattle.ll_engine.specs.declared.tree.Tree.{Tree}
-use Rattle.ll_engine.specs.declared.fails.ParseFail.TheVariants as read
 use Rattle.ll_engine.specs.Texts.{IsReading, FailsAt, PassesAt}
 use Rattle.ll_engine.specs.Answers.{ParseGives}
 use Rattle.sv_source.specs.declared.token.Token.{Token}
 use Rattle.sv2v_top.specs.source.Reading.{fails, nests}
 use Rattle.sv2v_top.specs.source.Grammar.{symbol_of, source_rows}
 use Rattle.sv2v_top.specs.source.Building.{module_of, nesting_limit}
-use Rattle.sv2v_top.proofs.Readable.{MeantAs, readable}
+use Rattle.sv2v_top.proofs.Readable.{readable}
 use Rattle.sv2v_top.proofs.sv_build.read_source.Goals as goal
 
 pub unread : (tokens : List Token) (tree : Tree) → IsReading source_rows (map symbol_of tokens) nesting_limit tree → module_of tokens tree ≡ None → ⊥

@@ -1,20 +1,15 @@
-use Rattle.std.proofs.Common.{◌≡◌, ◌<◌, ◌≤◌, ◌++◌, [], List, ℕ, length, None, Err, refl, sym, ap, subst, ◌∙◌, arith}
+use Rattle.std.proofs.Common.{◌≡◌, ◌≤◌, ◌++◌, List, ℕ, length, Err, sym, ap, subst, ◌∙◌, arith}
 use Rattle.std.specs.List.{All}
 use Rattle.std.proofs.lemmas.Result.{err_from_is_err_and}
 use Rattle.sv_lexer.specs.Facts.{IsRaw}
-use Rattle.row_machine.specs.Valuation.{Member}
 use Rattle.sv_source.specs.declared.token.Token.{Token}
 use Rattle.sv_lexer.specs.Lexing.{tokens_of}
-use Rattle.sv_types.specs.declared.design.Design.{Design}
 use Rattle.lower_design.specs.Translatable.{Translatable}
 use Rattle.lower_design.specs.Lowering.{Lowers}
-use Rattle.v_tree.specs.declared.tree.VDesign.{VDesign}
 use Rattle.v_tree.specs.Reading.{VReads}
 use Rattle.v_tree.proofs.OneReading.{one_design}
 use Rattle.sv2v_top.specs.source.Reading.{ReadsAs, ReadingGives}
-use Rattle.sv2v_top.specs.source.Elaboration.{design_of}
-use Rattle.sv2v_top.specs.source.Answers.{refusal_of}
-use Rattle.sv2v_top.specs.Translation.{kept_tokens, source_tokens, last_place, TranslationGives, Right}
+use Rattle.sv2v_top.specs.Translation.{kept_tokens, source_tokens, last_place, TranslationGives}
 use Rattle.sv2v_top.proofs.Correct.{kept-fewer, correct, raw-some, unread-breaks}
 use Rattle.sv2v_top.proofs.translation.translate.Goals as goal
 

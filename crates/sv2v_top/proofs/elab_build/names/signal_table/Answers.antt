@@ -1,13 +1,11 @@
-use Rattle.std.proofs.Common.{◌≡◌, ◌<◌, slice_index_or, ◌++◌, ◌+◌, ◌≤◌, ◌||◌, not, length, List, ℕ, Option, Some, None, find, map, take, drop, sym, ap, subst, ◌∙◌, arith}
+use Rattle.std.proofs.Common.{◌≡◌, ◌<◌, slice_index_or, ◌++◌, ◌+◌, ◌≤◌, length, List, Some, None, map, take, drop, sym, ap, subst, ◌∙◌, arith}
 use Rattle.std.specs.Option.{option_map, option_copied}
-use Rattle.std.specs.Str.{bytes_eq}
 use Rattle.sv2v_top.specs.declared.sv_tree.Item.{Item}
 use Rattle.sv2v_top.specs.declared.uses.Use.{Use}
-use Rattle.sv2v_top.specs.declared.package_scope.Names.{Names}
-use Rattle.sv2v_top.specs.source.Names.{port_names, name_of, variables, declared_by, undeclared, undeclared_in, first_undeclared, signal_names}
+use Rattle.sv2v_top.specs.source.Names.{port_names, name_of, variables, undeclared, undeclared_in, first_undeclared, signal_names}
 use Rattle.sv2v_top.specs.source.Answers.{undeclared_refusal}
 use Rattle.sv2v_top.specs.source.Statements.{item_parts}
-use Rattle.sv2v_top.specs.source.Lookup.{Numbers, holds}
+use Rattle.sv2v_top.specs.source.Lookup.{Numbers}
 use Rattle.sv2v_top.proofs.Checks.{unknown-uses, first-here, first-later, named-more, signals-named, take-past, drop-past}
 use Rattle.sv2v_top.proofs.elab_build.names.signal_table.Goals as goal
 

@@ -1,4 +1,4 @@
-use Rattle.std.proofs.Common.{◌≡◌, ◌++◌, List, ℕ, [], None, sym, ap, ◌∙◌}
+use Rattle.std.proofs.Common.{◌≡◌, ◌++◌, [], None, sym, ap, ◌∙◌}
 use Rattle.sv2v_top.specs.declared.sv_tree.Stmt.TheVariants as T
 use Rattle.sv2v_top.specs.source.Statements.{Parts, parts}
 use Rattle.sv2v_top.proofs.Names.{append-nil}

@@ -1,9 +1,8 @@
-use Rattle.std.proofs.Common.{◌≡◌, ◌++◌, Bool, List, ℕ, map, ap, subst, ◌∙◌}
-use Rattle.v_tree.specs.Names.{among}
+use Rattle.std.proofs.Common.{◌≡◌, ◌++◌, List, map, subst, ◌∙◌}
 use Rattle.sv2v_top.specs.declared.uses.Use.{Use}
-use Rattle.sv2v_top.specs.source.Statements.{item_parts, targets_in, targets, word_of}
+use Rattle.sv2v_top.specs.source.Statements.{item_parts, targets_in, word_of}
 use Rattle.sv2v_top.specs.source.Rules.{writes_break, always_written}
-use Rattle.sv2v_top.specs.source.Lookup.{Numbers, holds}
+use Rattle.sv2v_top.specs.source.Lookup.{Numbers}
 use Rattle.sv2v_top.proofs.Checks.{holds-among}
 use Rattle.sv2v_top.proofs.elab_build.rules.item_break.Goals as goal
 

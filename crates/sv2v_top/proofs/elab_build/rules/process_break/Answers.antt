@@ -1,10 +1,9 @@
-use Rattle.std.proofs.Common.{◌≡◌, ◌++◌, ◌+◌, ◌≤◌, List, ℕ, Option, Some, None, [], length, drop, refl, sym, ap, subst, ◌∙◌, arith}
+use Rattle.std.proofs.Common.{◌≡◌, ◌++◌, ◌+◌, Some, None, [], drop, refl, sym, ap, ◌∙◌}
 use Rattle.std.specs.Option.{option_or}
 use Rattle.v_tree.specs.Names.{among}
 use Rattle.sv2v_top.specs.source.Statements.{targets}
 use Rattle.sv2v_top.specs.source.Rules.{writes_break, always_written, target_words, processes_break}
-use Rattle.sv2v_top.specs.source.Lookup.{Numbers}
-use Rattle.sv2v_top.proofs.Checks.{drop-here, drop-past}
+use Rattle.sv2v_top.proofs.Checks.{drop-here}
 use Rattle.sv2v_top.proofs.elab_build.rules.process_break.Goals as goal
 
 pub loop-item-init : goal.loop-item-init

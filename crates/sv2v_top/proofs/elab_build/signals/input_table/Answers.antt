@@ -1,4 +1,4 @@
-use Rattle.std.proofs.Common.{◌++◌, [], take, subst, sym}
+use Rattle.std.proofs.Common.{take, subst, sym}
 use Rattle.sv2v_top.specs.source.Rules.{input_paths}
 use Rattle.sv2v_top.specs.source.Lookup.{Numbers}
 use Rattle.sv2v_top.proofs.Checks.{inputs-more}

@@ -1,4 +1,4 @@
-use Rattle.std.proofs.Common.{◌≡◌, ◌&&◌, ◌+◌, Bool, true, drop, sym, ap, ◌∙◌}
+use Rattle.std.proofs.Common.{◌≡◌, ◌&&◌, ◌+◌, true, drop, sym, ap, ◌∙◌}
 use Rattle.sv2v_top.specs.declared.sv_tree.Direction.TheVariants.{Input}
 use Rattle.sv2v_top.specs.source.Names.{ports_from, range_after}
 use Rattle.sv2v_top.specs.source.Rules.{is_plain_range, ranges_are_plain}

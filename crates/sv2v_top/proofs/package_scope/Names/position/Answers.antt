@@ -1,4 +1,4 @@
-use Rattle.std.proofs.Common.{◌≡◌, ◌≤◌, List, ℕ, ap, ◌∙◌, length, arith}
+use Rattle.std.proofs.Common.{◌≡◌, ◌∙◌, arith}
 use Rattle.std.specs.Option.{unwrap_or}
 use Rattle.v_tree.specs.Names.{position}
 use Rattle.sv2v_top.proofs.Lookup.{position-or, position-within}

@@ -1,4 +1,4 @@
-use Rattle.std.proofs.Common.{◌≡◌, ◌++◌, ◌∷◌, [], List, ap, ◌∙◌, append_assoc}
+use Rattle.std.proofs.Common.{◌++◌, ◌∷◌, [], List, ap, ◌∙◌, append_assoc}
 use Rattle.ll_engine.specs.declared.table.Part.TheVariants.{Term, Non}
 use Rattle.ll_engine.specs.declared.table.Row.{Row}
 use Rattle.sv2v_top.specs.source.Grammar.{row}

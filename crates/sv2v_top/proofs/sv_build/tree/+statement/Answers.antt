@@ -1,5 +1,4 @@
 use Rattle.std.proofs.Common.{◌≡◌, ◌+◌, IfOk, sym, subst, arith}
-use Rattle.sv2v_top.specs.source.Building.{stmt_within}
 use Rattle.sv2v_top.proofs.Building.{one-deeper}
 use Rattle.sv2v_top.proofs.sv_build.tree.+statement.Goals as goal
 
