@@ -12,3 +12,5 @@ pub mod Translation
 pub mod Runs
 pub mod Stuck
 pub mod Unsettled
+pub mod Places
+pub mod Steps

@@ -1,7 +1,7 @@
 -- Only two words ask for a translation.
-use Rattle.std.proofs.Common.{◌≡◌, ℕ, ◌<◌, ◌≤◌, List, [], ◌∷◌, length, Option, None, Some, refl, arith}
+use Rattle.std.proofs.Common.{◌≡◌, ℕ, List, [], ◌∷◌, length, None, Some, refl, arith}
 use Rattle.std.specs.List.{slice_get}
-use Rattle.sv2v_top.specs.Words.{Asked, asked, asked_by, or_else}
+use Rattle.sv2v_top.specs.Words.{asked, asked_by, or_else}
 
 pub asked-other : (ws : List (List ℕ)) → (length ws ≡ 2 → ⊥) → asked ws ≡ None
 asked-other [] h = refl

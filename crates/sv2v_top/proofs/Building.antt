@@ -1,6 +1,8 @@
 -- A list of parts that is built from left to right.
 use Rattle.std.proofs.Common.{◌≡◌, ℕ, suc, ◌+◌, ◌<◌, List, [], ◌∷◌, ◌++◌, drop, length, slice_index_or, Option, Some, None, refl, sym, ap, ◌∙◌, add-one, append_assoc, drop-cons}
-use Rattle.sv2v_top.specs.source.Building.{then_one, then_two, each}
+use Rattle.ll_engine.specs.declared.tree.Tree.{Tree}
+use Rattle.sv_source.specs.declared.token.Token.{Token}
+use Rattle.sv2v_top.specs.source.Building.{kids_of, then_one, then_two, each, stmt_from, stmt_within}
 
 pub one-built : {A B : Type 0} (f : A → Option B) (made : List B) (x : A) (y : B) (rest : List A) → f x ≡ Some y
     → then_one (λ r. (made ++ y ∷ []) ++ r) (each f rest) ≡ then_one (λ r. made ++ r) (each f (x ∷ rest))
@@ -17,3 +19,10 @@ step-built f made made' xs i x y h is e grown =
     (λ j. then_one (λ r. grown j ++ r) (each f (drop (add-one i j) xs)))
     ∙ one-built f made x y (drop (suc i) xs) e
     ∙ ap (λ zs. then_one (λ r. made ++ r) (each f zs)) (sym next)
+
+-- statements one level deeper
+pub one-deeper : (tokens : List Token) (depth inner : ℕ) (tree : Tree) → depth ≡ inner + 1 → stmt_within tokens depth tree ≡ stmt_from (stmt_within tokens inner) tokens (kids_of tree)
+one-deeper tokens depth inner tree e = ap (λ d. stmt_within tokens d tree) (e ∙ add-one inner)
+
+pub none-deeper : (tokens : List Token) (depth : ℕ) (tree : Tree) → depth ≡ 0 → stmt_within tokens depth tree ≡ None
+none-deeper tokens depth tree e = ap (λ d. stmt_within tokens d tree) e

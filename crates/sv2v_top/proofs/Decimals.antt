@@ -1,5 +1,5 @@
 -- Decimal numbers grow with their digits.
-use Rattle.std.proofs.Common.{◌≡◌, ℕ, ◌+◌, ◌-◌, ◌*◌, ◌==◌, ◌<◌, ◌≤◌, ◌⊎◌, Bool, true, false, if◌then◌else◌, List, [], ◌∷◌, drop, length, slice_index_or, refl, sym, ap, subst, ◌∙◌, inl, inr, arith, zero, suc, add-one, drop-cons}
+use Rattle.std.proofs.Common.{◌≡◌, ℕ, ◌+◌, ◌-◌, ◌*◌, ◌==◌, ◌<◌, ◌≤◌, List, [], ◌∷◌, drop, length, slice_index_or, ap, inl, inr, arith, suc, drop-cons}
 use Rattle.sv2v_top.specs.source.Literals.{with_digit, decimal_from}
 use Rattle.sv2v_top.proofs.Names.{true_or_false, pick_true, pick_false}
 

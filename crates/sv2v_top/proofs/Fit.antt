@@ -1,7 +1,7 @@
 -- The table of the source grammar is of the class that is read with one symbol of look-ahead.
-use Rattle.std.proofs.Common.{◌≡◌, ℕ, ◌<◌, length, List, refl, arith}
+use Rattle.std.proofs.Common.{ℕ, List, refl, arith}
 use Rattle.ll_engine.specs.declared.table.Row.{Row}
-use Rattle.ll_engine.specs.Class.{IsFit, Keeps, BreaksAt, no_rows, at_row}
+use Rattle.ll_engine.specs.Class.{IsFit, BreaksAt, no_rows, at_row}
 use Rattle.ll_engine.proofs.Fits.{fits_is}
 use Rattle.sv2v_top.specs.source.Grammar.{source_rows}
 

@@ -6,10 +6,10 @@ use Rattle.std.specs.Str.{bytes_eq}
 use Rattle.std.proofs.lemmas.Bool.{or_cases, or_left, or_right, false≢true}
 use Rattle.std.proofs.lemmas.Bool.Decides.{same_from_decides}
 use Rattle.std.proofs.lemmas.Slice.Eq.{bytes_eq-Decides}
-use Rattle.sv2v_top.specs.source.Names.{among, position}
-use Rattle.sv2v_top.specs.source.Rules.{distinct}
+use Rattle.v_tree.specs.Names.{among, position}
+use Rattle.v_tree.specs.Names.{distinct}
 use Rattle.sv2v_top.specs.source.Lookup.{first_number}
-use Rattle.sv2v_top.proofs.Names.{pick_true, pick_false, true_or_false, bytes_same, same_bytes}
+use Rattle.sv2v_top.proofs.Names.{pick_true, pick_false, true_or_false, bytes_same}
 
 pub among-more : (ns : List (List ℕ)) (w q : List ℕ) → among (ns ++ w ∷ []) q ≡ (among ns q || bytes_eq w q)
 among-more [] w q = or-false (bytes_eq w q)

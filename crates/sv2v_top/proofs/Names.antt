@@ -1,17 +1,11 @@
--- Look-ups by name among distinct names.
-use Rattle.std.proofs.Common.{◌≡◌, ℕ, zero, suc, ◌+◌, ◌<◌, ◌≤◌, ◌⊎◌, Bool, true, false, not, cond, ◌&&◌, ◌||◌, ◌==◌, ◌-◌, if◌then◌else◌, List, [], ◌∷◌, ◌++◌, map, Some, None, Option, refl, sym, ap, subst, ◌∙◌, inl, inr, arith}
+-- Lists of names, and members of lists.
+use Rattle.std.proofs.Common.{◌≡◌, ℕ, zero, suc, ◌⊎◌, Bool, true, false, not, if◌then◌else◌, List, [], ◌∷◌, ◌++◌, map, Some, refl, sym, ap, subst, inl, inr}
 use Rattle.std.specs.List.{slice_get}
 use Rattle.std.specs.Str.{bytes_eq}
-use Rattle.std.specs.Bool.{Decides}
 use Rattle.std.proofs.lemmas.Slice.Eq.{bytes_eq-Decides}
-use Rattle.std.proofs.lemmas.Bool.{or_cases, or_left, or_right, or_parts, and_parts, false≢true, eqb-true}
+use Rattle.std.proofs.lemmas.Bool.{or_cases, or_left, or_right, false≢true}
 use Rattle.row_machine.specs.Valuation.{Member}
-use Rattle.sv2v_top.specs.declared.sv_types.Signal.{Signal}
-use Rattle.sv2v_top.specs.source.Names.{among, position}
-use Rattle.sv2v_top.specs.source.Rules.{distinct}
-use Rattle.sv2v_top.specs.source.Machine.{width_of, width_or_zero}
-use Rattle.sv2v_top.specs.Lowering.{name_of, path_or_nothing, range_of, declaration_of}
-use Rattle.sv2v_top.specs.target.Signals.{Net, number_of, width_named, bits_of_range}
+use Rattle.v_tree.specs.Names.{among}
 
 pub same_bytes : (a : List ℕ) → bytes_eq a a ≡ true
 same_bytes a = (bytes_eq-Decides a a).1 refl
@@ -47,13 +41,6 @@ member-map f [] x m = elim m [ ]
 member-map f (y ∷ ys) x (inl e) = inl (ap f e)
 member-map f (y ∷ ys) x (inr m) = inr (member-map f ys x m)
 
-abbrev pub path : Signal → List ℕ
-path s = s.path
-
--- a net for a signal
-abbrev pub net_of : (Signal → Bool) → Signal → Net
-net_of input s = record { name = s.path; width = bits_of_range (range_of s.width); input = input s }
-
 pub pick_true : {A : Type 0} (b : Bool) (x y : A) → b ≡ true → (if b then x else y) ≡ x
 pick_true true x y e = refl
 pick_true false x y e = absurd (false≢true e)
@@ -61,45 +48,6 @@ pick_true false x y e = absurd (false≢true e)
 pub pick_false : {A : Type 0} (b : Bool) (x y : A) → b ≡ false → (if b then x else y) ≡ y
 pick_false true x y e = absurd (false≢true (sym e))
 pick_false false x y e = refl
-
--- the first of distinct names differs from each later one
-pub first_differs : (n : List ℕ) (names : List (List ℕ)) (name : List ℕ) → not (among names n) ≡ true → Member names name → bytes_eq n name ≡ false
-first_differs n names name fresh m =
-    elim (true_or_false (bytes_eq n name)) [
-      | inr h ↦ h
-      | inl h ↦ absurd (false≢true (sym (not_true _ fresh) ∙ among-member names n (subst (λ x. Member names x) (sym (bytes_same n name h)) m)))
-    ]
-
--- the look-up finds each signal by its name, where the names are distinct
-pub number-found : (input : Signal → Bool) (signals : List Signal) → distinct (map path signals) ≡ true
-    → (n : ℕ) (s : Signal) → slice_get signals n ≡ Some s → number_of (map (net_of input) signals) s.path ≡ n
-number-found input [] d n s e = cc
-number-found input (t ∷ ts) d zero s e =
-    let same : t ≡ s = cc in
-    pick_true (bytes_eq t.path s.path) 0 _ (subst (λ x. bytes_eq t.path x ≡ true) (ap path same) (same_bytes t.path))
-number-found input (t ∷ ts) d (suc n) s e =
-    let parts = and_parts _ _ d in
-    pick_false (bytes_eq t.path s.path) 0 _ (first_differs t.path (map path ts) s.path parts.0 (member-map path ts s (member-at ts n s e)))
-    ∙ ap suc (number-found input ts parts.1 n s e)
-
-pub width-found : (input : Signal → Bool) (signals : List Signal) → distinct (map path signals) ≡ true
-    → (n : ℕ) (s : Signal) → slice_get signals n ≡ Some s → width_named (map (net_of input) signals) s.path ≡ bits_of_range (range_of s.width)
-width-found input [] d n s e = cc
-width-found input (t ∷ ts) d zero s e =
-    let same : t ≡ s = cc in
-    pick_true (bytes_eq t.path s.path) _ _ (subst (λ x. bytes_eq t.path x ≡ true) (ap path same) (same_bytes t.path))
-    ∙ ap (λ (x : Signal). bits_of_range (range_of x.width)) same
-width-found input (t ∷ ts) d (suc n) s e =
-    let parts = and_parts _ _ d in
-    pick_false (bytes_eq t.path s.path) _ _ (first_differs t.path (map path ts) s.path parts.0 (member-map path ts s (member-at ts n s e)))
-    ∙ width-found input ts parts.1 n s e
-
--- a declared range gives back the width
-pub range_keeps : (w : ℕ) → 1 ≤ w → bits_of_range (range_of w) ≡ w
-range_keeps w h = elim (true_or_false (w == 1)) [
-  | inl e ↦ ap bits_of_range (pick_true (w == 1) _ _ e) ∙ sym (eqb-true w 1 e)
-  | inr e ↦ ap bits_of_range (pick_false (w == 1) _ _ e) ∙ omega arith
-]
 
 pub append-nil : {A : Type 0} (xs : List A) → xs ++ [] ≡ xs
 append-nil [] = refl

@@ -1,29 +1,29 @@
 -- How a run ends keeps each promise of the call.
-use Rattle.std.proofs.Common.{◌≡◌, ◌⊎◌, ◌<◌, ◌≤◌, ◌^◌, ◌+◌, ℕ, List, length, map, min, Option, Some, None, Result, Ok, Err, refl, sym, ap, subst, ◌∙◌, inl, inr, arith}
+use Rattle.std.proofs.Common.{◌≡◌, ◌⊎◌, ◌<◌, ◌≤◌, ℕ, List, length, map, Option, Some, None, Result, Ok, Err, refl, sym, ap, subst, ◌∙◌, inl, inr, arith}
 use Rattle.std.specs.List.{slice_get}
-use Rattle.sv_source.specs.Faults.{Rose, NoFault, NotRaised}
+use Rattle.sv_source.specs.Faults.{Rose, NoFault}
 use Rattle.sv_source.specs.Loading.{Contents}
 use Rattle.sv_source.specs.declared.text.Text.{Text}
 use Rattle.sv_source.specs.declared.refusal.Refusal.{Refusal}
 use Rattle.sv_source.specs.declared.token.Token.{Token}
-use Rattle.sv_source.specs.Message.{usage_line, memory_line, read_fault_line, refusal_line, write_fault_line}
-use Rattle.ll_engine.specs.Texts.{OneAnswer}
+use Rattle.sv_source.specs.declared.token.Place.{Place}
+use Rattle.sv_source.specs.Message.{memory_line, read_fault_line, refusal_line}
 use Rattle.ll_engine.proofs.Laws.{one_answer}
-use Rattle.sv2v_top.specs.Words.{Asked, asked}
+use Rattle.sv2v_top.specs.Words.{Asked}
 use Rattle.sv2v_top.specs.declared.run.Stop.{Stop}
 use Rattle.sv2v_top.specs.declared.run.Stop.TheVariants as S
 use Rattle.sv2v_top.specs.declared.sv_tree.Module.{Module}
-use Rattle.sv2v_top.specs.declared.sv_types.Design.{Design}
+use Rattle.sv_types.specs.declared.design.Design.{Design}
 use Rattle.sv2v_top.specs.declared.status.Status.{Status}
-use Rattle.sv2v_top.specs.declared.status.Status.TheVariants.{Done, Refused, Usage, Memory, FileFault, SinkFault, Unsettled}
+use Rattle.sv2v_top.specs.declared.status.Status.TheVariants.{Done, Refused, Usage, Memory, FileFault, SinkFault}
 use Rattle.sv2v_top.specs.source.Grammar.{source_rows, symbol_of}
-use Rattle.sv2v_top.specs.source.Building.{module_of}
-use Rattle.sv2v_top.specs.source.Reading.{ReadsAs, SyntaxBreak, nesting_limit, syntax_refusal_at}
+use Rattle.sv2v_top.specs.source.Building.{module_of, nesting_limit}
+use Rattle.sv2v_top.specs.source.Reading.{ReadsAs, SyntaxBreak, fails, nests, refusal_at}
 use Rattle.sv2v_top.specs.source.Answers.{refusal_of}
 use Rattle.sv2v_top.specs.Translation.{Accepted, Breaks, source_tokens, last_place}
-use Rattle.sv2v_top.specs.Headline.{file_limit, Holds, IsTooLong, IsTranslated, IsRefused, IsFaulty, Cause, is_absent, is_too_long, breaks, AskedGives, Answers, RunGives}
+use Rattle.sv2v_top.specs.Headline.{file_limit, Holds, IsTooLong, IsTranslated, Cause, is_absent, is_too_long, breaks, Answers, RunGives}
 use Rattle.sv2v_top.specs.Endings.{Put_on, Took, Untouched, FailedAt, Says, said, unsaid, Writes, written, unwritten, Ends, Runs, line_of, status_of}
-use Rattle.sv2v_top.specs.Promises.{Call, call, Said, IsDone, OnDone, IsRefusal, OnRefused, IsUsage, OnUsage, OnMemory, IsFileFault, OnFileFault, IsSinkFault, of_output, of_errors, OnSinkFault, NeverUnsettled, Unless, UsageComes, Accepts, DoneComes, RefusalComes}
+use Rattle.sv2v_top.specs.Promises.{Call, call, Said, IsDone, OnDone, IsRefusal, OnRefused, IsUsage, OnUsage, OnMemory, IsFileFault, OnFileFault, IsSinkFault, of_output, of_errors, OnSinkFault, NeverUnsettled, UsageComes, Accepts, DoneComes, RefusalComes}
 use Rattle.sv2v_top.proofs.Fit.{source-fit}
 
 -- the run of a call
@@ -156,13 +156,32 @@ one-module tokens m n a b =
     let both : Some m ≡ Some n = sym a.means ∙ ap (module_of tokens) same ∙ b.means in
     cc
 
+-- tokens that read have no break of the grammar
+pub no-syntax-break : (tokens : List Token) (last : Place) (m : Module) (r : Refusal) → ReadsAs tokens m → SyntaxBreak tokens last r → ⊥
+no-syntax-break tokens last m r a (fails at f is) =
+    (one_answer source_rows source-fit (map symbol_of tokens) nesting_limit).reads_or_fails a.tree at a.is_reading f
+no-syntax-break tokens last m r a (nests at p is) =
+    (one_answer source_rows source-fit (map symbol_of tokens) nesting_limit).reads_or_passes a.tree at a.is_reading p
+
+-- tokens have one break of the grammar at most
+pub one-syntax-break : (tokens : List Token) (last : Place) (r s : Refusal) → SyntaxBreak tokens last r → SyntaxBreak tokens last s → r ≡ s
+one-syntax-break tokens last r s (fails i f e) (fails j g h) =
+    let answers = one_answer source_rows source-fit (map symbol_of tokens) nesting_limit in
+    e ∙ ap (λ n. refusal_at 302 last (slice_get tokens n)) (answers.fails i j f g) ∙ sym h
+one-syntax-break tokens last r s (nests i p e) (nests j q h) =
+    let answers = one_answer source_rows source-fit (map symbol_of tokens) nesting_limit in
+    e ∙ ap (λ n. refusal_at 303 last (slice_get tokens n)) (answers.passes i j p q) ∙ sym h
+one-syntax-break tokens last r s (fails i f e) (nests j q h) =
+    absurd ((one_answer source_rows source-fit (map symbol_of tokens) nesting_limit).fails_or_passes i j f q)
+one-syntax-break tokens last r s (nests i p e) (fails j g h) =
+    absurd ((one_answer source_rows source-fit (map symbol_of tokens) nesting_limit).fails_or_passes j i g p)
+
 -- a text that is accepted has no break
 pub no-break : (top bytes : List ℕ) (d : Design) (r : Refusal) → Accepted top bytes d → Breaks top bytes r → ⊥
 no-break top bytes d r a b = go b.cause
   where
     go : SyntaxBreak (source_tokens bytes) (last_place bytes) r ⊎ ((m : Module) × ReadsAs (source_tokens bytes) m × (refusal_of m top ≡ Some r)) → ⊥
-    go (inl s) =
-        (one_answer source_rows source-fit (map symbol_of (source_tokens bytes)) nesting_limit).reads_or_fails a.reads.tree s.at a.reads.is_reading s.fails
+    go (inl s) = no-syntax-break (source_tokens bytes) (last_place bytes) a.source r a.reads s
     go (inr n) =
         let same : a.source ≡ n.0 = one-module (source_tokens bytes) a.source n.0 a.reads n.1 in
         let none : refusal_of a.source top ≡ None = a.unbroken in
@@ -174,18 +193,11 @@ no-break top bytes d r a b = go b.cause
 pub one-break : (top bytes : List ℕ) (r s : Refusal) → Breaks top bytes r → Breaks top bytes s → r ≡ s
 one-break top bytes r s a b = go a.cause b.cause
   where
-    tokens : List Token
-    tokens = source_tokens bytes
-
-    answers : OneAnswer source_rows (map symbol_of (source_tokens bytes)) nesting_limit
-    answers = one_answer source_rows source-fit (map symbol_of (source_tokens bytes)) nesting_limit
-
     go : SyntaxBreak (source_tokens bytes) (last_place bytes) r ⊎ ((m : Module) × ReadsAs (source_tokens bytes) m × (refusal_of m top ≡ Some r))
         → SyntaxBreak (source_tokens bytes) (last_place bytes) s ⊎ ((m : Module) × ReadsAs (source_tokens bytes) m × (refusal_of m top ≡ Some s)) → r ≡ s
-    go (inl x) (inl y) =
-        x.is ∙ ap (λ n. syntax_refusal_at (last_place bytes) (slice_get (source_tokens bytes) n)) (answers.fails x.at y.at x.fails y.fails) ∙ sym y.is
-    go (inl x) (inr y) = absurd (answers.reads_or_fails y.1.tree x.at y.1.is_reading x.fails)
-    go (inr x) (inl y) = absurd (answers.reads_or_fails x.1.tree y.at x.1.is_reading y.fails)
+    go (inl x) (inl y) = one-syntax-break (source_tokens bytes) (last_place bytes) r s x y
+    go (inl x) (inr y) = absurd (no-syntax-break (source_tokens bytes) (last_place bytes) y.0 r y.1 x)
+    go (inr x) (inl y) = absurd (no-syntax-break (source_tokens bytes) (last_place bytes) x.0 s x.1 y)
     go (inr x) (inr y) =
         let same : x.0 ≡ y.0 = one-module (source_tokens bytes) x.0 y.0 x.1 y.1 in
         let both : refusal_of x.0 top ≡ refusal_of y.0 top = ap (λ (m : Module). refusal_of m top) same in

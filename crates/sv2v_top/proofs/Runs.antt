@@ -1,5 +1,5 @@
 -- From the bytes of a file to the request.
-use Rattle.std.proofs.Common.{◌≡◌, refl, subst, ℕ, ◌≤◌, List, length, Option, Some, None, Result, Ok, Err}
+use Rattle.std.proofs.Common.{◌≡◌, refl, subst, ℕ, ◌≤◌, List, length, Option, Some, Result, Ok, Err}
 use Rattle.sv_source.specs.Faults.{NotRaised}
 use Rattle.sv_source.specs.Loading.{Contents}
 use Rattle.sv_source.specs.declared.text.Text.{Text}
@@ -11,7 +11,7 @@ use Rattle.sv2v_top.specs.declared.run.Stop.{Stop}
 use Rattle.sv2v_top.specs.declared.run.Stop.TheVariants as S
 use Rattle.sv2v_top.specs.declared.status.Status.TheVariants.{SinkFault}
 use Rattle.sv2v_top.specs.Endings.{Says, said, unsaid}
-use Rattle.sv2v_top.specs.Headline.{FileGives, AskedGives, Holds, IsTranslated, IsRefused, Cause, breaks, file_limit}
+use Rattle.sv2v_top.specs.Headline.{FileGives, AskedGives, Holds, breaks, file_limit}
 
 pub from-file : (request : Asked) (told : Option Contents) (before now : ℕ) (bytes : List ℕ) (result : Result Text Stop)
     → length bytes ≤ file_limit → Holds told request.file (Some bytes) → NotRaised before now → FileGives request bytes result → AskedGives request told before now result

@@ -1,5 +1,5 @@
 -- What a derivation by a table looks like, part by part.
-use Rattle.std.proofs.Common.{◌≡◌, ℕ, zero, suc, ◌+◌, ◌==◌, ◌⊎◌, Bool, true, false, cond, List, [], ◌∷◌, length, map, Option, Some, None, refl, sym, ap, subst, ◌∙◌, inl, inr, arith}
+use Rattle.std.proofs.Common.{◌≡◌, ℕ, zero, suc, ◌+◌, ◌==◌, Bool, true, false, List, [], ◌∷◌, length, Some, refl, ap, subst, ◌∙◌, inl, inr, arith}
 use Rattle.std.specs.List.{slice_get, list_all}
 use Rattle.std.proofs.lemmas.Bool.{eq-eqb}
 use Rattle.ll_engine.specs.declared.table.Part.{Part}
@@ -7,43 +7,38 @@ use Rattle.ll_engine.specs.declared.table.Part.TheVariants.{Term, Non, Maybe, Ma
 use Rattle.ll_engine.specs.declared.table.Row.{Row}
 use Rattle.ll_engine.specs.declared.tree.Tree.{Tree}
 use Rattle.ll_engine.specs.declared.tree.Tree.TheVariants.{Leaf, Node}
-use Rattle.ll_engine.specs.Grammar.{terminal, named, is_optional, IsRowOf}
-use Rattle.ll_engine.specs.Reading.{Nested, at_nesting, Reads, ended, symbol, taken, left_out, empty}
+use Rattle.ll_engine.specs.Grammar.{IsRowOf}
+use Rattle.ll_engine.specs.Reading.{Nested, at_nesting, inside, Reads, ended, symbol, taken, left_out, empty}
 use Rattle.row_machine.specs.Valuation.{Member}
 
 module _ (t : List Row) (d : ℕ → ℕ) where
-  -- the parts of a row are read
-  pub record Row_read (parts : List Part) (at : ℕ) (w : List Nested) (kids : List Tree) (to : ℕ) (rest : List Nested) : Type 0 where
-    pub around : ℕ
-    pub turn : ℕ
-    pub reads : Reads t d around turn parts at w kids to rest
-
-  -- a node of a head
-  pub record Node_read (h : ℕ) (x : Tree) (at : ℕ) (w : List Nested) (to : ℕ) (rest : List Nested) : Type 0 where
+  -- a node of a head, at this nesting
+  pub record Node_read (h n : ℕ) (x : Tree) (at : ℕ) (w : List Nested) (to : ℕ) (rest : List Nested) : Type 0 where
     pub index : ℕ
     pub row : Row
     pub kids : List Tree
     pub is_node : x ≡ Node index kids
     pub is_row : IsRowOf t h index row
-    pub inside : Row_read row.parts at w kids to rest
+    pub reads : Reads t d (inside d row n) (inside d row n) row.parts at w kids to rest
 
-  -- the trees of parts, one by one
-  pub data Spine : List Part → ℕ → List Nested → List Tree → ℕ → List Nested → Type 0 where
-    done : {at to : ℕ} {w rest : List Nested} → at ≡ to → w ≡ rest → Spine [] at w [] to rest
+  -- the trees of parts at this nesting, one by one
+  pub data Spine (around : ℕ) : List Part → ℕ → List Nested → List Tree → ℕ → List Nested → Type 0 where
+    done : {at to : ℕ} {w rest : List Nested} → at ≡ to → w ≡ rest → Spine around [] at w [] to rest
     leaf : {a s n at to : ℕ} {ps : List Part} {w rest : List Nested} {x : Tree} {xs : List Tree}
-        → s ≡ a → x ≡ Leaf at → Spine ps (suc at) w xs to rest → Spine (Term a ∷ ps) at (at_nesting s n ∷ w) (x ∷ xs) to rest
+        → (s ≡ a) × (n ≡ around) → x ≡ Leaf at → Spine around ps (suc at) w xs to rest → Spine around (Term a ∷ ps) at (at_nesting s n ∷ w) (x ∷ xs) to rest
     node : {h at mid to : ℕ} {ps : List Part} {w u rest : List Nested} {x : Tree} {xs : List Tree}
-        → Node_read h x at w mid u → Spine ps mid u xs to rest → Spine (Non h ∷ ps) at w (x ∷ xs) to rest
+        → Node_read h around x at w mid u → Spine around ps mid u xs to rest → Spine around (Non h ∷ ps) at w (x ∷ xs) to rest
 
   -- the trees of a repeated part
-  pub data Turns (h : ℕ) : ℕ → List Nested → List Tree → ℕ → List Nested → Type 0 where
-    none_more : {at to : ℕ} {w rest : List Nested} → at ≡ to → w ≡ rest → Turns h at w [] to rest
+  pub data Turns (h around : ℕ) : ℕ → List Nested → List Tree → ℕ → List Nested → Type 0 where
+    none_more : {at to : ℕ} {w rest : List Nested} → at ≡ to → w ≡ rest → Turns h around at w [] to rest
     one_more : {at mid to : ℕ} {w u rest : List Nested} {x : Tree} {xs : List Tree}
-        → Node_read h x at w mid u → Turns h mid u xs to rest → Turns h at w (x ∷ xs) to rest
+        → Node_read h around x at w mid u → Turns h around mid u xs to rest → Turns h around at w (x ∷ xs) to rest
 
-  pub node-read : {h g i at mid around turn : ℕ} {w u : List Nested} {row : Row} {x : Tree} {kids : List Tree}
-      → Some h ≡ Some g → IsRowOf t g i row → x ≡ Node i kids → Reads t d around turn row.parts at w kids mid u → Node_read h x at w mid u
-  node-read {h = h} {g = g} {i = i} {row = row} {kids = kids} e is x inner =
+  pub node-read : {h g i at mid n around : ℕ} {w u : List Nested} {row : Row} {x : Tree} {kids : List Tree}
+      → Some h ≡ Some g → n ≡ around → IsRowOf t g i row → x ≡ Node i kids
+      → Reads t d (inside d row n) (inside d row n) row.parts at w kids mid u → Node_read h around x at w mid u
+  node-read {h = h} {g = g} {i = i} {at = at} {mid = mid} {w = w} {u = u} {row = row} {kids = kids} e same_level is x inner =
       let same : g ≡ h = cc in
       record {
         index = i;
@@ -51,7 +46,7 @@ module _ (t : List Row) (d : ℕ → ℕ) where
         kids = kids;
         is_node = x;
         is_row = subst (λ k. IsRowOf t k i row) same is;
-        inside = record { around = _; turn = _; reads = inner };
+        reads = subst (λ k. Reads t d (inside d row k) (inside d row k) row.parts at w kids mid u) same_level inner;
       }
 
   -- parts that are read once each
@@ -63,25 +58,25 @@ module _ (t : List Row) (d : ℕ → ℕ) where
   once (Chain h) = false
 
   pub spine : {around turn at to : ℕ} (ps : List Part) {w rest : List Nested} {ts : List Tree} → list_all once ps ≡ true
-      → Reads t d around turn ps at w ts to rest → Spine ps at w ts to rest
+      → Reads t d around turn ps at w ts to rest → Spine around ps at w ts to rest
   spine [] o (ended e f) = done e f
-  spine (Term a ∷ ps) o (symbol e n x more) = leaf (cc) x (spine ps o more)
+  spine (Term a ∷ ps) o (symbol e n x more) = leaf (cc, n) x (spine ps o more)
   spine (Term a ∷ ps) o (taken e row begun n x inner more) = cc
   spine (Term a ∷ ps) o (left_out e begun more) = cc
   spine (Term a ∷ ps) o (empty e f begun row blank x inner more) = cc
   spine (Non h ∷ ps) o (symbol e n x more) = cc
-  spine (Non h ∷ ps) o (taken e row begun n x inner more) = node (node-read e row x inner) (spine ps o more)
+  spine (Non h ∷ ps) o (taken e row begun n x inner more) = node (node-read e n row x inner) (spine ps o more)
   spine (Non h ∷ ps) o (left_out e begun more) = cc
-  spine (Non h ∷ ps) o (empty e f begun row blank x inner more) = node (node-read f row x inner) (spine ps o more)
+  spine (Non h ∷ ps) o (empty e f begun row blank x inner more) = node (node-read f refl row x inner) (spine ps o more)
   spine (Maybe h ∷ ps) o r = cc
   spine (Many h ∷ ps) o r = cc
   spine (Chain h ∷ ps) o r = cc
 
   -- the turns of a repeated part alone
   pub turns : {around turn at to h : ℕ} {w rest : List Nested} {ts : List Tree}
-      → Reads t d around turn (Many h ∷ []) at w ts to rest → Turns h at w ts to rest
+      → Reads t d around turn (Many h ∷ []) at w ts to rest → Turns h around at w ts to rest
   turns (symbol e n x more) = cc
-  turns (taken e row begun n x inner more) = one_more (node-read e row x inner) (turns more)
+  turns (taken e row begun n x inner more) = one_more (node-read e n row x inner) (turns more)
   turns (left_out e begun (ended f g)) = none_more f g
   turns (empty e f begun row blank x inner more) = cc
 
@@ -94,22 +89,21 @@ module _ (t : List Row) (d : ℕ → ℕ) where
   advance (left_out e begun more) = advance more
   advance (empty e f begun row blank x inner more) = advance inner ∙ advance more
 
-  pub node-advance : {h at to : ℕ} {x : Tree} {w rest : List Nested} → Node_read h x at w to rest → at + length w ≡ to + length rest
-  node-advance n = advance n.inside.reads
+  pub node-advance : {h n at to : ℕ} {x : Tree} {w rest : List Nested} → Node_read h n x at w to rest → at + length w ≡ to + length rest
+  node-advance n = advance n.reads
 
   -- the spine of a node whose row is known
-  pub node-spine : {h at to : ℕ} {x : Tree} {w rest : List Nested} (n : Node_read h x at w to rest) (i : ℕ) (row : Row)
-      → ◌≡◌ {A = ℕ × Row} (n.index, n.row) (i, row) → list_all once row.parts ≡ true → Spine row.parts at w n.kids to rest
-  node-spine {at = at} {to = to} {w = w} {rest = rest} n i row e o =
-      let read = subst (λ (r : Row). Row_read r.parts at w n.kids to rest) (ap (λ (p : ℕ × Row). p.1) e) n.inside in
-      spine row.parts o read.reads
+  pub node-spine : {h n at to : ℕ} {x : Tree} {w rest : List Nested} (r : Node_read h n x at w to rest) (i : ℕ) (row : Row)
+      → ◌≡◌ {A = ℕ × Row} (r.index, r.row) (i, row) → list_all once row.parts ≡ true → Spine (inside d row n) row.parts at w r.kids to rest
+  node-spine {n = n} {at = at} {to = to} {w = w} {rest = rest} r i row e o =
+      spine row.parts o (subst (λ (q : Row). Reads t d (inside d q n) (inside d q n) q.parts at w r.kids to rest) (ap (λ (p : ℕ × Row). p.1) e) r.reads)
 
   -- the turns of a node whose row is a repeated part alone
-  pub node-turns : {h at to : ℕ} {x : Tree} {w rest : List Nested} (n : Node_read h x at w to rest) (i g : ℕ) (row : Row)
-      → ◌≡◌ {A = ℕ × Row} (n.index, n.row) (i, row) → row.parts ≡ Many g ∷ [] → Turns g at w n.kids to rest
-  node-turns {at = at} {to = to} {w = w} {rest = rest} n i g row e o =
-      let read = subst (λ (ps : List Part). Row_read ps at w n.kids to rest) (ap (λ (p : ℕ × Row). p.1.parts) e ∙ o) n.inside in
-      turns read.reads
+  pub node-turns : {h n at to : ℕ} {x : Tree} {w rest : List Nested} (r : Node_read h n x at w to rest) (i g : ℕ) (row : Row)
+      → ◌≡◌ {A = ℕ × Row} (r.index, r.row) (i, row) → row.parts ≡ Many g ∷ [] → Turns g (inside d row n) at w r.kids to rest
+  node-turns {n = n} {at = at} {to = to} {w = w} {rest = rest} r i g row e o =
+      let known = subst (λ (q : Row). Reads t d (inside d q n) (inside d q n) q.parts at w r.kids to rest) (ap (λ (p : ℕ × Row). p.1) e) r.reads in
+      turns (subst (λ (ps : List Part). Reads t d (inside d row n) (inside d row n) ps at w r.kids to rest) o known)
 
 -- the rows of a head, with their numbers
 abbrev pub numbered_if : Bool → ℕ → Row → List (ℕ × Row) → List (ℕ × Row)

@@ -8,7 +8,7 @@ use Rattle.sv_source.specs.declared.text.Text.{Text}
 use Rattle.sv2v_top.specs.declared.run.Stop.{Stop}
 use Rattle.sv2v_top.specs.declared.run.Stop.TheVariants as S
 use Rattle.sv2v_top.specs.declared.status.Status.{Status}
-use Rattle.sv2v_top.specs.declared.status.Status.TheVariants.{Done, Refused, Usage, Memory, FileFault, SinkFault, Unsettled}
+use Rattle.sv2v_top.specs.declared.status.Status.TheVariants.{Done, Refused, Usage, Memory, FileFault, SinkFault}
 use Rattle.sv2v_top.specs.Headline.{RunGives}
 
 -- a sink before and after: the bytes written, where they are told, and the count of faults

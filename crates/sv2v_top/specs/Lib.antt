@@ -1,11 +1,6 @@
-pub mod Places
 pub mod Words
 pub mod source
-pub mod target
-pub mod Lowering
-pub mod Agreement
 pub mod Translation
-pub mod Printable
 pub mod Headline
 pub mod Endings
 pub mod Promises

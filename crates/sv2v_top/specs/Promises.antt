@@ -6,11 +6,11 @@ use Rattle.sv_source.specs.Message.{usage_line, memory_line, read_fault_line, re
 use Rattle.sv_source.specs.declared.refusal.Refusal.{Refusal}
 use Rattle.sv2v_top.specs.Words.{Asked, asked}
 use Rattle.sv2v_top.specs.declared.run.Stop.{Stop}
-use Rattle.sv2v_top.specs.declared.sv_types.Design.{Design}
+use Rattle.sv_types.specs.declared.design.Design.{Design}
 use Rattle.sv2v_top.specs.declared.status.Status.{Status}
 use Rattle.sv2v_top.specs.declared.status.Status.TheVariants.{Done, Refused, Usage, Memory, FileFault, SinkFault, Unsettled}
 use Rattle.sv2v_top.specs.Translation.{Accepted}
-use Rattle.sv2v_top.specs.Headline.{file_limit, IsTranslated, IsRefused, IsFaulty, Cause, RunGives}
+use Rattle.sv2v_top.specs.Headline.{file_limit, IsTranslated, IsRefused, Cause, RunGives}
 use Rattle.sv2v_top.specs.Endings.{Put_on, Took, Untouched, FailedAt, Says, line_of}
 
 -- a call: its words, what the files tell, how often they had failed before and after it, and its two sinks

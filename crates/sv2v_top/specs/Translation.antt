@@ -1,13 +1,7 @@
 -- What a translation is: of a source text that is accepted the written text is right, and every other one is refused with
 -- its first break.
-use Rattle.std.specs.Prelude.{◌≡◌, ◌⊎◌, ℕ, Bool, true, false, not, List, [], ◌∷◌, map, length, slice_get, Option, Some, None, Result, Ok, Err}
-use Rattle.std.specs.List.{filter, AllZip}
-use Rattle.b4_core.specs.declared.bit.Bit4.{Bit4}
-use Rattle.row_machine.specs.Valuation.{Valuation, Member}
-use Rattle.row_machine.specs.Machine.{Started}
-use Rattle.row_machine.specs.Settle.{Settled}
-use Rattle.row_machine.specs.Trace.{HasTrace, OneTrace}
-use Rattle.row_machine.specs.Rounds.{Reaches}
+use Rattle.std.specs.List.{filter}
+use Rattle.std.specs.Prelude.{◌≡◌, ◌⊎◌, ℕ, Bool, true, false, not, List, Some, None, Result, Ok, Err}
 use Rattle.sv_source.specs.declared.token.Place.{Place}
 use Rattle.sv_source.specs.declared.token.Kind.{Kind}
 use Rattle.sv_source.specs.declared.token.Kind.TheVariants as Kinds
@@ -18,24 +12,13 @@ use Rattle.sv_source.specs.declared.refusal.Fail.{Fail}
 use Rattle.sv_source.specs.declared.refusal.Fail.TheVariants.{Memory, Refused}
 use Rattle.sv_lexer.specs.Lexing.{tokens_of, behind_bytes}
 use Rattle.sv2v_top.specs.declared.sv_tree.Module.{Module}
-use Rattle.sv2v_top.specs.declared.sv_types.Signal.{Signal}
-use Rattle.sv2v_top.specs.declared.sv_types.SignalKind.{SignalKind}
-use Rattle.sv2v_top.specs.declared.sv_types.SignalKind.TheVariants.{InputNet, OutputVar}
-use Rattle.sv2v_top.specs.declared.sv_types.Process.{Process}
-use Rattle.sv2v_top.specs.declared.sv_types.Design.{Design}
-use Rattle.sv2v_top.specs.declared.v_tree.VModule.{VModule}
-use Rattle.sv2v_top.specs.declared.v_tree.VDesign.{VDesign}
+use Rattle.sv_types.specs.declared.design.Design.{Design}
+use Rattle.v_tree.specs.declared.tree.VDesign.{VDesign}
 use Rattle.sv2v_top.specs.source.Reading.{ReadsAs, SyntaxBreak}
 use Rattle.sv2v_top.specs.source.Elaboration.{design_of}
 use Rattle.sv2v_top.specs.source.Answers.{refusal_of}
-use Rattle.sv2v_top.specs.source.Machine as Source
-use Rattle.sv2v_top.specs.source.Translatable.{expr_signals}
-use Rattle.sv2v_top.specs.target.Value.{Name, meaning}
-use Rattle.sv2v_top.specs.target.Signals.{Net, nets, Driver, drivers}
-use Rattle.sv2v_top.specs.target.Reading.{VReads, FitsTop}
-use Rattle.sv2v_top.specs.target.Machine as Target
-use Rattle.sv2v_top.specs.Lowering.{name_of}
-use Rattle.sv2v_top.specs.Agreement.{TracesAgree}
+use Rattle.v_tree.specs.Reading.{VReads}
+use Rattle.lower_design.specs.Lowering.{Lowers}
 
 -- newlines are no tokens of the grammar
 abbrev pub is_line : Kind → Bool
@@ -78,47 +61,13 @@ pub record Accepted (top bytes : List ℕ) (d : Design) : Type 0 where
 pub record Breaks (top bytes : List ℕ) (r : Refusal) : Type 0 where
   pub cause : SyntaxBreak (source_tokens bytes) (last_place bytes) r ⊎ ((m : Module) × ReadsAs (source_tokens bytes) m × (refusal_of m top ≡ Some r))
 
--- a net has the name, the width and the direction of a signal
-abbrev pub input_kind : SignalKind → Bool
-input_kind InputNet = true
-input_kind OutputVar = false
-
-pub record SameNet (s : Signal) (n : Net) : Type 0 where
-  pub name : n.name ≡ s.path
-  pub width : n.width ≡ s.width
-  pub input : n.input ≡ input_kind s.kind
-
--- a continuous assignment drives the image of its process's signal, and reads the images of what the process reads
-pub record SameProcess (d : Design) (p : Process) (a : Driver) : Type 0 where
-  pub target : a.target ≡ name_of d.signals p.target
-  pub reads : (meaning a.value).names ≡ map (name_of d.signals) (expr_signals p.value)
-
--- The target has the source's shape: one module with the top's name, its ports with their names, directions and widths in
--- order, and one continuous assignment for each of the source's, in order. Nothing else is there.
-pub record Shape (d : Design) (e : VDesign) : Type 0 where
-  pub top : VModule
-  pub one_module : e.modules ≡ top ∷ []
-  pub name : top.name ≡ d.top
-  pub ports : top.ports ≡ map (λ (s : Signal). s.path) d.signals
-  pub signals : AllZip SameNet d.signals (nets top.items)
-  pub processes : AllZip (SameProcess d) d.processes (drivers top.items)
-
 -- The written text is right for the design.
 pub record Right (d : Design) (text : List ℕ) (e : VDesign) : Type 0 where
-  -- it reads as this target design and no other, which breaks no rule on names and limits, with the top or without
+  -- it reads as this target design and no other, which breaks no rule on names and limits
   pub reads : VReads text e
   pub only : (f : VDesign) → VReads text f → f ≡ e
-  pub fits_top : FitsTop e d.top
-  -- the target has the source's shape
-  pub shape : Shape d e
-  -- any rows have exactly one trace on each side
-  pub source_trace : (rows : List Valuation) → OneTrace (Source.machine d) rows
-  pub target_trace : (rows : List Valuation) → OneTrace (Target.machine e d.top) rows
-  -- and these agree after each row, in every signal
-  pub forward : (rows vs : List Valuation) → HasTrace (Source.machine d) rows vs → (us : List Valuation) × HasTrace (Target.machine e d.top) rows us × TracesAgree d e vs us
-  pub back : (rows us : List Valuation) → HasTrace (Target.machine e d.top) rows us → (vs : List Valuation) × HasTrace (Source.machine d) rows vs × TracesAgree d e vs us
-  -- in each settling of the target the rounds reach the settled valuation
-  pub rounds : (s : Started) (base v : Valuation) → Settled (Target.machine e d.top) s base v → Reaches (Target.machine e d.top) s base v
+  -- and the target design is right: its shape, its traces and its rounds
+  pub lowers : Lowers d e
 
 -- the text is the translation of a source text
 pub record Translates (top bytes text : List ℕ) : Type 0 where

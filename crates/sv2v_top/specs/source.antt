@@ -2,11 +2,9 @@ pub mod Grammar
 pub mod Building
 pub mod Reading
 pub mod Literals
+pub mod Statements
 pub mod Names
 pub mod Lookup
 pub mod Rules
 pub mod Elaboration
 pub mod Answers
-pub mod Value
-pub mod Machine
-pub mod Translatable

@@ -1,23 +1,25 @@
-//! The design of a module whose names are declared (IEEE 1800-2017 clauses 6.9.1 and 10.3.2).
+//! The processes of a module whose names are declared (IEEE 1800-2017 clauses 9.2, 10.3.2 and 10.4).
 
-ghost use Rattle.std.specs.Prelude.{◌≡◌, ◌^◌, ◌<◌, List, ℕ, map, IfOk};
+ghost use Rattle.std.specs.Prelude.{◌≡◌, ◌++◌, ◌^◌, ◌<◌, List, ℕ, map, true, false, IfOk, OnOk};
 ghost use Rattle.sv2v_top.specs.source.Lookup.{Numbers};
-ghost use Rattle.sv2v_top.specs.source.Elaboration.{primary_of, operand_of, expr_of, process_of};
+ghost use Rattle.sv2v_top.specs.source.Elaboration.{primary_of, operand_of, expr_of, assign_of, stmt_of, clock_of, process_of, processes_of};
 
 use crate::literals::bits;
 use crate::package_scope::Names;
 use crate::sv_tree;
-use crate::sv_types::{Expr, Operand, Primary, Process, Processes};
 use std::alloc::{AllocError, Global};
-use sv_source::Items;
+use sv_source::{Boxed, Items, Text};
+use sv_types::{
+    EdgeList, EdgeOn, Expr, Operand, Primary, Process, ProcessKind, Processes, Stmt, Stmts,
+};
 
 /// The signal that a name stands for, or the bits of a literal.
-fn primary(alloc: Global, ports: &Names, primary: &sv_tree::Primary) -> Result<Primary, AllocError>
-    requires { ports.now.next < 2 ^ 32 }
-    ensures { IfOk result (λ p. (names : List (List ℕ)) → Numbers ports.now names → p ≡ primary_of names primary.now) }
+fn primary(alloc: Global, names: &Names, primary: &sv_tree::Primary) -> Result<Primary, AllocError>
+    requires { names.now.next < 2 ^ 32 }
+    ensures { IfOk result (λ p. (ns : List (List ℕ)) → Numbers names.now ns → p ≡ primary_of ns primary.now) }
 {
     match primary {
-        sv_tree::Primary::Name(name) => Ok(Primary::Signal(ports.position(&name.word))),
+        sv_tree::Primary::Name(name) => Ok(Primary::Signal(names.position(&name.word))),
         sv_tree::Primary::Literal { digits, .. } => Ok(Primary::Literal(bits(
             alloc,
             digits.word.as_bytes(),
@@ -26,25 +28,25 @@ fn primary(alloc: Global, ports: &Names, primary: &sv_tree::Primary) -> Result<P
 }
 
 /// An operand.
-fn operand(alloc: Global, ports: &Names, operand: &sv_tree::Operand) -> Result<Operand, AllocError>
-    requires { ports.now.next < 2 ^ 32 }
-    ensures { IfOk result (λ a. (names : List (List ℕ)) → Numbers ports.now names → a ≡ operand_of names operand.now) }
+fn operand(alloc: Global, names: &Names, operand: &sv_tree::Operand) -> Result<Operand, AllocError>
+    requires { names.now.next < 2 ^ 32 }
+    ensures { IfOk result (λ a. (ns : List (List ℕ)) → Numbers names.now ns → a ≡ operand_of ns operand.now) }
 {
     let inverted = operand.inverted;
-    let primary = primary(alloc, ports, &operand.primary)?;
+    let primary = primary(alloc, names, &operand.primary)?;
     Ok(Operand { inverted, primary })
 }
 
 /// An expression.
-fn expr(alloc: Global, ports: &Names, value: &sv_tree::Expr) -> Result<Expr, AllocError>
-    requires { ports.now.next < 2 ^ 32 }
-    ensures { IfOk result (λ x. (names : List (List ℕ)) → Numbers ports.now names → x ≡ expr_of names value.now) }
+fn expr(alloc: Global, names: &Names, value: &sv_tree::Expr) -> Result<Expr, AllocError>
+    requires { names.now.next < 2 ^ 32 }
+    ensures { IfOk result (λ x. (ns : List (List ℕ)) → Numbers names.now ns → x ≡ expr_of ns value.now) }
 {
     match value {
-        sv_tree::Expr::Single(only) => Ok(Expr::Single(operand(alloc, ports, only)?)),
+        sv_tree::Expr::Single(only) => Ok(Expr::Single(operand(alloc, names, only)?)),
         sv_tree::Expr::Binary { op, left, right } => {
-            let left = operand(alloc, ports, left)?;
-            let right = operand(alloc, ports, right)?;
+            let left = operand(alloc, names, left)?;
+            let right = operand(alloc, names, right)?;
             Ok(Expr::Binary {
                 op: *op,
                 left,
@@ -54,28 +56,126 @@ fn expr(alloc: Global, ports: &Names, value: &sv_tree::Expr) -> Result<Expr, All
     }
 }
 
-/// A continuous assignment.
-fn process(alloc: Global, ports: &Names, assign: &sv_tree::Assign) -> Result<Process, AllocError>
-    requires { ports.now.next < 2 ^ 32 }
-    ensures { IfOk result (λ p. (names : List (List ℕ)) → Numbers ports.now names → p ≡ process_of names assign.now) }
+/// An assignment.
+fn assignment(
+    alloc: Global,
+    names: &Names,
+    later: bool,
+    assign: &sv_tree::Assign,
+) -> Result<Stmt, AllocError>
+    requires { names.now.next < 2 ^ 32 }
+    ensures { IfOk result (λ s. (ns : List (List ℕ)) → Numbers names.now ns → s ≡ assign_of ns later assign.now) }
 {
-    let target = ports.position(&assign.target.word);
-    let value = expr(alloc, ports, &assign.value)?;
-    Ok(Process { target, value })
+    let to = names.position(&assign.target.word);
+    let value = expr(alloc, names, &assign.value)?;
+    Ok(Stmt::Assign { to, value, later })
 }
 
-/// The continuous assignments in order.
+/// The statements of a block.
+#[cycle(statement)]
+fn statements(
+    alloc: Global,
+    names: &Names,
+    later: bool,
+    list: &[sv_tree::Stmt],
+) -> Result<Stmts, AllocError>
+    requires { names.now.next < 2 ^ 32 }
+    ensures { IfOk result (λ ss. (ns : List (List ℕ)) → Numbers names.now ns → ss ≡ map (stmt_of ns later) list.now) }
+{
+    let mut statements = Items::new(alloc);
+    for stmt in list {
+        statements.push(statement(alloc, names, later, stmt)?)?;
+    }
+    Ok(statements)
+}
+
+/// A statement; the assignments of an edge process are nonblocking.
+#[cycle(statement)]
+#[tactic(auto, using(crate::proofs::Levels::typed))]
+fn statement(
+    alloc: Global,
+    names: &Names,
+    later: bool,
+    stmt: &sv_tree::Stmt,
+) -> Result<Stmt, AllocError>
+    requires { names.now.next < 2 ^ 32 }
+    ensures { IfOk result (λ s. (ns : List (List ℕ)) → Numbers names.now ns → s ≡ stmt_of ns later stmt.now) }
+{
+    match stmt {
+        sv_tree::Stmt::Block(list) => {
+            Ok(Stmt::Block(statements(alloc, names, later, list.as_slice())?))
+        }
+        sv_tree::Stmt::If { on, body, other } => {
+            let on = expr(alloc, names, on)?;
+            let body = Boxed::new(alloc, statement(alloc, names, later, body.get())?)?;
+            let other = match other {
+                None => None,
+                Some(other) => {
+                    let other = statement(alloc, names, later, other.get())?;
+                    Some(Boxed::new(alloc, other)?)
+                }
+            };
+            Ok(Stmt::If { on, body, other })
+        }
+        sv_tree::Stmt::Assign(assign) => assignment(alloc, names, later, assign),
+    }
+}
+
+/// The edge of a clock.
+fn clock_edge(alloc: Global, names: &Names, clock: &Text) -> Result<EdgeList, AllocError>
+    requires { names.now.next < 2 ^ 32 }
+    ensures { IfOk result (λ es. (ns : List (List ℕ)) → Numbers names.now ns → es ≡ clock_of ns clock.now) }
+{
+    let mut edges = Items::new(alloc);
+    edges.push(EdgeOn {
+        signal: names.position(clock),
+        rising: true,
+    })?;
+    Ok(edges)
+}
+
+/// Adds the process of an item, if it is one.
+fn add_process(
+    alloc: Global,
+    names: &Names,
+    item: &sv_tree::Item,
+    processes: &mut Processes,
+) -> Result<(), AllocError>
+    requires { names.now.next < 2 ^ 32 }
+    ensures { OnOk result ((ns : List (List ℕ)) → Numbers names.now ns → processes.new ≡ processes.old ++ process_of ns item.now) }
+{
+    match item {
+        sv_tree::Item::Assign(assign) => processes.push(Process {
+            kind: ProcessKind::Continuous,
+            body: assignment(alloc, names, false, assign)?,
+        }),
+        sv_tree::Item::Logic(_) => Ok(()),
+        sv_tree::Item::Comb(body) => processes.push(Process {
+            kind: ProcessKind::Comb,
+            body: statement(alloc, names, false, body)?,
+        }),
+        sv_tree::Item::Edge { clock, body } => {
+            let edges = clock_edge(alloc, names, &clock.word)?;
+            processes.push(Process {
+                kind: ProcessKind::Edges(edges),
+                body: statement(alloc, names, true, body)?,
+            })
+        }
+    }
+}
+
+/// The processes in order.
 pub fn processes(
     alloc: Global,
-    ports: &Names,
-    assigns: &[sv_tree::Assign],
+    names: &Names,
+    items: &[sv_tree::Item],
 ) -> Result<Processes, AllocError>
-    requires { ports.now.next < 2 ^ 32 }
-    ensures { IfOk result (λ ps. (names : List (List ℕ)) → Numbers ports.now names → ps ≡ map (process_of names) assigns.now) }
+    requires { names.now.next < 2 ^ 32 }
+    ensures { IfOk result (λ ps. (ns : List (List ℕ)) → Numbers names.now ns → ps ≡ processes_of ns items.now) }
 {
     let mut processes = Items::new(alloc);
-    for assign in assigns {
-        processes.push(process(alloc, ports, assign)?)?;
+    for item in items {
+        add_process(alloc, names, item, &mut processes)?;
     }
     Ok(processes)
 }

@@ -2,7 +2,7 @@
 
 ghost use Rattle.std.specs.Prelude.{◌≡◌, ◌^◌, ◌-◌, ◌<◌, ◌++◌, ◌∷◌, [], List, ℕ, OnOk};
 ghost use Rattle.sv2v_top.specs.source.Lookup.{Numbers, number_in};
-ghost use Rattle.sv2v_top.specs.source.Names.{position};
+ghost use Rattle.v_tree.specs.Names.{position};
 
 use indexmap::IndexMap;
 use std::alloc::{AllocError, Global};
@@ -28,17 +28,19 @@ impl Names {
         }
     }
 
-    /// Adds a name at the end.
+    /// Adds a name at the end. Wants memory where there are 2^64 - 1 names.
     pub fn add(&mut self, alloc: Global, name: &Text) -> Result<(), AllocError>
-        requires { self.old.next < 2 ^ 64 - 1 }
         ensures { OnOk result ((names : List (List ℕ)) → Numbers self.old names → Numbers self.new (names ++ name.now ∷ [])) }
     {
+        let Some(next) = self.next.checked_add(1) else {
+            return Err(AllocError);
+        };
         if self.numbers.get(name).is_none() {
             self.numbers.insert(name.copy(alloc)?, self.next)?;
         } else {
             self.distinct = false;
         }
-        self.next += 1;
+        self.next = next;
         Ok(())
     }
 

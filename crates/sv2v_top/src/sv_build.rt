@@ -6,7 +6,7 @@ mod tree;
 
 ghost use Rattle.std.specs.Prelude.{◌≡◌, ◌^◌, ◌-◌, ◌<◌, length, slice_get, IfOk};
 ghost use Rattle.sv2v_top.specs.source.Grammar.{source_rows};
-ghost use Rattle.sv2v_top.specs.source.Reading.{syntax_refusal_at, ReadingGives};
+ghost use Rattle.sv2v_top.specs.source.Reading.{refusal_at, ReadingGives};
 
 use crate::sv_tree::Module;
 use grammar::source_table;
@@ -16,7 +16,7 @@ use sv_source::{Fail, Place, Refusal, Text, Token, at};
 use symbols::symbols;
 use tree::module;
 
-/// How deep a text may nest. No text of this grammar nests.
+/// How deep statements, expressions and operators may nest in a text.
 const NESTING_LIMIT: u32 = 256;
 
 /// The reader of the grammar.
@@ -30,20 +30,21 @@ fn source_reader(alloc: Global) -> Result<Ll1, AllocError>
     }
 }
 
-/// The refusal of the token with this number, or of the end.
+/// The refusal by a rule of the token with this number, or of the end.
 fn syntax_refusal(
     alloc: Global,
+    rule: u16,
     tokens: &[Token],
     last: Place,
     index: u32,
 ) -> Result<Refusal, AllocError>
-    ensures { IfOk result (λ r. r ≡ syntax_refusal_at last (slice_get tokens.now index)) }
+    ensures { IfOk result (λ r. r ≡ refusal_at rule last (slice_get tokens.now index)) }
 {
     match at(tokens, index as usize) {
         None => {
             let word = Text::from_bytes(alloc, b"<end>")?;
             Ok(Refusal {
-                rule: 302,
+                rule,
                 place: last,
                 word,
             })
@@ -51,17 +52,14 @@ fn syntax_refusal(
         Some(token) => {
             let word = token.text.copy(alloc)?;
             let place = token.place;
-            Ok(Refusal {
-                rule: 302,
-                place,
-                word,
-            })
+            Ok(Refusal { rule, place, word })
         }
     }
 }
 
 /// The module that the tokens read as. Where they have no reading by the grammar, E302 stands at the failing token, or behind
-/// the last byte: a text begins with the tokens before it, and none with it too.
+/// the last byte: a text begins with the tokens before it, and none with it too. E303 stands where nesting first passes
+/// the limit, if that comes first.
 pub fn read_source(alloc: Global, tokens: &[Token], last: Place) -> Result<Module, Fail>
     requires { length tokens.now < 2 ^ 32 - 1 }
     ensures { ReadingGives tokens.now last result }
@@ -75,8 +73,10 @@ pub fn read_source(alloc: Global, tokens: &[Token], last: Place) -> Result<Modul
         },
         Err(ParseFail::Memory) => Err(Fail::Memory),
         Err(ParseFail::NoText { at }) => Err(Fail::Refused(syntax_refusal(
-            alloc, tokens, last, at,
+            alloc, 302, tokens, last, at,
         )?)),
-        Err(ParseFail::Deep { .. }) => unreachable!(),
+        Err(ParseFail::Deep { at }) => Err(Fail::Refused(syntax_refusal(
+            alloc, 303, tokens, last, at,
+        )?)),
     }
 }

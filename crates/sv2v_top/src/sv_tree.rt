@@ -1,7 +1,7 @@
 //! The tree of a source text: one module of continuous assignments.
 
 use b4_core::BinOp;
-use sv_source::{Items, Spot};
+use sv_source::{Boxed, Items, Spot};
 
 /// The direction of a port (IEEE 1800-2017 clause 23.2.2).
 #[derive(Clone, Copy, PartialEq, Eq)]
@@ -78,20 +78,69 @@ pub enum Expr {
     },
 }
 
-/// A continuous assignment (IEEE 1800-2017 clause 10.3.2).
+/// An assignment to a whole signal (IEEE 1800-2017 clause 10.4).
 #[derive(Drop)]
 pub struct Assign {
-    /// The name of the net that is driven.
+    /// The name that is assigned to.
     pub target: Spot,
-    /// The expression that drives it.
+    /// The value.
     pub value: Expr,
+}
+
+/// Statements in order.
+pub type Stmts = Items<Stmt>;
+
+/// A statement of a process (clause 9.3.1 and A.6.4). Whether its assignments are blocking is the process's to say.
+#[cycle(statement)]
+#[derive(Drop)]
+pub enum Stmt {
+    /// `begin .. end`
+    Block(Stmts),
+    /// `if`
+    If {
+        /// The condition.
+        on: Expr,
+        /// The statement behind it.
+        body: Boxed<Stmt>,
+        /// The statement behind `else`, if there is one.
+        other: Option<Boxed<Stmt>>,
+    },
+    /// An assignment.
+    Assign(Assign),
+}
+
+/// The declaration of a variable (clause 6.8).
+#[derive(Drop)]
+pub struct Declaration {
+    /// The packed dimension of the `logic` type, if it has one.
+    pub range: Option<Range>,
+    /// The variable's name.
+    pub name: Spot,
+}
+
+/// An item of a module's body.
+#[derive(Drop)]
+pub enum Item {
+    /// `assign` (clause 10.3.2)
+    Assign(Assign),
+    /// `logic`
+    Logic(Declaration),
+    /// `always_comb` (clause 9.2.2.2)
+    Comb(Stmt),
+    /// `always_ff @(posedge clock)` (clause 9.2.2.4)
+    Edge {
+        /// The name of the clock.
+        clock: Spot,
+        /// What it runs.
+        body: Stmt,
+    },
 }
 
 /// The ports of a header, in order.
 pub type Ports = Items<Port>;
 
-/// The assignments of a body, in order.
-pub type Assigns = Items<Assign>;
+/// The items of a body, in order.
+pub type ModuleItems = Items<Item>;
 
 /// A module.
 #[derive(Drop)]
@@ -100,6 +149,6 @@ pub struct Module {
     pub name: Spot,
     /// Its ports, in the order of the header.
     pub ports: Ports,
-    /// Its continuous assignments, in order.
-    pub assigns: Assigns,
+    /// The items of its body, in order.
+    pub items: ModuleItems,
 }

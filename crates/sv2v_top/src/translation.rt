@@ -4,12 +4,12 @@ ghost use Rattle.std.specs.Prelude.{◌≡◌, ◌^◌, ◌≤◌, ◌<◌, leng
 ghost use Rattle.sv2v_top.specs.Translation.{is_line, kept_tokens, last_place, TranslationGives};
 
 use crate::elab_build::elaborate;
-use crate::lower_design::lower;
 use crate::sv_build::read_source;
-use crate::v_writer::write_text;
+use lower_design::lower;
 use std::alloc::{AllocError, Global};
 use sv_lexer::{lex, place_behind};
 use sv_source::{Fail, Items, Kind, Place, Text, Token, Tokens};
+use v_writer::write_text;
 
 /// Whether a token is a newline.
 fn ends_line(token: &Token) -> bool

@@ -8,4 +8,6 @@ mod caller;
 #[cfg(test)]
 mod faults;
 #[cfg(test)]
+mod processes;
+#[cfg(test)]
 mod refused;

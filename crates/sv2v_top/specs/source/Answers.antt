@@ -1,13 +1,20 @@
 -- What elaboration answers.
-use Rattle.std.specs.Prelude.{◌≡◌, ℕ, Bool, true, false, List, Option, Some, None, Result, Ok, Err, codes}
+use Rattle.std.specs.Prelude.{◌≡◌, ◌++◌, ℕ, Bool, true, false, List, Option, Some, None, Result, Ok, Err, codes}
+use Rattle.std.specs.Option.{option_or, option_map}
 use Rattle.sv_source.specs.declared.token.Spot.{Spot}
 use Rattle.sv_source.specs.declared.refusal.Refusal.{Refusal}
 use Rattle.sv_source.specs.declared.refusal.Fail.{Fail}
 use Rattle.sv_source.specs.declared.refusal.Fail.TheVariants.{Memory, Refused}
+use Rattle.sv2v_top.specs.declared.uses.Use.{Use}
+use Rattle.v_tree.specs.Names.{among}
+use Rattle.sv2v_top.specs.source.Statements.{targets}
+use Rattle.sv2v_top.specs.declared.sv_tree.Item.{Item}
 use Rattle.sv2v_top.specs.declared.sv_tree.Module.{Module}
-use Rattle.sv2v_top.specs.declared.sv_types.Design.{Design}
-use Rattle.sv2v_top.specs.source.Names.{first_undeclared}
-use Rattle.sv2v_top.specs.source.Rules.{is_built}
+use Rattle.sv_types.specs.declared.design.Design.{Design}
+use Rattle.sv2v_top.specs.source.Names.{first_undeclared, signal_names}
+use Rattle.sv2v_top.specs.source.Lookup.{Numbers}
+use Rattle.sv2v_top.specs.declared.package_scope.Names.{Names}
+use Rattle.sv2v_top.specs.source.Rules.{writes_break, always_written, target_words, elaborates, first_process_break, is_built}
 use Rattle.sv2v_top.specs.source.Elaboration.{design_of}
 
 -- E401 at the name
@@ -18,17 +25,35 @@ undeclared_refusal s = record { rule = 401; place = s.place; word = s.word }
 abbrev pub stage_refusal : Refusal
 stage_refusal = record { rule = 999; place = record { file = 0; line = 1; col = 1 }; word = codes "stage" }
 
--- the refusal of a module: the first name that isn't declared comes before what isn't built
-abbrev pub refusal_or : Option Spot → Bool → Option Refusal
-refusal_or (Some s) built = Some (undeclared_refusal s)
-refusal_or None true = None
-refusal_or None false = Some stage_refusal
+-- The refusal of a module. The first name that isn't declared comes first. Where the module doesn't elaborate, the rule that
+-- it breaks isn't built. Then come the rules on processes, and last what isn't built.
+abbrev pub unless_built : Bool → Option Refusal
+unless_built true = None
+unless_built false = Some stage_refusal
+
+abbrev pub refusal_if_elaborates : Bool → Option Refusal → Bool → Option Refusal
+refusal_if_elaborates false process_break built = Some stage_refusal
+refusal_if_elaborates true process_break built = option_or process_break (unless_built built)
+
+abbrev pub refusal_or : Option Use → Bool → Option Refusal → Bool → Option Refusal
+refusal_or (Some u) elaborated process_break built = Some (undeclared_refusal u.name)
+refusal_or None elaborated process_break built = refusal_if_elaborates elaborated process_break built
 
 abbrev pub refusal_of : Module → List ℕ → Option Refusal
-refusal_of m top = refusal_or (first_undeclared m) (is_built m top)
+refusal_of m top = refusal_or (first_undeclared m) (elaborates m top) (first_process_break m) (is_built m)
 
 -- the design where nothing is refused, else the refusal
 abbrev pub ElaborationGives : Module → List ℕ → Result Design Fail → Type 0
 ElaborationGives m top (Ok d) = (refusal_of m top ≡ None) × (d ≡ design_of m)
 ElaborationGives m top (Err Memory) = Unit {0}
 ElaborationGives m top (Err (Refused r)) = refusal_of m top ≡ Some r
+
+-- the names of the signals, or the refusal of a name that isn't declared
+abbrev pub UndeclaredGives : Module → Result Names Refusal → Type 0
+UndeclaredGives m (Ok names) = (first_undeclared m ≡ None) × Numbers names (signal_names m)
+UndeclaredGives m (Err r) = option_map (λ (u : Use). undeclared_refusal u.name) (first_undeclared m) ≡ Some r
+
+-- the first break of an item behind those that write these names, and the names that are written then
+pub record BreaksAfter (written : List (List ℕ)) (i : Item) (r : Option Refusal) (table : Names) : Type 0 where
+  pub first : r ≡ writes_break (among written) (among (always_written i)) (targets i)
+  pub table_is : Numbers table (written ++ target_words i)

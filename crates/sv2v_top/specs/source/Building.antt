@@ -1,5 +1,5 @@
 -- The tree of a source text, from the derivation of its tokens. A tree that no derivation gives means nothing.
-use Rattle.std.specs.Prelude.{ℕ, ◌==◌, Bool, true, false, List, [], ◌∷◌, Option, Some, None, if◌then◌else◌, slice_get}
+use Rattle.std.specs.Prelude.{ℕ, zero, suc, ◌==◌, Bool, true, false, List, [], ◌∷◌, Option, Some, None, if◌then◌else◌, slice_get}
 use Rattle.b4_core.specs.declared.operators.BinOp.{BinOp}
 use Rattle.b4_core.specs.declared.operators.BinOp.TheVariants.{And, Or, Xor}
 use Rattle.sv_source.specs.declared.token.Token.{Token}
@@ -16,6 +16,11 @@ use Rattle.sv2v_top.specs.declared.sv_tree.Operand.{Operand}
 use Rattle.sv2v_top.specs.declared.sv_tree.Expr.{Expr}
 use Rattle.sv2v_top.specs.declared.sv_tree.Expr.TheVariants as E
 use Rattle.sv2v_top.specs.declared.sv_tree.Assign.{Assign}
+use Rattle.sv2v_top.specs.declared.sv_tree.Stmt.{Stmt}
+use Rattle.sv2v_top.specs.declared.sv_tree.Stmt.TheVariants as T
+use Rattle.sv2v_top.specs.declared.sv_tree.Declaration.{Declaration}
+use Rattle.sv2v_top.specs.declared.sv_tree.Item.{Item}
+use Rattle.sv2v_top.specs.declared.sv_tree.Item.TheVariants as I
 use Rattle.sv2v_top.specs.declared.sv_tree.Module.{Module}
 use Rattle.sv2v_top.specs.declared.sv_build.grammar.TheConstants.{INPUT_ROW, OUTPUT_ROW, AND_ROW, OR_ROW, XOR_ROW}
 
@@ -115,16 +120,9 @@ expr_from tokens (a ∷ b ∷ c ∷ rest) = None
 abbrev pub expr_of : List Token → Tree → Option Expr
 expr_of tokens tree = expr_from tokens (kids_of tree)
 
--- `assign TARGET = VALUE ;`
+-- `TARGET = VALUE ;` or `TARGET <= VALUE ;`
 abbrev pub assign_with : Spot → Expr → Assign
 assign_with target value = record { target = target; value = value }
-
-abbrev pub assign_from : List Token → List Tree → Option Assign
-assign_from tokens (word ∷ target ∷ equals ∷ value ∷ semicolon ∷ []) = then_two assign_with (spot_of tokens target) (expr_of tokens value)
-assign_from tokens kids = None
-
-abbrev pub assign_of : List Token → Tree → Option Assign
-assign_of tokens tree = assign_from tokens (kids_of tree)
 
 -- `[ LEFT : RIGHT ]`, or nothing
 abbrev pub range_with : Spot → Spot → Option Range
@@ -137,6 +135,60 @@ range_from tokens kids = None
 
 abbrev pub range_of : List Token → Tree → Option (Option Range)
 range_of tokens tree = range_from tokens (kids_of tree)
+
+-- A statement, by the number of its parts: a block, an assignment or an `if`. `inner` gives the statements inside it.
+abbrev pub if_with : Expr → Stmt → Option Stmt → Stmt
+if_with on body other = T.If on body other
+
+abbrev pub applied : {A B : Type 0} → (A → B) → A → B
+applied f x = f x
+
+-- `else STATEMENT`, or nothing
+abbrev pub other_from : (Tree → Option Stmt) → List Tree → Option (Option Stmt)
+other_from inner [] = Some None
+other_from inner (word ∷ []) = None
+other_from inner (word ∷ other ∷ []) = then_one Some (inner other)
+other_from inner (a ∷ b ∷ c ∷ rest) = None
+
+abbrev pub stmt_from : (Tree → Option Stmt) → List Token → List Tree → Option Stmt
+stmt_from inner tokens (first ∷ list ∷ last ∷ []) = then_one T.Block (each inner (kids_of list))
+stmt_from inner tokens (target ∷ mark ∷ value ∷ semicolon ∷ []) =
+    then_one T.Assign (then_two assign_with (spot_of tokens target) (expr_of tokens value))
+stmt_from inner tokens (word ∷ open_mark ∷ on ∷ close_mark ∷ body ∷ other ∷ []) =
+    then_two applied (then_two if_with (expr_of tokens on) (inner body)) (other_from inner (kids_of other))
+stmt_from inner tokens kids = None
+
+-- a statement in which statements nest at most so deep
+abbrev pub stmt_within : List Token → ℕ → Tree → Option Stmt
+stmt_within tokens zero tree = None
+stmt_within tokens (suc depth) tree = stmt_from (stmt_within tokens depth) tokens (kids_of tree)
+
+-- the most nesting of a text
+abbrev pub nesting_limit : ℕ
+nesting_limit = 256
+
+abbrev pub stmt_of : List Token → Tree → Option Stmt
+stmt_of tokens tree = stmt_within tokens nesting_limit tree
+
+-- `assign TARGET = VALUE ;`, `logic RANGE NAME ;`, `always_comb STATEMENT` or `always_ff @ ( posedge CLOCK ) STATEMENT`
+abbrev pub declaration_with : Option Range → Spot → Declaration
+declaration_with range name = record { range = range; name = name }
+
+abbrev pub edge_with : Spot → Stmt → Item
+edge_with clock body = I.Edge clock body
+
+abbrev pub item_from : List Token → List Tree → Option Item
+item_from tokens (word ∷ body ∷ []) = then_one I.Comb (stmt_of tokens body)
+item_from tokens (word ∷ range ∷ name ∷ semicolon ∷ []) =
+    then_one I.Logic (then_two declaration_with (range_of tokens range) (spot_of tokens name))
+item_from tokens (word ∷ target ∷ equals ∷ value ∷ semicolon ∷ []) =
+    then_one I.Assign (then_two assign_with (spot_of tokens target) (expr_of tokens value))
+item_from tokens (word ∷ at ∷ open_mark ∷ edge ∷ clock ∷ close_mark ∷ body ∷ []) =
+    then_two edge_with (spot_of tokens clock) (stmt_of tokens body)
+item_from tokens kids = None
+
+abbrev pub item_of : List Token → Tree → Option Item
+item_of tokens tree = item_from tokens (kids_of tree)
 
 -- the direction that a row has
 abbrev pub direction_of : ℕ → Option Direction
@@ -183,13 +235,13 @@ ports_from tokens [] = Some []
 ports_from tokens (open_mark ∷ list ∷ close_mark ∷ []) = port_list_from tokens (kids_of list)
 ports_from tokens kids = None
 
-abbrev pub body_with : List Port → List Assign → Spot → Module
-body_with ports assigns name = record { name = name; ports = ports; assigns = assigns }
+abbrev pub body_with : List Port → List Item → Spot → Module
+body_with ports items name = record { name = name; ports = ports; items = items }
 
 -- `module NAME PORTS ; ITEMS endmodule`
 abbrev pub module_from : List Token → List Tree → Option Module
 module_from tokens (word ∷ name ∷ ports ∷ semicolon ∷ items ∷ last ∷ []) =
-    then_two (λ make name. make name) (then_two body_with (ports_from tokens (kids_of ports)) (each (assign_of tokens) (kids_of items))) (spot_of tokens name)
+    then_two applied (then_two body_with (ports_from tokens (kids_of ports)) (each (item_of tokens) (kids_of items))) (spot_of tokens name)
 module_from tokens kids = None
 
 abbrev pub module_of : List Token → Tree → Option Module

@@ -1,24 +1,33 @@
 -- What the names of a source module stand for (IEEE 1800-2017 clauses 23.2.2.3, 23.9 and 26.3).
-use Rattle.std.specs.Prelude.{ℕ, suc, zero, ◌+◌, Bool, true, false, not, ◌||◌, List, [], ◌∷◌, ◌++◌, map, flat_map, find, Option, Some, None, if◌then◌else◌}
+use Rattle.std.specs.Prelude.{ℕ, Bool, not, ◌||◌, List, [], ◌∷◌, ◌++◌, map, find, Option, Some, None}
+use Rattle.std.specs.Option.{option_or}
 use Rattle.std.specs.Str.{bytes_eq}
 use Rattle.sv_source.specs.declared.token.Spot.{Spot}
+use Rattle.sv_types.specs.declared.design.SignalKind.{SignalKind}
+use Rattle.sv_types.specs.declared.design.SignalKind.TheVariants.{InputNet, OutputVar, Variable}
 use Rattle.sv2v_top.specs.declared.sv_tree.Direction.{Direction}
 use Rattle.sv2v_top.specs.declared.sv_tree.Direction.TheVariants.{Input, Output}
 use Rattle.sv2v_top.specs.declared.sv_tree.Range.{Range}
 use Rattle.sv2v_top.specs.declared.sv_tree.PortHead.{PortHead}
 use Rattle.sv2v_top.specs.declared.sv_tree.Port.{Port}
-use Rattle.sv2v_top.specs.declared.sv_tree.Primary.{Primary}
-use Rattle.sv2v_top.specs.declared.sv_tree.Primary.TheVariants.{Name, Literal}
-use Rattle.sv2v_top.specs.declared.sv_tree.Expr.{Expr}
-use Rattle.sv2v_top.specs.declared.sv_tree.Expr.TheVariants.{Single, Binary}
-use Rattle.sv2v_top.specs.declared.sv_tree.Assign.{Assign}
+use Rattle.sv2v_top.specs.declared.sv_tree.Declaration.{Declaration}
+use Rattle.sv2v_top.specs.declared.sv_tree.Item.{Item}
+use Rattle.sv2v_top.specs.declared.sv_tree.Item.TheVariants as I
 use Rattle.sv2v_top.specs.declared.sv_tree.Module.{Module}
+use Rattle.sv2v_top.specs.declared.uses.Use.{Use}
+use Rattle.sv2v_top.specs.source.Statements.{item_parts}
+use Rattle.v_tree.specs.Names.{among}
 
--- a port with the direction and the dimension that it has, written or taken from the port before it
+-- a declared signal, with the kind and the dimension that it has
 pub record Declared : Type 0 where
   pub name : Spot
-  pub direction : Direction
+  pub kind : SignalKind
   pub range : Option Range
+
+-- an input port is a net, and an output port of a `logic` type is a variable (clause 23.2.2.3)
+abbrev pub kind_of : Direction → SignalKind
+kind_of Input = InputNet
+kind_of Output = OutputVar
 
 -- a port that is a name alone takes direction and type of the port before it (clause 23.2.2.3)
 abbrev pub direction_after : Direction → Option PortHead → Direction
@@ -29,54 +38,57 @@ abbrev pub range_after : Option Range → Option PortHead → Option Range
 range_after range None = range
 range_after range (Some h) = h.range
 
-abbrev pub declared_from : Direction → Option Range → List Port → List Declared
-declared_from direction range [] = []
-declared_from direction range (p ∷ ports) =
-    record { name = p.name; direction = direction_after direction p.head; range = range_after range p.head }
-    ∷ declared_from (direction_after direction p.head) (range_after range p.head) ports
+abbrev pub ports_from : Direction → Option Range → List Port → List Declared
+ports_from direction range [] = []
+ports_from direction range (p ∷ ports) =
+    record { name = p.name; kind = kind_of (direction_after direction p.head); range = range_after range p.head }
+    ∷ ports_from (direction_after direction p.head) (range_after range p.head) ports
 
+-- what an item declares
+abbrev pub declared_variable : Declaration → Declared
+declared_variable d = record { name = d.name; kind = Variable; range = d.range }
+
+abbrev pub declared_by : Item → List Declared
+declared_by (I.Assign a) = []
+declared_by (I.Logic d) = declared_variable d ∷ []
+declared_by (I.Comb body) = []
+declared_by (I.Edge clock body) = []
+
+abbrev pub variables : List Item → List Declared
+variables [] = []
+variables (i ∷ items) = declared_by i ++ variables items
+
+-- the signals of a module: its ports, and then its variables
 abbrev pub declared : Module → List Declared
-declared m = declared_from Input None m.ports
+declared m = ports_from Input None m.ports ++ variables m.items
 
--- the names of the ports in order
+abbrev pub name_of : Declared → List ℕ
+name_of d = d.name.word
+
 abbrev pub port_word : Port → List ℕ
 port_word p = p.name.word
 
 abbrev pub port_names : Module → List (List ℕ)
 port_names m = map port_word m.ports
 
--- the number of the first of these names that is the given one, and how many there are where none is
-abbrev pub position : List (List ℕ) → List ℕ → ℕ
-position [] name = 0
-position (n ∷ names) name = if bytes_eq n name then 0 else suc (position names name)
+abbrev pub signal_names : Module → List (List ℕ)
+signal_names m = map name_of (declared m)
 
--- whether the name is one of these
-abbrev pub among : List (List ℕ) → List ℕ → Bool
-among [] name = false
-among (n ∷ names) name = bytes_eq n name || among names name
-
--- the names that an expression uses, in the order of the text
-abbrev pub primary_names : Primary → List Spot
-primary_names (Name name) = name ∷ []
-primary_names (Literal size digits) = []
-
-abbrev pub expr_names : Expr → List Spot
-expr_names (Single a) = primary_names a.primary
-expr_names (Binary op a b) = primary_names a.primary ++ primary_names b.primary
-
--- the names that the assignments use, in the order of the text
-abbrev pub uses : List Assign → List Spot
-uses [] = []
-uses (a ∷ assigns) = a.target ∷ (expr_names a.value ++ uses assigns)
-
--- A name is declared if it is a port's, or the module's own in the compilation unit around it (clause 23.9).
-abbrev pub is_declared : Module → List ℕ → Bool
-is_declared m name = among (port_names m) name || bytes_eq m.name.word name
+-- A name is declared at a place if a port or an earlier item declares it, or if it is the module's own in the compilation
+-- unit around it (clause 23.9).
+abbrev pub is_declared : List ℕ → List (List ℕ) → List ℕ → Bool
+is_declared own names name = among names name || bytes_eq own name
 
 -- the first of these names that isn't declared
-abbrev pub undeclared : Module → List Spot → Option Spot
-undeclared m names = find (λ (s : Spot). not (is_declared m s.word)) names
+abbrev pub undeclared : List ℕ → List (List ℕ) → List Use → Option Use
+undeclared own names uses = find (λ (u : Use). not (is_declared own names u.name.word)) uses
+
+-- the first name that isn't declared where items use it
+abbrev pub undeclared_in : List ℕ → List (List ℕ) → List Item → Option Use
+undeclared_in own names [] = None
+undeclared_in own names (i ∷ items) =
+    option_or (undeclared own names (item_parts i).names) (undeclared_in own (names ++ map name_of (declared_by i)) items)
 
 -- E401: the first use of a name that isn't declared
-abbrev pub first_undeclared : Module → Option Spot
-first_undeclared m = undeclared m (uses m.assigns)
+abbrev pub first_undeclared : Module → Option Use
+first_undeclared m = undeclared_in m.name.word (port_names m) m.items

@@ -1,7 +1,7 @@
 //! The terminal symbols of the grammar: reserved words, marks and the classes of names and numbers.
 
 ghost use Rattle.std.specs.Prelude.{◌≡◌, map, IfOk};
-ghost use Rattle.sv2v_top.specs.source.Grammar.{word_symbol, bracket_symbol, operator_symbol, mark_symbol, symbol_of};
+ghost use Rattle.sv2v_top.specs.source.Grammar.{word_symbol, statement_symbol, process_symbol, bracket_symbol, operator_symbol, mark_symbol, symbol_of};
 
 use std::alloc::{AllocError, Global};
 use sv_source::{Kind, Text, Token};
@@ -50,6 +50,24 @@ pub const XOR: u16 = 20;
 
 pub const NOT: u16 = 21;
 
+pub const ALWAYS_COMB: u16 = 22;
+
+pub const ALWAYS_FF: u16 = 23;
+
+pub const POSEDGE: u16 = 24;
+
+pub const BEGIN: u16 = 25;
+
+pub const END: u16 = 26;
+
+pub const IF: u16 = 27;
+
+pub const ELSE: u16 = 28;
+
+pub const AT: u16 = 29;
+
+pub const ARROW: u16 = 30;
+
 /// The symbol of a bracket, comma, colon, semicolon or `=`.
 fn bracket(c: u8) -> u16
     ensures { result ≡ bracket_symbol c }
@@ -63,6 +81,7 @@ fn bracket(c: u8) -> u16
         b']' => RIGHT,
         b':' => COLON,
         b'=' => EQUALS,
+        b'@' => AT,
         _ => OTHER,
     }
 }
@@ -86,7 +105,40 @@ fn mark(text: &[u8]) -> u16
 {
     match text {
         [c] => operator(*c),
+        [b'<', b'='] => ARROW,
         _ => OTHER,
+    }
+}
+
+/// The symbol of a reserved word of statements.
+fn statement_word(text: &Text) -> u16
+    ensures { result ≡ statement_symbol text.now }
+{
+    if text.is(b"begin") {
+        BEGIN
+    } else if text.is(b"end") {
+        END
+    } else if text.is(b"if") {
+        IF
+    } else if text.is(b"else") {
+        ELSE
+    } else {
+        OTHER
+    }
+}
+
+/// The symbol of a reserved word of processes and statements.
+fn process_word(text: &Text) -> u16
+    ensures { result ≡ process_symbol text.now }
+{
+    if text.is(b"always_comb") {
+        ALWAYS_COMB
+    } else if text.is(b"always_ff") {
+        ALWAYS_FF
+    } else if text.is(b"posedge") {
+        POSEDGE
+    } else {
+        statement_word(text)
     }
 }
 
@@ -107,7 +159,7 @@ fn word(text: &Text) -> u16
     } else if text.is(b"assign") {
         ASSIGN
     } else {
-        OTHER
+        process_word(text)
     }
 }
 

@@ -3,14 +3,16 @@
 ghost use Rattle.std.specs.Prelude.{◌≡◌, IfOk};
 ghost use Rattle.sv2v_top.specs.source.Building as means;
 
+use super::NESTING_LIMIT;
 use super::grammar::{AND_ROW, INPUT_ROW, OR_ROW, OUTPUT_ROW, XOR_ROW};
 use crate::sv_tree::{
-    Assign, Assigns, Direction, Expr, Module, Operand, Port, PortHead, Ports, Primary, Range,
+    Assign, Declaration, Direction, Expr, Item, Module, ModuleItems, Operand, Port, PortHead,
+    Ports, Primary, Range, Stmt, Stmts,
 };
 use b4_core::BinOp;
 use ll_engine::Tree;
 use std::alloc::{AllocError, Global};
-use sv_source::{Items, Spot, Token, at};
+use sv_source::{Boxed, Items, Spot, Token, at};
 
 /// The parts of a node.
 fn kids(tree: &Tree) -> &[Tree]
@@ -143,22 +145,22 @@ fn expr(alloc: Global, tokens: &[Token], tree: &Tree) -> Result<Option<Expr>, Al
     }
 }
 
-/// A continuous assignment.
-fn assign(alloc: Global, tokens: &[Token], tree: &Tree) -> Result<Option<Assign>, AllocError>
-    ensures { IfOk result (λ a. a ≡ means.assign_of tokens.now tree.now) }
+/// An assignment, by its target and its value.
+fn assign(
+    alloc: Global,
+    tokens: &[Token],
+    target: &Tree,
+    value: &Tree,
+) -> Result<Option<Assign>, AllocError>
+    ensures { IfOk result (λ a. a ≡ means.then_two means.assign_with (means.spot_of tokens.now target.now) (means.expr_of tokens.now value.now)) }
 {
-    match kids(tree) {
-        [_, target, _, value, _] => {
-            let Some(target) = spot(alloc, tokens, target)? else {
-                return Ok(None);
-            };
-            let Some(value) = expr(alloc, tokens, value)? else {
-                return Ok(None);
-            };
-            Ok(Some(Assign { target, value }))
-        }
-        _ => Ok(None),
-    }
+    let Some(target) = spot(alloc, tokens, target)? else {
+        return Ok(None);
+    };
+    let Some(value) = expr(alloc, tokens, value)? else {
+        return Ok(None);
+    };
+    Ok(Some(Assign { target, value }))
 }
 
 /// A range, or none.
@@ -249,18 +251,187 @@ fn port_list(
     Ok(Some(ports))
 }
 
-/// The assignments.
-fn assigns(alloc: Global, tokens: &[Token], items: &[Tree]) -> Result<Option<Assigns>, AllocError>
-    ensures { IfOk result (λ xs. xs ≡ means.each (means.assign_of tokens.now) items.now) }
+/// The statements of a block, in which statements nest at most so deep.
+#[cycle(statement)]
+fn block(
+    alloc: Global,
+    tokens: &[Token],
+    depth: u32,
+    list: &[Tree],
+) -> Result<Option<Stmts>, AllocError>
+    ensures { IfOk result (λ ss. ss ≡ means.each (means.stmt_within tokens.now depth) list.now) }
 {
-    let mut assigns = Items::new(alloc);
-    for tree in items {
-        let Some(item) = assign(alloc, tokens, tree)? else {
+    let mut statements = Items::new(alloc);
+    for tree in list {
+        let Some(statement) = stmt(alloc, tokens, depth, tree)? else {
             return Ok(None);
         };
-        assigns.push(item)?;
+        statements.push(statement)?;
     }
-    Ok(Some(assigns))
+    Ok(Some(statements))
+}
+
+/// The statement behind `else`, if there is one.
+#[cycle(statement)]
+fn otherwise(
+    alloc: Global,
+    tokens: &[Token],
+    depth: u32,
+    tree: &Tree,
+) -> Result<Option<Option<Boxed<Stmt>>>, AllocError>
+    ensures { IfOk result (λ s. s ≡ means.other_from (means.stmt_within tokens.now depth) (means.kids_of tree.now)) }
+{
+    match kids(tree) {
+        [] => Ok(Some(None)),
+        [_, other] => {
+            let Some(other) = stmt(alloc, tokens, depth, other)? else {
+                return Ok(None);
+            };
+            Ok(Some(Some(Boxed::new(alloc, other)?)))
+        }
+        _ => Ok(None),
+    }
+}
+
+/// An `if` by its condition, its statement and what stands behind that.
+#[cycle(statement)]
+fn conditional(
+    alloc: Global,
+    tokens: &[Token],
+    depth: u32,
+    on: &Tree,
+    body: &Tree,
+    other: &Tree,
+) -> Result<Option<Stmt>, AllocError>
+    ensures { IfOk result (λ s. s ≡ means.then_two means.applied (means.then_two means.if_with (means.expr_of tokens.now on.now) (means.stmt_within tokens.now depth body.now)) (means.other_from (means.stmt_within tokens.now depth) (means.kids_of other.now))) }
+{
+    let Some(on) = expr(alloc, tokens, on)? else {
+        return Ok(None);
+    };
+    let Some(body) = stmt(alloc, tokens, depth, body)? else {
+        return Ok(None);
+    };
+    let Some(other) = otherwise(alloc, tokens, depth, other)? else {
+        return Ok(None);
+    };
+    let body = Boxed::new(alloc, body)?;
+    Ok(Some(Stmt::If { on, body, other }))
+}
+
+/// A statement inside which statements nest at most so deep.
+#[cycle(statement)]
+fn stmt_around(
+    alloc: Global,
+    tokens: &[Token],
+    depth: u32,
+    tree: &Tree,
+) -> Result<Option<Stmt>, AllocError>
+    ensures { IfOk result (λ s. s ≡ means.stmt_from (means.stmt_within tokens.now depth) tokens.now (means.kids_of tree.now)) }
+{
+    match kids(tree) {
+        [_, list, _] => match block(alloc, tokens, depth, kids(list))? {
+            Some(statements) => Ok(Some(Stmt::Block(statements))),
+            None => Ok(None),
+        },
+        [target, _, value, _] => match assign(alloc, tokens, target, value)? {
+            Some(assign) => Ok(Some(Stmt::Assign(assign))),
+            None => Ok(None),
+        },
+        [_, _, on, _, body, other] => conditional(alloc, tokens, depth, on, body, other),
+        _ => Ok(None),
+    }
+}
+
+/// A statement in which statements nest at most so deep.
+#[cycle(statement)]
+fn stmt(
+    alloc: Global,
+    tokens: &[Token],
+    depth: u32,
+    tree: &Tree,
+) -> Result<Option<Stmt>, AllocError>
+    ensures { IfOk result (λ s. s ≡ means.stmt_within tokens.now depth tree.now) }
+{
+    match depth.checked_sub(1) {
+        Some(inner) => stmt_around(alloc, tokens, inner, tree),
+        None => Ok(None),
+    }
+}
+
+/// The declaration of a variable.
+fn declaration(
+    alloc: Global,
+    tokens: &[Token],
+    bounds: &Tree,
+    name: &Tree,
+) -> Result<Option<Declaration>, AllocError>
+    ensures { IfOk result (λ d. d ≡ means.then_two means.declaration_with (means.range_of tokens.now bounds.now) (means.spot_of tokens.now name.now)) }
+{
+    let Some(range) = range(alloc, tokens, bounds)? else {
+        return Ok(None);
+    };
+    let Some(name) = spot(alloc, tokens, name)? else {
+        return Ok(None);
+    };
+    Ok(Some(Declaration { range, name }))
+}
+
+/// An edge process, by its clock and its statement.
+fn edge(
+    alloc: Global,
+    tokens: &[Token],
+    clock: &Tree,
+    body: &Tree,
+) -> Result<Option<Item>, AllocError>
+    ensures { IfOk result (λ i. i ≡ means.then_two means.edge_with (means.spot_of tokens.now clock.now) (means.stmt_of tokens.now body.now)) }
+{
+    let Some(clock) = spot(alloc, tokens, clock)? else {
+        return Ok(None);
+    };
+    let Some(body) = stmt(alloc, tokens, NESTING_LIMIT, body)? else {
+        return Ok(None);
+    };
+    Ok(Some(Item::Edge { clock, body }))
+}
+
+/// An item of a module.
+fn item(alloc: Global, tokens: &[Token], tree: &Tree) -> Result<Option<Item>, AllocError>
+    ensures { IfOk result (λ i. i ≡ means.item_of tokens.now tree.now) }
+{
+    match kids(tree) {
+        [_, body] => match stmt(alloc, tokens, NESTING_LIMIT, body)? {
+            Some(body) => Ok(Some(Item::Comb(body))),
+            None => Ok(None),
+        },
+        [_, bounds, name, _] => match declaration(alloc, tokens, bounds, name)? {
+            Some(declaration) => Ok(Some(Item::Logic(declaration))),
+            None => Ok(None),
+        },
+        [_, target, _, value, _] => match assign(alloc, tokens, target, value)? {
+            Some(assign) => Ok(Some(Item::Assign(assign))),
+            None => Ok(None),
+        },
+        [_, _, _, _, clock, _, body] => edge(alloc, tokens, clock, body),
+        _ => Ok(None),
+    }
+}
+
+/// The items.
+fn items_of(
+    alloc: Global,
+    tokens: &[Token],
+    trees: &[Tree],
+) -> Result<Option<ModuleItems>, AllocError>
+    ensures { IfOk result (λ xs. xs ≡ means.each (means.item_of tokens.now) trees.now) }
+{
+    let mut items = Items::new(alloc);
+    for tree in trees {
+        let Some(item) = item(alloc, tokens, tree)? else {
+            return Ok(None);
+        };
+        items.push(item)?;
+    }
+    Ok(Some(items))
 }
 
 /// The ports in their parentheses.
@@ -299,17 +470,13 @@ pub fn module(alloc: Global, tokens: &[Token], tree: &Tree) -> Result<Option<Mod
             let Some(ports) = ports(alloc, tokens, header)? else {
                 return Ok(None);
             };
-            let Some(assigns) = assigns(alloc, tokens, kids(items))? else {
+            let Some(items) = items_of(alloc, tokens, kids(items))? else {
                 return Ok(None);
             };
             let Some(name) = spot(alloc, tokens, name)? else {
                 return Ok(None);
             };
-            Ok(Some(Module {
-                name,
-                ports,
-                assigns,
-            }))
+            Ok(Some(Module { name, ports, items }))
         }
         _ => Ok(None),
     }

@@ -1,6 +1,5 @@
-use Rattle.std.proofs.Common.{arith, ◌≡◌, ◌≤◌, List, ℕ, length, Some, sym, ap, subst, ◌∙◌}
+use Rattle.std.proofs.Common.{arith, ◌≡◌, ◌≤◌, List, ℕ, length, Some, subst}
 use Rattle.sv_source.specs.Faults.{NotRaised}
-use Rattle.sv_source.specs.Loading.{Contents, Loads}
 use Rattle.sv2v_top.specs.Words.{seen_by}
 use Rattle.sv2v_top.specs.Headline.{Holds, FileGives, file_limit}
 use Rattle.sv2v_top.proofs.Runs.{from-file}

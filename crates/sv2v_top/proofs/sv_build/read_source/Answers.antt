@@ -1,18 +1,17 @@
-use Rattle.std.proofs.Common.{◌≡◌, List, ℕ, map, Some, None, Ok, Err, refl, sym, ap, subst, ◌∙◌}
+use Rattle.std.proofs.Common.{◌≡◌, List, ℕ, map, None, Ok, Err, sym, subst, ◌∙◌}
 use Rattle.ll_engine.specs.declared.table.Row.{Row}
 use Rattle.ll_engine.specs.declared.tree.Tree.{Tree}
-use Rattle.ll_engine.specs.declared.fails.ParseFail.TheVariants as read
-use Rattle.ll_engine.specs.Texts.{IsReading, PassesAt}
+use Rattle.ll_engine.specs.Texts.{IsReading, FailsAt, PassesAt}
 use Rattle.ll_engine.specs.Answers.{ParseGives}
 use Rattle.sv_source.specs.declared.token.Token.{Token}
+use Rattle.sv2v_top.specs.source.Reading.{fails, nests}
 use Rattle.sv2v_top.specs.source.Grammar.{symbol_of, source_rows}
-use Rattle.sv2v_top.specs.source.Building.{module_of}
-use Rattle.sv2v_top.proofs.Readable.{MeantAs, readable}
-use Rattle.sv2v_top.proofs.Flat.{never-deep}
+use Rattle.sv2v_top.specs.source.Building.{module_of, nesting_limit}
+use Rattle.sv2v_top.proofs.Readable.{readable}
 use Rattle.sv2v_top.proofs.sv_build.read_source.Goals as goal
 
-pub unread : (tokens : List Token) (tree : Tree) → IsReading source_rows (map symbol_of tokens) 256 tree → module_of tokens tree ≡ None → ⊥
-unread tokens tree r e = (let m = readable tokens 256 tree r in let is = m.is in cc)
+pub unread : (tokens : List Token) (tree : Tree) → IsReading source_rows (map symbol_of tokens) nesting_limit tree → module_of tokens tree ≡ None → ⊥
+unread tokens tree r e = (let m = readable tokens tree r in let is = m.is in cc)
 
 pub unreachable-requires : goal.unreachable-requires
 unreachable-requires c =
@@ -24,10 +23,20 @@ unreachable-requires c =
     let second : ParseGives source_rows (map symbol_of c.args.tokens.now) 256 (Ok tree) = subst (λ (w : List ℕ). ParseGives source_rows w 256 (Ok tree)) symbols first in
     unread c.args.tokens.now tree second (sym c.in_ok-source-in-Ok.ensures ∙ c.in-None.is)
 
-pub unreachable-requires-in-Err-Deep : goal.unreachable-requires-in-Err-Deep
-unreachable-requires-in-Err-Deep c =
+pub returns-in-Err-NoText : goal.returns-in-Err-NoText
+returns-in-Err-NoText c =
     let reader : c.in_ok-reader.reader ≡ source_rows = c.in_ok-reader.ensures in
-    let at : ℕ = c.in-Err-Deep.field-0-0 in
-    let given : PassesAt c.in_ok-reader.reader c.as_slice.result.now 256 at =
-    subst (λ f. ParseGives c.in_ok-reader.reader c.as_slice.result.now 256 (Err f)) c.in-Err-Deep.field-0-is c.in-Err-Deep.ensures in
-    never-deep source_rows refl c.as_slice.result.now 256 at (subst (λ (t : List Row). PassesAt t c.as_slice.result.now 256 at) reader given)
+    let symbols : c.as_slice.result.now ≡ map symbol_of c.args.tokens.now = c.as_slice.ensures.value ∙ c.in_ok-symbols.ensures in
+    let at : ℕ = c.in-Err-NoText.at in
+    let given : FailsAt c.in_ok-reader.reader c.as_slice.result.now 256 at = subst (λ f. ParseGives c.in_ok-reader.reader c.as_slice.result.now 256 (Err f)) c.in-Err-NoText.field-0-is c.in-Err-NoText.ensures in
+    let first : FailsAt source_rows c.as_slice.result.now 256 at = subst (λ (t : List Row). FailsAt t c.as_slice.result.now 256 at) reader given in
+    fails at (subst (λ (w : List ℕ). FailsAt source_rows w 256 at) symbols first) c.in_ok-syntax_refusal-in-Err-NoText.ensures
+
+pub returns : goal.returns
+returns c =
+    let reader : c.in_ok-reader.reader ≡ source_rows = c.in_ok-reader.ensures in
+    let symbols : c.as_slice.result.now ≡ map symbol_of c.args.tokens.now = c.as_slice.ensures.value ∙ c.in_ok-symbols.ensures in
+    let at : ℕ = c.in-Err-Deep.at in
+    let given : PassesAt c.in_ok-reader.reader c.as_slice.result.now 256 at = subst (λ f. ParseGives c.in_ok-reader.reader c.as_slice.result.now 256 (Err f)) c.in-Err-Deep.field-0-is c.in-Err-Deep.ensures in
+    let first : PassesAt source_rows c.as_slice.result.now 256 at = subst (λ (t : List Row). PassesAt t c.as_slice.result.now 256 at) reader given in
+    nests at (subst (λ (w : List ℕ). PassesAt source_rows w 256 at) symbols first) c.in_ok-syntax_refusal-in-Err-Deep.ensures

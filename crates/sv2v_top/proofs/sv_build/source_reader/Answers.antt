@@ -1,6 +1,6 @@
-use Rattle.std.proofs.Common.{◌≡◌, List, ℕ, Err, sym, ap, subst, ◌∙◌}
+use Rattle.std.proofs.Common.{◌≡◌, List, ℕ, Err, subst}
 use Rattle.ll_engine.specs.declared.table.Row.{Row}
-use Rattle.ll_engine.specs.Class.{BreaksAt, IsFit}
+use Rattle.ll_engine.specs.Class.{BreaksAt}
 use Rattle.ll_engine.specs.Answers.{NewGives}
 use Rattle.sv2v_top.specs.source.Grammar.{source_rows}
 use Rattle.sv2v_top.proofs.Fit.{source-fit, never-unfit}

@@ -1,4 +1,4 @@
-use Rattle.std.proofs.Common.{◌≡◌, map, string_bytes, sym, ◌∙◌}
+use Rattle.std.proofs.Common.{map, string_bytes, sym, ◌∙◌}
 use Rattle.sv2v_top.proofs.AskedFor.{asked-other}
 use Rattle.sv2v_top.proofs.Readable.{length-map}
 use Rattle.sv2v_top.proofs.words.read_words.Goals as goal

@@ -1,11 +1,9 @@
-use Rattle.std.proofs.Common.{◌≡◌, ℕ, List, [], ◌∷◌, ◌++◌, ◌+◌, Bool, true, false, not, cond, Some, length, sym, ap, ◌∙◌, arith}
+use Rattle.std.proofs.Common.{◌≡◌, ◌+◌, true, false, not, cond, Some, sym, ap, ◌∙◌, arith}
 use Rattle.std.specs.Option.{is_some}
 use Rattle.std.specs.Str.{bytes_eq}
 use Rattle.indexmap.specs.IndexMap as table
 use Rattle.sv2v_top.specs.declared.package_scope.Names.{Names}
-use Rattle.sv2v_top.specs.source.Names.{among}
-use Rattle.sv2v_top.specs.source.Rules.{distinct}
-use Rattle.sv2v_top.specs.source.Lookup.{Numbers, number_in, first_number}
+use Rattle.v_tree.specs.Names.{among}
 use Rattle.sv2v_top.proofs.Lookup.{number-new, number-old, some-among, is_some-copied, distinct-new, distinct-old, length-more}
 use Rattle.sv2v_top.proofs.package_scope.Names.add.Goals as goal
 use Rattle.sv2v_top.proofs.package_scope.Names.add.Goals.{then-is_none+in_ok-copy+in_ok-insert, else-is_none}
@@ -13,6 +11,8 @@ use Rattle.sv2v_top.proofs.package_scope.Names.add.Goals.{then-is_none+in_ok-cop
 pub returns : goal.returns
 returns c = λ ns n.
     let w = c.args.name.now in
+    let up = c.in-Some.ensures in
+    let next : c.in-Some.next ≡ c.args.self.now.next + 1 = omega arith in
     let found : is_some c.get.result ≡ among ns w =
     sym (is_some-copied c.get.result) ∙ ap is_some (c.get.ensures.value ∙ n.numbers w) ∙ some-among ns w in
     elim c.if-is_none.branch [
@@ -25,14 +25,14 @@ returns c = λ ns n.
                 ∙ b.in_ok-insert.ensures.updates.0 q
                 ∙ (λ j. cond (bytes_eq (key j) q) (Some (n.count j)) (n.numbers q j))
                 ∙ sym (number-new ns w q fresh);
-            count = ap (λ (t : Names). t.next + 1) b.self-is ∙ ap (λ k. k + 1) n.count ∙ sym (length-more ns w);
+            count = next ∙ ap (λ k. k + 1) n.count ∙ sym (length-more ns w);
             distinct_flag = ap (λ (t : Names). t.distinct) b.self-is ∙ n.distinct_flag ∙ sym (distinct-new ns w fresh);
           })
       | else-is_none b ↦ (
           let old : among ns w ≡ true = sym found ∙ c.is_none.ensures ∙ ap not b.if-is_none.false in
           record {
             numbers = λ q. ap (λ (t : Names). table.get bytes_eq t.numbers q) b.self-is ∙ n.numbers q ∙ sym (number-old ns w q old);
-            count = ap (λ (t : Names). t.next + 1) b.self-is ∙ ap (λ k. k + 1) n.count ∙ sym (length-more ns w);
+            count = next ∙ ap (λ k. k + 1) n.count ∙ sym (length-more ns w);
             distinct_flag = ap (λ (t : Names). t.distinct) b.self-is ∙ sym (distinct-old ns w old);
           })
     ]

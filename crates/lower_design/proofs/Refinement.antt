@@ -1,0 +1,221 @@
+-- A target machine with the source's signals under their own numbers, and others behind them that some processes read besides.
+use Rattle.std.proofs.Common.{◌≡◌, ℕ, ◌<◌, ◌≤◌, Bool, true, false, nat_lt, List, [], ◌∷◌, Option, Some, None, refl, sym, ap, subst, ◌∙◌, inl, inr, arith}
+use Rattle.std.specs.List.{AllZip}
+use Rattle.std.proofs.lemmas.Bool.{false≢true, ltb-true, lt-ltb, ltb-false}
+use Rattle.row_machine.specs.Valuation.{Place, Valuation, Member, has, OneWriter}
+use Rattle.row_machine.specs.Machine.{Process, EdgeProcess, Machine}
+use Rattle.row_machine.specs.Settle.{differs}
+use Rattle.row_machine.specs.Order.{Honest, WellWritten, Sound}
+use Rattle.row_machine.specs.Agreement.{Map, lifted, image_or, TypedMachine, SameWrites, Twin, EdgeTwin, Simulates, SameRow}
+use Rattle.row_machine.specs.Dependence.{writes_image, AddsNoDependence}
+use Rattle.row_machine.specs.Translation.{Refines, Translates}
+use Rattle.row_machine.proofs.Basics.{followed_bit}
+use Rattle.row_machine.proofs.Laws as Laws
+use Rattle.lower_design.proofs.Names.{true_or_false}
+
+pub zip-back : {A B : Type 0} (R : A → B → Type 0) (xs : List A) (ys : List B) → AllZip R xs ys → (y : B) → Member ys y → (x : A) × Member xs x × R x y
+zip-back R [] [] z y m = elim m [ ]
+zip-back R [] (b ∷ ys) z y m = absurd z
+zip-back R (a ∷ xs) [] z y m = elim m [ ]
+zip-back R (a ∷ xs) (b ∷ ys) z y (inl e) = (a, inl refl, subst (R a) (sym e) z.0)
+zip-back R (a ∷ xs) (b ∷ ys) z y (inr m) = let r = zip-back R xs ys z.1 y m in (r.0, inr r.1, r.2)
+
+pub zip-there : {A B : Type 0} (R : A → B → Type 0) (xs : List A) (ys : List B) → AllZip R xs ys → (x : A) → Member xs x → (y : B) × Member ys y × R x y
+zip-there R [] ys z x m = elim m [ ]
+zip-there R (a ∷ xs) [] z x m = absurd z
+zip-there R (a ∷ xs) (b ∷ ys) z x (inl e) = (b, inl refl, subst (λ c. R c b) (sym e) z.0)
+zip-there R (a ∷ xs) (b ∷ ys) z x (inr m) = let r = zip-there R xs ys z.1 x m in (r.0, inr r.1, r.2)
+
+some_same : (p q : Place) → Some p ≡ Some q → p ≡ q
+some_same p q e = cc
+
+abbrev origin_of : Bool → Place → Option Place
+origin_of true q = Some q
+origin_of false q = None
+
+image : (b : Bool) (q q' : Place) → origin_of b q' ≡ Some q → (b ≡ true) × (q' ≡ q)
+image true q q' e = (refl, some_same q' q e)
+image false q q' e = cc
+
+no_image : (b : Bool) (q' : Place) → origin_of b q' ≡ None → b ≡ false
+no_image true q' e = cc
+no_image false q' e = refl
+
+module _ (n : ℕ) where
+  -- the bits of the source's signals
+  abbrev pub IsBelow : Place → Type 0
+  IsBelow q = q.signal < n
+
+  abbrev pub SameBelow : Valuation → Valuation → Type 0
+  SameBelow v u = (q : Place) → IsBelow q → v q ≡ u q
+
+  -- the second process does what the first does, and may read more signals than the source's
+  pub record ReadsMore (p t : Process) : Type 0 where
+    pub from_zero : t.from_zero ≡ p.from_zero
+    pub source_waits : p.waits_for ≡ []
+    pub target_waits : t.waits_for ≡ []
+    pub writes : t.writes ≡ p.writes
+    pub assigns : t.assigns ≡ p.assigns
+    pub reads : (q : Place) → has p.reads q ≡ true → has t.reads q ≡ true
+    pub no_more : (q : Place) → IsBelow q → has t.reads q ≡ true → has p.reads q ≡ true
+
+  -- a process uses the source's signals alone
+  pub record CombBelow (p : Process) : Type 0 where
+    pub writes : (q : Place) → has p.writes q ≡ true → IsBelow q
+    pub reads : (q : Place) → has p.reads q ≡ true → IsBelow q
+
+  pub record EdgeBelow (p : EdgeProcess) : Type 0 where
+    pub writes : (q : Place) → has p.writes q ≡ true → IsBelow q
+    pub runs : (v v' w w' : Valuation) → SameBelow v v' → SameBelow w w' → p.runs v w ≡ p.runs v' w'
+    pub updates : (v v' : Valuation) → SameBelow v v' → (q : Place) → p.updates v q ≡ p.updates v' q
+
+  pub record Extends (extra : Valuation) (d e : Machine) : Type 0 where
+    pub combs : AllZip ReadsMore d.combs e.combs
+    pub edges : e.edges ≡ d.edges
+    pub inputs : e.inputs ≡ d.inputs
+    pub registers : e.registers ≡ d.registers
+    pub initial : (q : Place) → IsBelow q → e.initial q ≡ d.initial q
+    pub start : (q : Place) → IsBelow q → e.start q ≡ d.start q
+    pub rest : (q : Place) → IsBelow q → e.rest q ≡ d.rest q
+    pub beyond : (q : Place) → n ≤ q.signal → e.rest q ≡ extra q
+    pub combs_below : (p : Process) → Member d.combs p → CombBelow p
+    pub edges_below : (p : EdgeProcess) → Member d.edges p → EdgeBelow p
+    pub inputs_below : (q : Place) → has d.inputs q ≡ true → IsBelow q
+    pub registers_below : (q : Place) → has d.registers q ≡ true → IsBelow q
+
+  -- each source bit shows under its own place
+  abbrev pub under_own : Valuation → Map
+  under_own extra = record { origin = λ q. origin_of (nat_lt q.signal n) q; extra = λ v q. extra q; two_state = λ q. false }
+
+  module _ (extra : Valuation) where
+    abbrev m : Map
+    m = under_own extra
+
+    same_place : (q q' : Place) → m.origin q' ≡ Some q → q' ≡ q
+    same_place q q' o = (image (nat_lt q'.signal n) q q' o).1
+
+    is_below : (q q' : Place) → m.origin q' ≡ Some q → IsBelow q'
+    is_below q q' o = ltb-true q'.signal n (image (nat_lt q'.signal n) q q' o).0
+
+    is_beyond : (q' : Place) → m.origin q' ≡ None → n ≤ q'.signal
+    is_beyond q' o = ltb-false q'.signal n (no_image (nat_lt q'.signal n) q' o)
+
+    pub own_origin : (q : Place) → IsBelow q → m.origin q ≡ Some q
+    own_origin q h = ap (λ b. origin_of b q) (lt-ltb q.signal n h)
+
+    pub lifted_below : (v : Valuation) → SameBelow (lifted m v) v
+    lifted_below v q h = ap (λ o. image_or o v (extra q)) (own_origin q h)
+
+    same_writes : (qs : List Place) → ((q : Place) → has qs q ≡ true → IsBelow q) → SameWrites m qs qs
+    same_writes qs below = record {
+      images = λ q q' o. ap (has qs) (same_place q q' o);
+      no_more = λ q' o. elim (true_or_false (has qs q')) [
+        | inr f ↦ f
+        | inl h ↦ absurd (apart q' (below q' h) (is_beyond q' o))
+      ];
+    }
+      where
+        apart : (q : Place) → q.signal < n → n ≤ q.signal → ⊥
+        apart q a b = omega arith
+
+    -- rows agree with themselves
+    pub same_row : (d : Machine) (row : Valuation) → SameRow m d row row
+    same_row d row = record { typed = λ q h e. absurd (false≢true e); images = λ q q' o h. ap row (same_place q q' o) }
+
+    pub same_rows : (d : Machine) (rows : List Valuation) → AllZip (SameRow m d) rows rows
+    same_rows d [] = tt
+    same_rows d (row ∷ rows) = (same_row d row, same_rows d rows)
+
+    typed : (d : Machine) → TypedMachine m d
+    typed d = record {
+      start = λ q e. absurd (false≢true e);
+      rest = λ q e. absurd (false≢true e);
+      combs = λ p k v at q b e f. absurd (false≢true f);
+      edges = λ p k v at q b e f. absurd (false≢true f);
+    }
+
+    one_writer : (ps ts : List Process) → AllZip ReadsMore ps ts → OneWriter (λ (p : Process). p.writes) ps → OneWriter (λ (p : Process). p.writes) ts
+    one_writer [] [] z one = tt
+    one_writer [] (t ∷ ts) z one = absurd z
+    one_writer (p ∷ ps) [] z one = absurd z
+    one_writer (p ∷ ps) (t ∷ ts) z one = (
+      λ q h x k.
+          let r = zip-back ReadsMore ps ts z.1 x k in
+          ap (λ qs. has qs q) r.2.writes ∙ one.0 q (ap (λ qs. has qs q) (sym z.0.writes) ∙ h) r.0 r.1,
+      one_writer ps ts z.1 one.1,
+    )
+
+    module _ (d e : Machine) (x : Extends extra d e) (sound : Sound d) where
+      honest : (p t : Process) → Honest p → ReadsMore p t → Honest t
+      honest p t h r = record {
+        by_reads = λ v u same q. (λ i. r.assigns i v q) ∙ h.by_reads v u (λ k a. same k (r.reads k a)) q ∙ sym (λ i. r.assigns i u q);
+        within = λ v q w. (λ i. r.assigns i v q) ∙ h.within v q (ap (λ qs. has qs q) (sym r.writes) ∙ w);
+      }
+
+      twin : (p t : Process) → Member d.combs p → ReadsMore p t → Twin m d e p t
+      twin p t k r = record {
+        from_zero = r.from_zero;
+        writes = subst (λ qs. SameWrites m p.writes qs) (sym r.writes) (same_writes p.writes (x.combs_below p k).writes);
+        assigns = λ v at q q' o w.
+            (λ i. r.assigns i (lifted m v) q')
+            ∙ (sound.honest p k).by_reads (lifted m v) v (λ c h. lifted_below v c ((x.combs_below p k).reads c h)) q'
+            ∙ ap (p.assigns v) (same_place q q' o);
+        wakes = λ v at. ap (λ qs. differs qs (lifted m v) e.initial) r.target_waits ∙ sym (ap (λ qs. differs qs v d.initial) r.source_waits);
+      }
+
+      edge_twin : (p : EdgeProcess) → Member d.edges p → EdgeTwin m d e p p
+      edge_twin p k = record {
+        writes = same_writes p.writes (x.edges_below p k).writes;
+        first = λ w at. (x.edges_below p k).runs e.initial d.initial (lifted m w) w x.initial (lifted_below w);
+        later = λ v w at atw. (x.edges_below p k).runs (lifted m v) v (lifted m w) w (lifted_below v) (lifted_below w);
+        updates = λ w at q q' o h. (x.edges_below p k).updates (lifted m w) w (lifted_below w) q' ∙ ap (p.updates w) (same_place q q' o);
+      }
+
+      simulates : Simulates m d e
+      simulates = record {
+        inputs = subst (λ qs. SameWrites m d.inputs qs) (sym x.inputs) (same_writes d.inputs x.inputs_below);
+        registers = subst (λ qs. SameWrites m d.registers qs) (sym x.registers) (same_writes d.registers x.registers_below);
+        start = λ q q' o r. x.start q' (is_below q q' o) ∙ ap d.start (same_place q q' o);
+        rest = λ q q' o i r. inl (x.rest q' (is_below q q' o) ∙ ap d.rest (same_place q q' o));
+        unwritten = λ q' o k v at. sym (x.beyond q' (is_beyond q' o));
+        twin = λ p k. (let r = zip-there ReadsMore d.combs e.combs x.combs p k in (r.0, r.1, twin p r.0 k r.2));
+        source = λ t k. (let r = zip-back ReadsMore d.combs e.combs x.combs t k in inl (r.0, r.1, twin r.0 t r.1 r.2));
+        edge_twin = λ p k. (p, subst (λ ps. Member ps p) (sym x.edges) k, edge_twin p k);
+        edge_source = λ t k. (let l = subst (λ ps. Member ps t) x.edges k in (t, l, edge_twin t l));
+      }
+
+      well_written : WellWritten e
+      well_written = record {
+        honest = λ t k. (let r = zip-back ReadsMore d.combs e.combs x.combs t k in honest r.0 t (sound.honest r.0 r.1) r.2);
+        one_writer = one_writer d.combs e.combs x.combs sound.one_writer;
+        edges_within = λ p k. sound.edges_within p (subst (λ ps. Member ps p) x.edges k);
+        edges_one_writer = subst (λ ps. OneWriter (λ (p : EdgeProcess). p.writes) ps) (sym x.edges) sound.edges_one_writer;
+      }
+
+      adds : AddsNoDependence m d e
+      adds t k =
+          let r = zip-back ReadsMore d.combs e.combs x.combs t k in
+          inl (
+            r.0,
+            r.1,
+            record {
+              is_twin = twin r.0 t r.1 r.2;
+              by_reads = λ b l f. (
+                  let c = followed_bit t b f in
+                  let s = zip-back ReadsMore d.combs e.combs x.combs b l in
+                  let low : IsBelow c.0 = (x.combs_below s.0 s.1).writes c.0 (ap (λ qs. has qs c.0) (sym s.2.writes) ∙ c.2) in
+                  writes_image c.0 c.0 (own_origin c.0 low) c.2 (r.2.no_more c.0 low c.1));
+            },
+          )
+
+      pub refines : Refines m d e
+      refines = record {
+        source_sound = sound;
+        source_typed = typed d;
+        target_well_written = well_written;
+        simulates = simulates;
+        adds_no_dependence = adds;
+      }
+
+      pub translates : Translates m d e
+      translates = Laws.refinement_translates m d e refines

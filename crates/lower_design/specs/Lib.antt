@@ -1,0 +1,5 @@
+pub mod Translatable
+pub mod Agreement
+pub mod Shape
+pub mod Lowering
+pub mod Lowered

@@ -1,6 +1,0 @@
-use Rattle.std.proofs.Common.{◌≡◌, ◌++◌, drop}
-use Rattle.sv2v_top.specs.target.Layout.{bytes_of, further_ports}
-use Rattle.sv2v_top.proofs.v_writer.write_further.Given as goal
-
-abbrev pub invariant-loop-name : goal.invariant-loop-name
-invariant-loop-name l = l.to ++ bytes_of (further_ports (drop l.name-index l.ports)) ≡ l.fn.to ++ bytes_of (further_ports l.ports)

@@ -1,7 +1,0 @@
-use Rattle.sv2v_top.specs.target.Layout.{module_layout}
-use Rattle.sv2v_top.proofs.Layouts.{turn, flat-step}
-use Rattle.sv2v_top.proofs.v_writer.write_modules.Goals as goal
-
-pub loop-m-preserved : goal.loop-m-preserved
-loop-m-preserved c =
-    turn _ _ _ _ _ _ c.in_ok-write_module.ensures (flat-step module_layout c.args.modules.now c.loop-m.m-index c.m-item.result c.loop-m-test.true c.m-item.is) c.loop-m.invariant

@@ -1,0 +1,4 @@
+pub mod Numbers
+pub mod Value
+pub mod Statements
+pub mod Machine

@@ -1,0 +1,12 @@
+pub mod Names
+pub mod Value
+pub mod Signals
+pub mod Statements
+pub mod Machine
+pub mod Reserved
+pub mod Tokens
+pub mod Symbols
+pub mod Table
+pub mod Meaning
+pub mod Reading
+pub mod Grammatical

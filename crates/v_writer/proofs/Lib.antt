@@ -1,0 +1,12 @@
+pub mod Margins
+pub mod Layouts
+pub mod Spelled
+pub mod Written
+pub mod WrittenItems
+pub mod Phrases
+pub mod Rows
+pub mod Derived
+pub mod DerivedStatements
+pub mod DerivedItems
+pub mod ReadsBack
+pub mod Examples
