@@ -1,0 +1,12 @@
+//! Macro expansion: the tokens of all files behind the directives of the compiler (IEEE 1800-2017 clause 22).
+#![tactic(auto)]
+
+mod macros;
+mod settings;
+mod stack;
+mod state;
+mod table;
+mod turn;
+mod words;
+
+pub use settings::{Define, Defines, ExpandFail, Expanded, Settings, Texts};
