@@ -5,3 +5,4 @@ pub mod Definitions
 pub mod Including
 pub mod Expansion
 pub mod Runs
+pub mod Code

@@ -1,6 +1,5 @@
 -- Macros and their bodies (IEEE 1800-2017 clause 22.5.1).
 use Rattle.std.specs.Prelude.{ℕ, ◌+◌, Bool, true, false, List, [], ◌∷◌, ◌++◌, map, length, fold, position, slice_index_or, Option, Some, None, if◌then◌else◌}
-use Rattle.std.specs.List.{sum_by}
 use Rattle.std.specs.Option.{option_map, option_and_then}
 use Rattle.std.specs.Str.{bytes_eq}
 use Rattle.sv_source.specs.declared.token.Place.{Place}
@@ -13,6 +12,7 @@ use Rattle.sv_preproc.specs.declared.settings.Define.{Define}
 use Rattle.sv_preproc.specs.declared.macros.Part.{Part}
 use Rattle.sv_preproc.specs.declared.macros.Part.TheVariants.{Plain, Formal, Join}
 use Rattle.sv_preproc.specs.declared.macros.Macro.{Macro}
+use Rattle.sv_preproc.specs.declared.state.Placing.{Placing}
 use Rattle.sv_preproc.specs.declared.state.Coming.{Coming}
 use Rattle.sv_preproc.specs.declared.state.Coming.TheVariants.{Raw, Kept, FileEnd, UseEnd}
 
@@ -64,13 +64,14 @@ replaced at arguments (Formal i) = map (λ t. Kept (moved at t)) (slice_index_or
 replaced at arguments Join = []
 
 -- how many tokens are placed, before pastes are made
+abbrev pub part_count : List (List Token) → Part → ℕ
+part_count arguments (Plain t) = 1
+part_count arguments (Formal i) = length (slice_index_or arguments i [])
+part_count arguments Join = 0
+
 abbrev pub placed_count : List (List Token) → List Part → ℕ
-placed_count arguments parts = sum_by (λ part. replaced_count part) parts
-  where
-    replaced_count : Part → ℕ
-    replaced_count (Plain t) = 1
-    replaced_count (Formal i) = length (slice_index_or arguments i [])
-    replaced_count Join = 0
+placed_count arguments [] = 0
+placed_count arguments (part ∷ parts) = part_count arguments part + placed_count arguments parts
 
 abbrev pub text_of : Coming → List ℕ
 text_of (Raw t) = t.text
@@ -93,13 +94,7 @@ joined at [] (y ∷ ys) = Some (y ∷ ys)
 joined at (x ∷ []) (y ∷ ys) = option_map (λ t. t ∷ ys) (pasted at (text_of x ++ text_of y))
 joined at (x ∷ z ∷ zs) (y ∷ ys) = option_map (λ rest. x ∷ rest) (joined at (z ∷ zs) (y ∷ ys))
 
--- a body that is placed in part: what is complete, what a paste may still be joined to, and whether a paste was the
--- last part
-pub record Placing : Type 0 where
-  pub complete : List Coming
-  pub chain : List Coming
-  pub pasting : Bool
-
+-- a body that is placed in part goes on with a part
 abbrev pub with_part : Place → List (List Token) → Placing → Part → Option Placing
 with_part at arguments p Join = Some (record p { pasting = true })
 with_part at arguments p part =

@@ -2,10 +2,12 @@
 #![tactic(auto)]
 
 mod macros;
+mod placing;
 mod settings;
 mod stack;
 mod state;
 mod table;
+mod tokens;
 mod turn;
 mod words;
 

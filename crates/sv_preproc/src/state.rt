@@ -98,7 +98,18 @@ pub struct State {
     /// How many macros were used, tokens placed and tokens delivered.
     pub spent: u64,
     /// The place behind the last file of the command line.
-    pub end: Place,
+    pub ending: Place,
     /// The tokens that were delivered.
     pub delivered: Tokens,
+}
+
+/// A macro's body that is placed in part.
+#[derive(Drop, Debug)]
+pub struct Placing {
+    /// What is complete.
+    pub complete: Items<Coming>,
+    /// What a paste may still be joined to.
+    pub chain: Items<Coming>,
+    /// Whether a paste was the last part.
+    pub pasting: bool,
 }
