@@ -1,5 +1,5 @@
 -- Bodies that are placed.
-use Rattle.std.proofs.Common.{◌≡◌, ℕ, List, [], ◌∷◌, ◌++◌, Option, Some, None, Result, Ok, Err, IfOk, zero, slice_get, refl, sym, ap, ◌∙◌, slice_set}
+use Rattle.std.proofs.Common.{◌≡◌, List, [], ◌∷◌, ◌++◌, Option, Some, None, Result, Ok, Err, IfOk, slice_get, refl, ap, ◌∙◌, slice_set}
 use Rattle.std.specs.Option.{option_map}
 use Rattle.sv_source.specs.declared.token.Place.{Place}
 use Rattle.sv_preproc.specs.Macros.{text_of, pasted, joined}

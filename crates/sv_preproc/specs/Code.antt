@@ -1,11 +1,11 @@
 -- What the program's data stand for.
-use Rattle.std.specs.Prelude.{◌≡◌, ℕ, ◌-◌, ◌^◌, ◌<◌, ◌≤◌, List, length, Option, Result, Ok, Err}
+use Rattle.std.specs.Prelude.{◌≡◌, ◌-◌, ◌^◌, ◌<◌, ◌≤◌, length, Result, Ok, Err}
 use Rattle.std.specs.Str.{bytes_eq}
 use Rattle.indexmap.specs.IndexMap as map
 use Rattle.sv_source.specs.declared.refusal.Fail.{Fail}
 use Rattle.sv_source.specs.declared.refusal.Fail.TheVariants.{Memory, Refused}
 use Rattle.sv_preproc.specs.Macros.{Macros}
-use Rattle.sv_preproc.specs.Expansion as spec
+use Rattle.sv_preproc.specs.States as spec
 use Rattle.sv_preproc.specs.declared.table.Table.{Table}
 use Rattle.sv_preproc.specs.declared.state.State.{State}
 use Rattle.sv_preproc.specs.declared.turn.Turn.{Turn}

@@ -3,6 +3,9 @@ pub mod Tokens
 pub mod Macros
 pub mod Definitions
 pub mod Including
+pub mod States
+pub mod Calls
+pub mod Branches
 pub mod Expansion
 pub mod Runs
 pub mod Code

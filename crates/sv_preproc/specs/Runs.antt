@@ -8,7 +8,8 @@ use Rattle.sv_source.specs.declared.refusal.Refusal.{Refusal}
 use Rattle.sv_lexer.specs.Lexing.{behind_bytes, tokens_of}
 use Rattle.sv_preproc.specs.Macros.{command_macros}
 use Rattle.sv_preproc.specs.Including.{Held, first_held, Tried}
-use Rattle.sv_preproc.specs.Expansion.{State, Step, goes, looks, done, breaks, step, file_limit, files_limit, head_place}
+use Rattle.sv_preproc.specs.States.{State, Step, goes, looks, done, breaks, file_limit, files_limit}
+use Rattle.sv_preproc.specs.Expansion.{step, head_place}
 use Rattle.sv_preproc.specs.declared.settings.Settings.{Settings}
 use Rattle.sv_preproc.specs.declared.state.Coming.TheVariants.{Raw, FileEnd}
 use Rattle.sv_preproc.specs.declared.turn.Search.{Search}

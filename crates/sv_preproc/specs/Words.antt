@@ -1,6 +1,5 @@
 -- The names of directives (IEEE 1800-2017 clause 22), without their backquote.
-use Rattle.std.specs.Prelude.{ℕ, List, Option, Some, None, if◌then◌else◌, ◌||◌, codes}
-use Rattle.std.specs.Option.{option_or}
+use Rattle.std.specs.Prelude.{ℕ, List, if◌then◌else◌, codes}
 use Rattle.std.specs.Str.{bytes_eq}
 use Rattle.sv_preproc.specs.declared.words.Condition.TheVariants.{Ifdef, Ifndef, Elsif, Else, Endif}
 use Rattle.sv_preproc.specs.declared.words.Word.{Word}

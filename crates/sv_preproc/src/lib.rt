@@ -1,6 +1,8 @@
 //! Macro expansion: the tokens of all files behind the directives of the compiler (IEEE 1800-2017 clause 22).
 #![tactic(auto)]
 
+mod calls;
+mod lines;
 mod macros;
 mod placing;
 mod settings;

@@ -1,4 +1,4 @@
-use Rattle.std.proofs.Common.{◌≡◌, ◌++◌, sym, ap, ◌∙◌, slice_set}
+use Rattle.std.proofs.Common.{◌++◌, sym, ap, ◌∙◌, slice_set}
 use Rattle.std.specs.Option.{option_map}
 use Rattle.sv_preproc.proofs.Placed.{joined_of, ok_same}
 use Rattle.sv_preproc.proofs.placing.joined.Goals as goal
