@@ -1,26 +1,14 @@
 -- Conditionals (IEEE 1800-2017 clause 22.6).
-use Rattle.std.specs.Prelude.{◌≡◌, ℕ, zero, suc, ◌+◌, ◌-◌, ◌^◌, ◌==◌, ◌&&◌, ◌||◌, not, nat_lt, Bool, true, false, List, [], ◌∷◌, ◌++◌, drop, length, slice_get, Option, Some, None, if◌then◌else◌, codes}
+use Rattle.std.specs.Prelude.{ℕ, not, Bool, true, false, List, [], ◌∷◌, Option, Some, None, if◌then◌else◌}
 use Rattle.std.specs.Option.{is_some}
-use Rattle.sv_source.specs.declared.token.Kind.{Kind}
-use Rattle.sv_source.specs.declared.token.Place.{Place}
 use Rattle.sv_source.specs.declared.token.Token.{Token}
-use Rattle.sv_source.specs.declared.refusal.Refusal.{Refusal}
-use Rattle.sv_preproc.specs.Tokens.{is, is_name, is_word, is_decimal, is_string, is_line, is_continued, name_of, said_by}
-use Rattle.sv_preproc.specs.Macros.{Macros, defined, undefined, marked, placed_count, placed}
-use Rattle.sv_preproc.specs.declared.macros.Macro.{Macro}
-use Rattle.sv_preproc.specs.declared.state.Coming.{Coming}
-use Rattle.sv_preproc.specs.declared.state.Coming.TheVariants.{Raw, Kept, FileEnd, UseEnd}
 use Rattle.sv_preproc.specs.declared.state.Branch.{Branch}
 use Rattle.sv_preproc.specs.declared.state.Branch.TheVariants.{Waiting, Taken, Over}
 use Rattle.sv_preproc.specs.declared.state.Conditional.{Conditional}
 use Rattle.sv_preproc.specs.declared.state.OpenFile.{OpenFile}
-use Rattle.sv_preproc.specs.declared.state.Bracket.{Bracket}
-use Rattle.sv_preproc.specs.declared.state.Bracket.TheVariants.{Round, Square, Curly}
-use Rattle.sv_preproc.specs.declared.state.Call.{Call}
-use Rattle.sv_preproc.specs.declared.turn.Search.{Search}
 use Rattle.sv_preproc.specs.declared.words.Condition.{Condition}
-use Rattle.sv_preproc.specs.declared.words.Condition.TheVariants.{Ifdef, Ifndef, Elsif, Else, Endif}
-use Rattle.sv_preproc.specs.States.{State, Step, goes, looks, done, breaks, spending_limit, depth_limit, broken, with_coming, next_raw, next_any, behind_next, next_name}
+use Rattle.sv_preproc.specs.declared.words.Condition.TheVariants.{Ifdef, Ifndef, Elsif, Else}
+use Rattle.sv_preproc.specs.States.{State, Step, goes, broken, behind_next, next_name}
 
 -- a conditional whose test is made
 abbrev pub branch_if : Bool → Branch
@@ -61,14 +49,18 @@ if_begins s file files t wanted =
     ]
 
 -- another branch of a conditional
+abbrev pub branch_begins : State → OpenFile → List OpenFile → Conditional → List Conditional → Branch → Bool → Step
+branch_begins s file files c cs branch last =
+    goes (with_conditionals s file files ((record { first = c.first; branch = branch; last = last }) ∷ cs))
+
 abbrev pub elsif_named : State → OpenFile → List OpenFile → Conditional → List Conditional → Token → Option (List ℕ) → Step
 elsif_named s file files c cs t None = broken s 201 t
 elsif_named s file files c cs t (Some name) =
-    goes (with_conditionals s file files ((record c { branch = branch_if (is_some (s.macros name)) }) ∷ cs))
+    branch_begins s file files c cs (branch_if (is_some (s.macros name))) false
 
 abbrev pub elsif_in : State → OpenFile → List OpenFile → Conditional → List Conditional → Token → Branch → Step
 elsif_in s file files c cs t Waiting = elsif_named (behind_next s) file files c cs t (next_name s)
-elsif_in s file files c cs t _ = goes (with_conditionals s file files ((record c { branch = Over }) ∷ cs))
+elsif_in s file files c cs t _ = branch_begins s file files c cs Over false
 
 abbrev pub branch_of_else : Branch → Branch
 branch_of_else Waiting = Taken
@@ -79,7 +71,7 @@ abbrev pub in_conditional : State → OpenFile → List OpenFile → Conditional
 in_conditional s file files c cs t Elsif = elim c.last [ true ↦ broken s 205 t | false ↦ elsif_in s file files c cs t c.branch ]
 in_conditional s file files c cs t Else = elim c.last [
   | true ↦ broken s 205 t
-  | false ↦ goes (with_conditionals s file files ((record c { branch = branch_of_else c.branch; last = true }) ∷ cs))
+  | false ↦ branch_begins s file files c cs (branch_of_else c.branch) true
 ]
 in_conditional s file files c cs t _ = goes (with_conditionals s file files cs)
 

@@ -1,6 +1,7 @@
 //! Macro expansion: the tokens of all files behind the directives of the compiler (IEEE 1800-2017 clause 22).
 #![tactic(auto)]
 
+mod branches;
 mod calls;
 mod lines;
 mod macros;

@@ -1,6 +1,6 @@
 // The macros by name.
 ghost use Rattle.std.specs.Prelude.{◌≡◌, OnOk};
-ghost use Rattle.std.specs.Option.{option_copied};
+ghost use Rattle.std.specs.Option.{option_copied, is_some};
 ghost use Rattle.sv_preproc.specs.Macros.{defined, undefined, marked};
 ghost use Rattle.sv_preproc.specs.Code.{macros_in};
 
@@ -30,6 +30,13 @@ impl Table {
         ensures { option_copied result ≡ macros_in self.now name.now }
     {
         self.macros.get(name)
+    }
+
+    /// Whether there is a macro of this name.
+    pub fn has(&self, name: &Text) -> bool
+        ensures { result ≡ is_some (macros_in self.now name.now) }
+    {
+        self.find(name).is_some()
     }
 
     /// The name stands for this macro from now on.
