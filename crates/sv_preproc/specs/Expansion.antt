@@ -19,7 +19,9 @@ use Rattle.sv_preproc.specs.declared.state.Bracket.TheVariants.{Round, Square, C
 use Rattle.sv_preproc.specs.declared.state.Call.{Call}
 use Rattle.sv_preproc.specs.declared.turn.Search.{Search}
 use Rattle.sv_source.specs.declared.token.Kind.TheVariants.{Cut, Directive, Line, Continued, Quote}
-use Rattle.sv_preproc.specs.Definitions.{Defining, defines, breaks_at, breaks_list, ill_formed, logical_line, defining}
+use Rattle.sv_preproc.specs.Definitions.{line_of, behind_line, defining}
+use Rattle.sv_preproc.specs.declared.definition.Defining.{Defining}
+use Rattle.sv_preproc.specs.declared.definition.Defining.TheVariants.{Defines, BreaksAt, BreaksList, IllFormed}
 use Rattle.sv_preproc.specs.Including.{between_quotes, candidates}
 use Rattle.sv_preproc.specs.declared.settings.Settings.{Settings}
 use Rattle.sv_preproc.specs.declared.words.Condition.{Condition}
@@ -31,13 +33,13 @@ use Rattle.sv_preproc.specs.Branches.{skips, branches}
 
 -- a definition
 abbrev pub definition : State → Token → Defining → Step
-definition s t (defines name m) = goes (record s { macros = defined s.macros name m })
-definition s t (breaks_at rule token) = broken s rule token
-definition s t breaks_list = broken s 203 t
-definition s t ill_formed = broken s 201 t
+definition s t (Defines name m) = goes (record s { macros = defined s.macros name m })
+definition s t (BreaksAt rule token) = broken s rule token
+definition s t BreaksList = broken s 203 t
+definition s t IllFormed = broken s 201 t
 
 abbrev pub define : State → Token → Step
-define s t = definition (with_coming s (logical_line s.coming).behind) t (defining (logical_line s.coming).line)
+define s t = definition (with_coming s (behind_line s.coming)) t (defining (line_of s.coming))
 
 abbrev pub undefine_named : State → Token → Option (List ℕ) → Step
 undefine_named s t None = broken s 201 t

@@ -3,6 +3,7 @@
 
 mod branches;
 mod calls;
+mod definition;
 mod lines;
 mod macros;
 mod placing;
