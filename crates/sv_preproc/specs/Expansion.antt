@@ -27,7 +27,9 @@ use Rattle.sv_preproc.specs.declared.settings.Settings.{Settings}
 use Rattle.sv_preproc.specs.declared.words.Condition.{Condition}
 use Rattle.sv_preproc.specs.declared.words.Word.{Word}
 use Rattle.sv_preproc.specs.declared.words.Word.TheVariants as W
-use Rattle.sv_preproc.specs.States.{State, Step, goes, looks, done, breaks, spending_limit, depth_limit, broken, with_coming, next_raw, next_any, behind_next, next_name}
+use Rattle.sv_preproc.specs.States.{State, first_by, raw_token, Step, goes, looks, done, breaks, spending_limit, depth_limit, broken, with_coming, next_raw, next_any, behind_next, next_name}
+use Rattle.sv_preproc.specs.declared.shapes.Shape.{Shape}
+use Rattle.sv_preproc.specs.declared.shapes.Shape.TheVariants.{AnyName, AnyWord, Number, Slash}
 use Rattle.sv_preproc.specs.Calls.{given_on, use_begins}
 use Rattle.sv_preproc.specs.Branches.{skips, branches}
 
@@ -69,20 +71,47 @@ include_from set s t (Some string) = elim (is_string string) [ true ↦ include_
 abbrev pub include : Settings → State → Token → Step
 include set s t = include_from set (behind_next s) t (next_raw s)
 
--- directives that are dropped with tokens of their line, each passing its test
-abbrev pub dropped_with : State → Token → List (Token → Bool) → List Coming → Step
-dropped_with s t [] coming = goes (with_coming s coming)
-dropped_with s t (test ∷ tests) (Raw u ∷ coming) = elim (is_continued u) [
-  | true ↦ dropped_with s t (test ∷ tests) coming
-  | false ↦ elim (test u) [ true ↦ dropped_with s t tests coming | false ↦ broken s 201 t ]
-]
-dropped_with s t (test ∷ tests) _ = broken s 201 t
+-- directives that are dropped with tokens of their line, one of each shape
+abbrev pub fits : Shape → Token → Bool
+fits AnyName t = is_name t
+fits AnyWord t = is_word t
+fits Number t = is_decimal t
+fits Slash t = is t (codes "/")
 
-abbrev pub net_type_tests : List (Token → Bool)
-net_type_tests = is_word ∷ []
+abbrev pub first_fits : Shape → Option Token → Bool
+first_fits shape None = false
+first_fits shape (Some t) = fits shape t
 
-abbrev pub timescale_tests : List (Token → Bool)
-timescale_tests = is_decimal ∷ is_name ∷ (λ t. is t (codes "/")) ∷ is_decimal ∷ is_name ∷ []
+abbrev pub is_joint : Coming → Bool
+is_joint (Raw t) = is_continued t
+is_joint (Kept t) = false
+is_joint FileEnd = false
+is_joint (UseEnd name) = false
+
+abbrev pub behind_joints : List Coming → List Coming
+behind_joints [] = []
+behind_joints (item ∷ coming) = elim (is_joint item) [ true ↦ behind_joints coming | false ↦ item ∷ coming ]
+
+abbrev pub behind_shapes : List Shape → List Coming → Option (List Coming)
+behind_shapes [] coming = Some coming
+behind_shapes (shape ∷ shapes) coming =
+    elim (first_fits shape (first_by raw_token (behind_joints coming))) [
+      | true ↦ behind_shapes shapes (drop 1 (behind_joints coming))
+      | false ↦ None
+    ]
+
+abbrev pub dropped : State → Token → Option (List Coming) → Step
+dropped s t None = broken s 201 t
+dropped s t (Some coming) = goes (with_coming s coming)
+
+abbrev pub dropped_with : State → Token → List Shape → Step
+dropped_with s t shapes = dropped s t (behind_shapes shapes s.coming)
+
+abbrev pub net_type_shapes : List Shape
+net_type_shapes = AnyWord ∷ []
+
+abbrev pub timescale_shapes : List Shape
+timescale_shapes = Number ∷ AnyName ∷ Slash ∷ Number ∷ AnyName ∷ []
 
 -- a directive in a file
 abbrev pub obeyed : Settings → State → Token → Word → Step
@@ -91,18 +120,18 @@ obeyed set s t W.Define = define s t
 obeyed set s t W.Undef = undefine s t
 obeyed set s t W.Include = include set s t
 obeyed set s t W.Alone = goes s
-obeyed set s t W.NetType = dropped_with s t net_type_tests s.coming
-obeyed set s t W.Timescale = dropped_with s t timescale_tests s.coming
+obeyed set s t W.NetType = dropped_with s t net_type_shapes
+obeyed set s t W.Timescale = dropped_with s t timescale_shapes
 obeyed set s t W.Unsupported = broken s 201 t
 obeyed set s t W.Use = use_begins s t
 
 -- no directive stands in a body or an argument
+abbrev pub no_calls : List Call → Bool
+no_calls [] = true
+no_calls (call ∷ calls) = false
+
 abbrev pub in_file : State → Bool
-in_file s = outside_calls s.calls
-  where
-    outside_calls : List Call → Bool
-    outside_calls [] = s.uses == 0
-    outside_calls (call ∷ calls) = false
+in_file s = no_calls s.calls && (s.uses == 0)
 
 abbrev pub directive : Settings → State → Token → Word → Step
 directive set s t W.Use = use_begins s t

@@ -4,12 +4,15 @@
 mod branches;
 mod calls;
 mod definition;
+mod including;
 mod lines;
 mod macros;
 mod placing;
 mod settings;
+mod shapes;
 mod stack;
 mod state;
+mod step;
 mod table;
 mod tokens;
 mod turn;
