@@ -111,12 +111,12 @@ outside_brackets s call calls t =
       ]
     ]
 
+abbrev pub in_brackets : State → Call → List Call → Token → List Bracket → Step
+in_brackets s call calls t [] = outside_brackets s call calls t
+in_brackets s call calls t (b ∷ bs) = call_goes_on s call calls t
+
 abbrev pub in_call : State → Call → List Call → Token → Step
-in_call s call calls t = in_brackets call.brackets
-  where
-    in_brackets : List Bracket → Step
-    in_brackets [] = outside_brackets s call calls t
-    in_brackets (b ∷ bs) = call_goes_on s call calls t
+in_call s call calls t = in_brackets s call calls t call.brackets
 
 -- a token is given on: what a body inside the argument gives doesn't split it
 abbrev pub given_to : State → Token → List Call → Step

@@ -9,3 +9,4 @@ pub mod Branches
 pub mod Expansion
 pub mod Runs
 pub mod Code
+pub mod Answers

@@ -4,8 +4,10 @@
 mod branches;
 mod calls;
 mod definition;
+mod expansion;
 mod including;
 mod lines;
+mod loading;
 mod macros;
 mod placing;
 mod settings;
