@@ -13,7 +13,8 @@ use Rattle.sv_preproc.specs.declared.state.Coming.{Coming}
 use Rattle.sv_preproc.specs.declared.state.Coming.TheVariants.{Raw, Kept, FileEnd, UseEnd}
 use Rattle.sv_preproc.specs.declared.state.Bracket.{Bracket}
 use Rattle.sv_preproc.specs.declared.state.Call.{Call}
-use Rattle.sv_preproc.proofs.Weights.{weight, most_weight, Within, Behind, Waits, Falls, by_test, settled, lines_fall, next_falls, behind_falls, count_placed}
+use Rattle.sv_preproc.specs.Left.{weight, most_weight}
+use Rattle.sv_preproc.proofs.Weights.{Within, Behind, Waits, Falls, by_test, settled, lines_fall, next_falls, behind_falls, count_placed}
 
 delivered_falls : (count w : ℕ) (s : State) (t : Token) → Within count w s → Falls count w (calls.delivered_outside s t)
 delivered_falls count w s t i = by_test count w (nat_lt spending_limit (s.spent + 1)) _ _ (λ _. tt) (λ e.

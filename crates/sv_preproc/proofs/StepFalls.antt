@@ -8,6 +8,9 @@ use Rattle.sv_source.specs.declared.token.Token.{Token}
 use Rattle.sv_preproc.specs.Tokens.{is_string, said_by}
 use Rattle.sv_preproc.specs.Definitions.{ends_line, behind_line, line_of, defining}
 use Rattle.sv_preproc.specs.States.{State, Step, goes, looks, done, breaks, with_coming, depth_limit, behind_lines, raw_token, first_by, next_raw, next_name, behind_next}
+use Rattle.sv_lexer.specs.Lexing.{tokens_of}
+use Rattle.sv_preproc.specs.Including.{Held}
+use Rattle.sv_preproc.specs.Runs.{room_left, opened}
 use Rattle.sv_preproc.specs.Branches as branches
 use Rattle.sv_preproc.specs.Expansion as spec
 use Rattle.sv_preproc.specs.declared.settings.Settings.{Settings}
@@ -25,7 +28,8 @@ use Rattle.sv_preproc.specs.declared.state.Branch.TheVariants.{Waiting, Taken, O
 use Rattle.sv_preproc.specs.declared.state.Conditional.{Conditional}
 use Rattle.sv_preproc.specs.declared.state.OpenFile.{OpenFile}
 use Rattle.sv_preproc.specs.declared.state.Call.{Call}
-use Rattle.sv_preproc.proofs.Weights.{weight, most_weight, Within, Behind, Waits, Falls, by_test, settled, shorter, next_falls, behind_falls, drop_one}
+use Rattle.sv_preproc.specs.Left.{weight, most_weight, Ready}
+use Rattle.sv_preproc.proofs.Weights.{Within, Behind, Waits, Falls, by_test, settled, shorter, next_falls, behind_falls, drop_one}
 use Rattle.sv_preproc.proofs.Falls.{next_within, given_on_falls, use_begins_falls}
 
 -- with the same counts, and no more to come
@@ -217,13 +221,6 @@ body_ends_falls : (count w : ℕ) (s : State) (name : List ℕ) (open_calls : Li
 body_ends_falls count w s name [] i = body_closed_falls count w s name i
 body_ends_falls count w s name (call ∷ rest) i = by_test count w (call.level == s.uses) _ _ (λ _. tt) (λ _. body_closed_falls count w s name i)
 
--- before a step
-pub record Ready (count : ℕ) (s : State) : Type 0 where
-  pub spent : s.spent ≤ 2 ^ 22
-  pub loaded : s.loaded ≤ 2 ^ 26
-  pub uses : s.uses + weight count s ≤ most_weight
-  pub names : length s.names + weight count s ≤ most_weight
-
 one_less : (count : ℕ) (s : State) (item : Coming) (rest : List Coming) → s.coming ≡ item ∷ rest → Ready count s → Within count (weight count s) (with_coming s rest)
 one_less count s item rest e r = record { spent = r.spent; loaded = r.loaded; less = omega (arith, ap length e); uses = r.uses; names = r.names }
 
@@ -247,3 +244,22 @@ at_falls set s (UseEnd name ∷ rest) e r = body_ends_falls (length set.files) (
 
 pub step_falls : (set : Settings) (s : State) → Ready (length set.files) s → Falls (length set.files) (weight (length set.files) s) (spec.step set s)
 step_falls set s r = at_falls set s s.coming refl r
+
+-- a file is opened
+mapped_length : (tokens : List Token) → length (map Raw tokens) ≡ length tokens
+mapped_length [] = refl
+mapped_length (t ∷ ts) = ap suc (mapped_length ts)
+
+pub opened_falls : (count w : ℕ) (top : Bool) (s : State) (held : Held) → length (tokens_of (length s.names) held.bytes) ≤ length held.bytes → length held.bytes ≤ room_left s → Waits count w s → Behind count w (opened top s held)
+opened_falls count w top s held few fits i =
+    let tokens = mapped_length (tokens_of (length s.names) held.bytes) in
+    let all = length-append (map Raw (tokens_of (length s.names) held.bytes)) (FileEnd ∷ s.coming) in
+    let names = length-append s.names (held.path ∷ []) in
+    let room : length held.bytes ≤ 2 ^ 26 - s.loaded = omega arith in
+    record {
+      spent = i.spent;
+      loaded = omega (arith, i.loaded);
+      less = omega (arith, i.less, i.loaded);
+      uses = omega (arith, i.less, i.uses, i.loaded);
+      names = omega (arith, i.less, i.names, i.loaded);
+    }

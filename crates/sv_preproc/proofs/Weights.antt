@@ -7,20 +7,12 @@ use Rattle.sv_source.specs.declared.token.Token.{Token}
 use Rattle.sv_preproc.specs.Tokens.{moved}
 use Rattle.sv_preproc.specs.Macros.{replaced, part_count, placed_count, pasted, joined, with_part, with_parts, placed}
 use Rattle.sv_preproc.specs.States.{State, Step, goes, looks, done, breaks, is_newline, behind_lines, raw_token, any_token, first_by}
+use Rattle.sv_preproc.specs.Left.{weight, most_weight}
 use Rattle.sv_preproc.specs.declared.macros.Part.{Part}
 use Rattle.sv_preproc.specs.declared.macros.Part.TheVariants.{Plain, Formal, Join}
 use Rattle.sv_preproc.specs.declared.state.Coming.{Coming}
 use Rattle.sv_preproc.specs.declared.state.Coming.TheVariants.{Raw, Kept, FileEnd, UseEnd}
 use Rattle.sv_preproc.specs.declared.state.Placing.{Placing}
-
--- what is left to do: what comes and is being read, the bytes that may be loaded and the tokens that may be spent, and
--- the files of the command line
-abbrev pub weight : ℕ → State → ℕ
-weight count s = length s.coming + length s.calls + (2 ^ 26 - s.loaded) + (2 ^ 22 - s.spent) + 2 * (count - s.next)
-
--- the most that is left at the start
-abbrev pub most_weight : ℕ
-most_weight = 2 ^ 26 + 2 ^ 22 + 2 ^ 31
 
 -- in a step from a state of this weight
 pub record Within (count w : ℕ) (s : State) : Type 0 where

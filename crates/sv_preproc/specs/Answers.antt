@@ -2,6 +2,8 @@
 use Rattle.std.specs.Prelude.{◌≡◌, ℕ, ◌<◌, ◌≤◌, Bool, true, false, List, ◌∷◌, [], ◌++◌, length, Option, Some, None, Result, Ok, Err}
 use Rattle.sv_source.specs.Faults.{Rose}
 use Rattle.sv_source.specs.Loading.{Contents}
+use Rattle.sv_source.specs.declared.refusal.Fail.{Fail}
+use Rattle.sv_source.specs.declared.refusal.Fail.TheVariants as fail
 use Rattle.sv_preproc.specs.Including.{Held, first_held, Tried}
 use Rattle.sv_preproc.specs.States.{State, Step, goes, looks, breaks}
 use Rattle.sv_preproc.specs.Expansion.{step}
@@ -58,6 +60,11 @@ abbrev pub Says : ExpandFail → Step → Type 0
 Says (Refused refusal files) step = step ≡ breaks refusal files
 Says Memory step = ⊥
 Says (FileFault path) step = ⊥
+
+-- a step that stopped is answered with these files
+abbrev pub Stops : Fail → List (List ℕ) → ExpandFail → Type 0
+Stops fail.Memory files result = result ≡ Memory
+Stops (fail.Refused refusal) files result = result ≡ Refused refusal files
 
 -- a file was opened, which had room
 abbrev pub Opens : Bool → Bool → State → State → Type 0

@@ -10,3 +10,4 @@ pub mod Expansion
 pub mod Runs
 pub mod Code
 pub mod Answers
+pub mod Left

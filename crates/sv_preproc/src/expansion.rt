@@ -1,9 +1,10 @@
 // Whole expansions (IEEE 1800-2017 clause 22).
 ghost use Rattle.std.specs.Prelude.{◌≡◌, ◌≤◌, ◌<◌, ◌^◌, ◌++◌, ◌∷◌, [], fold, length, OnOk, IfOk};
-ghost use Rattle.sv_preproc.specs.Answers.{Cause, Says, Opens, LoadsTold, AdvancesTold, AnswersTold};
+ghost use Rattle.sv_preproc.specs.Answers.{Cause, Says, Opens, Stops, LoadsTold, AdvancesTold, AnswersTold};
 ghost use Rattle.sv_preproc.specs.Code.{seen, macros_in, Bounded};
 ghost use Rattle.sv_preproc.specs.Macros.{command_macros};
 ghost use Rattle.sv_preproc.specs.Runs as spec;
+ghost use Rattle.sv_preproc.specs.Left.{Ready, Settles};
 
 use crate::definition::parts_of;
 use crate::loading::{Found, load_first};
@@ -100,4 +101,81 @@ impl State {
             Found::TooLong => Err(self.lost(alloc, 102, search)?),
         }
     }
+
+    // A rule is broken in a step.
+    fn stopped(&mut self, alloc: Global, fail: Fail) -> ExpandFail
+        ensures { Stops fail self.old.names result }
+    {
+        match fail {
+            Fail::Memory => ExpandFail::Memory,
+            Fail::Refused(refusal) => ExpandFail::Refused {
+                refusal,
+                files: mem::replace(&mut self.names, FileNames::new(alloc)),
+            },
+        }
+    }
+
+    // One step, with the file that it wants: whether the expansion goes on.
+    fn advance<F: Files>(
+        &mut self,
+        alloc: Global,
+        set: &Settings,
+        files: &mut F,
+    ) -> Result<bool, ExpandFail>
+        requires few { length set.now.files ≤ 2 ^ 30 }
+        requires ready { Ready (length set.now.files) (seen self.old) }
+        ensures answer { AdvancesTold set.now (F.contents files.old) (seen self.old) (seen self.new) result }
+        ensures falls { Settles (length set.now.files) (seen self.old) (seen self.new) result }
+        ensures same { F.contents files.new ≡ F.contents files.old }
+        ensures cause { Cause result (F.faults files.old) (F.faults files.new) }
+    {
+        match self.step(alloc, set) {
+            Ok(Turn::Go) => Ok(true),
+            Ok(Turn::Look(search)) => self.load(alloc, files, search),
+            Ok(Turn::Done) => Ok(false),
+            Err(fail) => Err(self.stopped(alloc, fail)),
+        }
+    }
+
+    // The tokens, and the end of all files.
+    fn finished(self, alloc: Global) -> Result<Expanded, AllocError>
+        ensures { IfOk result (λ e. (e.tokens ≡ self.delivered ++ spec.end_token self.ending ∷ []) × (e.files ≡ self.names)) }
+    {
+        let State {
+            mut delivered,
+            names,
+            ending,
+            ..
+        } = self;
+        delivered.push(Token {
+            kind: Kind::End,
+            text: Text::from_bytes(alloc, b"<end>")?,
+            place: ending,
+        })?;
+        Ok(Expanded {
+            tokens: delivered,
+            files: names,
+        })
+    }
+}
+
+/// The tokens of the files behind the directives of the compiler, with one of kind `End` at the end, and the files that
+/// were loaded (IEEE 1800-2017 clause 22). The settings name at most 2^30 files.
+///
+/// It fails where a rule is broken, at the first token that breaks one; where a load failed; and for want of memory.
+pub fn expand<F: Files>(
+    alloc: Global,
+    set: &Settings,
+    files: &mut F,
+) -> Result<Expanded, ExpandFail>
+    requires { length set.now.files ≤ 2 ^ 30 }
+    // Where the contents of the files are told, the answer is what the expansion comes to.
+    ensures answer { AnswersTold set.now (F.contents files.old) result }
+    ensures same { F.contents files.new ≡ F.contents files.old }
+    // A fault is answered only where the count of faults rose; tokens and refusals leave the count as it was.
+    ensures cause { Cause result (F.faults files.old) (F.faults files.new) }
+{
+    let mut state = State::start(alloc, set)?;
+    while state.advance(alloc, set, files)? {}
+    Ok(state.finished(alloc)?)
 }

@@ -20,4 +20,5 @@ mod tokens;
 mod turn;
 mod words;
 
+pub use expansion::expand;
 pub use settings::{Define, Defines, ExpandFail, Expanded, Settings, Texts};
