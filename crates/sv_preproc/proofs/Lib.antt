@@ -5,3 +5,5 @@ pub mod Weights
 pub mod Falls
 pub mod StepFalls
 pub mod Searches
+pub mod Advance
+pub mod Whole
