@@ -31,7 +31,7 @@ pub opens_settles : (set : Settings) (s next now : State) (top : Bool) (result :
     IfOk result (λ b. Opens b top next now) → Settles (length set.files) s now result
 opens_settles set s next now top (Ok true) w o =
     ready_behind (length set.files) (weight (length set.files) s) now (let P : State → Type 0 = Behind (length set.files) (weight (length set.files) s) in
-        subst P (sym o.1.2) (opened_falls (length set.files) (weight (length set.files) s) top next o.1.0 (tokens_from-count 0 (record { file = length next.names; line = 1; col = 1 }) o.1.0.bytes) o.1.1 w))
+    subst P (sym o.1.2) (opened_falls (length set.files) (weight (length set.files) s) top next o.1.0 (tokens_from-count 0 (record { file = length next.names; line = 1; col = 1 }) o.1.0.bytes) o.1.1 w))
 opens_settles set s next now top (Ok false) w o = tt
 opens_settles set s next now top (Err fail) w o = tt
 

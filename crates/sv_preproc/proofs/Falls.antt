@@ -55,7 +55,7 @@ without_call count w s rest i e = record { spent = i.spent; loaded = i.loaded; l
 outside_falls : (count w : ℕ) (s : State) (call : Call) (rest : List Call) (t : Token) → Within count w s → length s.calls ≡ length rest + 1 → Falls count w (calls.outside_brackets s call rest t)
 outside_falls count w s call rest t i e = by_test count w (is t (codes ",")) _ _ (λ _. same_calls count w s _ rest i e) (λ _.
     by_test count w (is t (codes ")")) _ _ (λ _. complete_falls count w (record s { calls = rest }) call (without_call count w s rest i e) (omega (arith, i.less))) (λ _.
-        same_calls count w s _ rest i e))
+    same_calls count w s _ rest i e))
 
 call_falls : (count w : ℕ) (s : State) (call : Call) (rest : List Call) (t : Token) (brackets : List Bracket) → Within count w s → length s.calls ≡ length rest + 1 → Falls count w (calls.in_brackets s call rest t brackets)
 call_falls count w s call rest t [] i e = outside_falls count w s call rest t i e
@@ -77,12 +77,12 @@ from_falls : (count w : ℕ) (s : State) (used : Token) (arity : ℕ) (next : Op
     ((t : Token) → next ≡ Some t → weight count s + 1 < w) → Falls count w (calls.call_from s used arity next)
 from_falls count w s used arity None i less = tt
 from_falls count w s used arity (Some t) i less = by_test count w (is t (codes "(")) _ _ (λ _. record {
-    spent = i.spent;
-    loaded = i.loaded;
-    less = omega (arith, less t refl);
-    uses = omega (arith, i.uses, less t refl);
-    names = omega (arith, i.names, less t refl);
-  }) (λ _. tt)
+  spent = i.spent;
+  loaded = i.loaded;
+  less = omega (arith, less t refl);
+  uses = omega (arith, i.uses, less t refl);
+  names = omega (arith, i.names, less t refl);
+}) (λ _. tt)
 
 use_falls : (count w : ℕ) (s : State) (used : Token) (arity : Option ℕ) → Within count w s → weight count s + 1 < w → Falls count w (calls.use_of s used arity)
 use_falls count w s used None i less = macro_falls count w s used [] (s.macros (name_of used)) i less
@@ -93,8 +93,8 @@ used_falls count w s used None i = tt
 used_falls count w s used (Some m) i = by_test count w m.busy _ _ (λ _. tt) (λ _. by_test count w (nat_lt spending_limit (s.spent + 1)) _ _ (λ _. tt) (λ e.
     let fits : s.spent + 1 ≤ 2 ^ 22 = grind (arith, nat_tests) in
     use_falls count w (record s { spent = s.spent + 1 }) used m.arity
-      (record { spent = fits; loaded = i.loaded; less = omega (arith, i.less); uses = i.uses; names = i.names })
-      (omega (arith, i.less))))
+    (record { spent = fits; loaded = i.loaded; less = omega (arith, i.less); uses = i.uses; names = i.names })
+    (omega (arith, i.less))))
 
 pub use_begins_falls : (count w : ℕ) (s : State) (used : Token) → Within count w s → Falls count w (calls.use_begins s used)
 use_begins_falls count w s used i = used_falls count w s used (s.macros (name_of used)) i

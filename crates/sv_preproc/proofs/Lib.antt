@@ -1,3 +1,4 @@
+pub mod Examples
 pub mod Placed
 pub mod Formals
 pub mod Directories

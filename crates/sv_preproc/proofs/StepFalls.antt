@@ -140,7 +140,7 @@ shapes_fall : (shapes : List Shape) (coming rest : List Coming) → spec.behind_
 shapes_fall [] coming rest e = (let same : coming ≡ rest = cc in omega (arith, ap length same))
 shapes_fall (shape ∷ shapes) coming rest e =
     by_fit (spec.first_fits shape (first_by raw_token (spec.behind_joints coming))) coming rest (drop 1 (spec.behind_joints coming)) (spec.behind_shapes shapes (drop 1 (spec.behind_joints coming)))
-      (omega (arith, drop_one (spec.behind_joints coming), joints_fall coming)) (λ f. shapes_fall shapes (drop 1 (spec.behind_joints coming)) rest f) e
+    (omega (arith, drop_one (spec.behind_joints coming), joints_fall coming)) (λ f. shapes_fall shapes (drop 1 (spec.behind_joints coming)) rest f) e
   where
     by_fit : (b : Bool) (coming rest next : List Coming) (o : Option (List Coming)) → length next ≤ length coming → (o ≡ Some rest → length rest ≤ length next) →
         (elim b as (λ _. Option (List Coming)) [ true ↦ o | false ↦ None ]) ≡ Some rest → length rest ≤ length coming

@@ -4,8 +4,8 @@ use Rattle.sv_source.specs.Loading.{Contents}
 use Rattle.sv_preproc.specs.Including.{Tried}
 use Rattle.sv_preproc.specs.States.{State}
 use Rattle.sv_preproc.specs.Runs.{Run, running, ended, expands, refused, start, one_more, after, end_token, Expands, LooksAt}
-use Rattle.sv_preproc.specs.Answers.{Wants, Answers, AnswersTold, Advances}
-use Rattle.sv_preproc.specs.Left.{weight, most_weight, Ready}
+use Rattle.sv_preproc.specs.Answers.{Wants, Answers, Advances, Cause}
+use Rattle.sv_preproc.specs.Left.{weight, most_weight, Ready, Settles}
 use Rattle.sv_preproc.specs.declared.settings.Settings.{Settings}
 use Rattle.sv_preproc.specs.declared.settings.Expanded.{Expanded}
 use Rattle.sv_preproc.specs.declared.settings.ExpandFail.{ExpandFail}
@@ -43,3 +43,19 @@ done_answers set contents s now e c a tokens files = rw (tokens, files) (comes_o
 -- at the start nothing is spent
 pub start_ready : (set : Settings) → length set.files ≤ 2 ^ 30 → Ready (length set.files) (start set)
 start_ready set few = record { spent = omega arith; loaded = omega arith; uses = omega (arith, few); names = omega (arith, few) }
+
+-- the same of an answer that is known
+pub advances_err : (set : Settings) (contents : Contents) (s now : State) (result : Result Bool ExpandFail) (fail : ExpandFail) → result ≡ Err fail → Advances set contents s now result → Advances set contents s now (Err fail)
+advances_err set contents s now result fail e a = (let P : Result Bool ExpandFail → Type 0 = Advances set contents s now in subst P e a)
+
+pub advances_ok : (set : Settings) (contents : Contents) (s now : State) (result : Result Bool ExpandFail) → result ≡ Ok false → Advances set contents s now result → Advances set contents s now (Ok false)
+advances_ok set contents s now result e a = (let P : Result Bool ExpandFail → Type 0 = Advances set contents s now in subst P e a)
+
+pub comes_at : (set : Settings) (contents : Contents) (s now : State) (result : Result Bool ExpandFail) → result ≡ Ok true → Comes set contents s → Advances set contents s now result → Comes set contents now
+comes_at set contents s now result e c a = comes_next set contents s now c (let P : Result Bool ExpandFail → Type 0 = Advances set contents s now in subst P e a)
+
+pub settled_at : (count : ℕ) (s now : State) (result : Result Bool ExpandFail) → result ≡ Ok true → Settles count s now result → Ready count now × (weight count now < weight count s)
+settled_at count s now result e a = (let P : Result Bool ExpandFail → Type 0 = Settles count s now in subst P e a)
+
+pub level_at : (result : Result Bool ExpandFail) (before now : ℕ) → result ≡ Ok true → Cause result before now → now ≡ before
+level_at result before now e a = (let P : Result Bool ExpandFail → Type 0 = λ r. Cause r before now in subst P e a)

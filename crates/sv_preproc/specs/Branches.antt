@@ -87,4 +87,3 @@ branching_in s (file ∷ files) t word = branching s file files file.conditional
 
 abbrev pub branches : State → Token → Condition → Step
 branches s t word = branching_in s s.files t word
-

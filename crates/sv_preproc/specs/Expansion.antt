@@ -56,11 +56,11 @@ include_in set s t string [] = broken s 201 t
 include_in set s t string (file ∷ files) =
     elim (nat_lt (length files + 1) depth_limit) [
       | true ↦ looks (record {
-          paths = candidates set.dirs file.path (between_quotes string.text);
-          top = false;
-          place = string.place;
-          word = between_quotes string.text;
-        }) s
+        paths = candidates set.dirs file.path (between_quotes string.text);
+        top = false;
+        place = string.place;
+        word = between_quotes string.text;
+      }) s
       | false ↦ broken s 206 t
     ]
 

@@ -105,12 +105,7 @@ impl State {
     }
 
     // Another branch with a test.
-    fn elsif(
-        &mut self,
-        file: OpenFile,
-        innermost: Conditional,
-        token: Token,
-    ) -> Result<Turn, Fail>
+    fn elsif(&mut self, file: OpenFile, innermost: Conditional, token: Token) -> Result<Turn, Fail>
         ensures { Turns (spec.elsif_in (seen self.old) file self.old.files innermost file.conditionals token innermost.branch) (seen self.new) result }
     {
         if innermost.branch != Branch::Waiting {

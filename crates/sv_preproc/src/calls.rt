@@ -132,12 +132,7 @@ impl State {
     }
 
     // The body of a macro comes next, and then its end.
-    fn open_body(
-        &mut self,
-        name: Text,
-        body: Placed,
-        count: u64,
-    ) -> Result<Turn, AllocError>
+    fn open_body(&mut self, name: Text, body: Placed, count: u64) -> Result<Turn, AllocError>
         requires bounded { Bounded self.old }
         requires within { self.old.spent + count ≤ 2 ^ 22 }
         ensures { IfOk result (λ turn. (turn ≡ Turn.Go) × ((used : Token) → name_of used ≡ name → spec.with_body (seen self.old) used (Some body) count ≡ goes (seen self.new))) }

@@ -236,11 +236,7 @@ fn has_formals(name: &Token, behind: &[Token]) -> bool
 }
 
 // A macro with a list of formals.
-fn with_formals(
-    alloc: Global,
-    name: &Text,
-    behind: &[Token],
-) -> Result<Defining, AllocError>
+fn with_formals(alloc: Global, name: &Text, behind: &[Token]) -> Result<Defining, AllocError>
     ensures { IfOk result (λ d. d ≡ spec.with_formals name.now behind.now (spec.formals_of behind.now)) }
 {
     match formals_of(alloc, behind)? {

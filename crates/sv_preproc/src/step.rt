@@ -48,7 +48,13 @@ impl State {
     }
 
     // The file that a string names.
-    fn search(&self, alloc: Global, set: &Settings, token: Token, string: Token) -> Result<Turn, Fail>
+    fn search(
+        &self,
+        alloc: Global,
+        set: &Settings,
+        token: Token,
+        string: Token,
+    ) -> Result<Turn, Fail>
         ensures { Turns (spec.include_in set.now (seen self.now) token string self.now.files) (seen self.now) result }
     {
         let Some(file) = self.files.top() else {
@@ -92,7 +98,13 @@ impl State {
     }
 
     // A directive in a file.
-    fn obey(&mut self, alloc: Global, set: &Settings, token: Token, word: Word) -> Result<Turn, Fail>
+    fn obey(
+        &mut self,
+        alloc: Global,
+        set: &Settings,
+        token: Token,
+        word: Word,
+    ) -> Result<Turn, Fail>
         requires { Bounded self.old }
         ensures { Turns (spec.obeyed set.now (seen self.old) token word) (seen self.new) result }
     {
