@@ -1,6 +1,6 @@
 pub mod Examples
 pub mod Placed
-pub mod Formals
+pub mod FormalLists
 pub mod Directories
 pub mod Weights
 pub mod Falls
@@ -8,3 +8,4 @@ pub mod StepFalls
 pub mod Searches
 pub mod Advance
 pub mod Whole
+pub mod OneOutcome

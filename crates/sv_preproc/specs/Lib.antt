@@ -11,3 +11,4 @@ pub mod Runs
 pub mod Code
 pub mod Answers
 pub mod Left
+pub mod Numbers

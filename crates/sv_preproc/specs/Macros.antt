@@ -45,12 +45,16 @@ abbrev pub formal_or_plain : Option ℕ → Token → Part
 formal_or_plain None t = Plain t
 formal_or_plain (Some i) t = Formal i
 
-abbrev pub part_of : List (List ℕ) → Token → Part
-part_of formals t =
-    if is_paste_kind t.kind then Join else formal_or_plain (position (λ formal. bytes_eq formal t.text) formals) t
+abbrev pub part_by : (List ℕ → Option ℕ) → Token → Part
+part_by number t = if is_paste_kind t.kind then Join else formal_or_plain (number t.text) t
+
+-- the number of a formal, from the given one on; of equal names the first counts
+abbrev pub formal_number : ℕ → List (List ℕ) → List ℕ → Option ℕ
+formal_number from [] name = None
+formal_number from (formal ∷ formals) name = if bytes_eq formal name then Some from else formal_number (from + 1) formals name
 
 abbrev pub parts_of : List (List ℕ) → List Token → List Part
-parts_of formals body = map (part_of formals) body
+parts_of formals body = map (part_by (formal_number 0 formals)) body
 
 -- the macros of the command line
 abbrev pub command_macros : List Define → Macros

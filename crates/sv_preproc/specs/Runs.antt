@@ -98,3 +98,9 @@ pub record LooksAt (set : Settings) (contents : Contents) (path : List ℕ) : Ty
   pub comes : after set contents turns (running (start set)) ≡ running state
   pub wants : step set state ≡ looks search next
   pub tried : Tried contents search.paths path
+
+-- it comes to one outcome: tokens or a refusal, and not both
+pub record HasOutcome (set : Settings) (contents : Contents) : Type 0 where
+  pub outcome : Outcome
+  pub comes : Expands set contents outcome
+  pub only : (other : Outcome) → Expands set contents other → other ≡ outcome

@@ -1,9 +1,10 @@
 // The text of a macro's definition (IEEE 1800-2017 clause 22.5.1).
-ghost use Rattle.std.specs.Prelude.{◌≡◌, ◌++◌, ◌+◌, ◌^◌, ◌<◌, map, length, position, true, OnOk, IfOk, MatchOption};
-ghost use Rattle.std.specs.Str.{bytes_eq};
-ghost use Rattle.sv_preproc.specs.Macros.{part_of, parts_of};
+ghost use Rattle.std.specs.Prelude.{◌≡◌, ◌++◌, ◌+◌, ◌^◌, ◌<◌, map, length, true, OnOk, IfOk, MatchOption};
+ghost use Rattle.sv_preproc.specs.Macros.{part_by, parts_of};
+ghost use Rattle.sv_preproc.specs.Numbers.{numbers_in};
 ghost use Rattle.sv_preproc.specs.Definitions as spec;
 
+use crate::formals::FormalNumbers;
 use crate::macros::{Macro, Part, Parts};
 use crate::settings::Texts;
 use crate::stack::Stack;
@@ -157,35 +158,42 @@ fn first_barred(alloc: Global, body: &[Token]) -> Result<Option<Defining>, Alloc
     Ok(None)
 }
 
-fn formal_at(formals: &[Text], token: &Token) -> Option<usize>
-    ensures { result ≡ position (λ formal. bytes_eq formal token.now.text) formals.now }
-{
-    formals
-        .iter()
-        .position(|formal| formal.as_bytes() == token.text.as_bytes())
-}
-
-fn part_of(alloc: Global, formals: &[Text], token: &Token) -> Result<Part, AllocError>
-    ensures { IfOk result (λ part. part ≡ part_of formals.now token.now) }
+fn part_of(
+    alloc: Global,
+    numbers: &FormalNumbers,
+    token: &Token,
+) -> Result<Part, AllocError>
+    ensures { IfOk result (λ part. part ≡ part_by (numbers_in numbers.now) token.now) }
 {
     if token.kind == Kind::Paste {
         return Ok(Part::Join);
     }
-    match formal_at(formals, token) {
+    match numbers.find(&token.text) {
         Some(number) => Ok(Part::Formal(number)),
         None => Ok(Part::Plain(copy_of(alloc, token)?)),
     }
+}
+
+fn parts_by(
+    alloc: Global,
+    numbers: &FormalNumbers,
+    body: &[Token],
+) -> Result<Parts, AllocError>
+    ensures { IfOk result (λ parts. parts ≡ map (part_by (numbers_in numbers.now)) body.now) }
+{
+    let mut parts = Parts::new(alloc);
+    for token in body {
+        parts.push(part_of(alloc, numbers, token)?)?;
+    }
+    Ok(parts)
 }
 
 /// The parts of a macro's body.
 pub fn parts_of(alloc: Global, formals: &[Text], body: &[Token]) -> Result<Parts, AllocError>
     ensures { IfOk result (λ parts. parts ≡ parts_of formals.now body.now) }
 {
-    let mut parts = Parts::new(alloc);
-    for token in body {
-        parts.push(part_of(alloc, formals, token)?)?;
-    }
-    Ok(parts)
+    let numbers = FormalNumbers::new(alloc, formals)?;
+    parts_by(alloc, &numbers, body)
 }
 
 // A macro of this body.

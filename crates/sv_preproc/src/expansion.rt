@@ -1,5 +1,6 @@
 // Whole expansions (IEEE 1800-2017 clause 22).
 ghost use Rattle.std.specs.Prelude.{◌≡◌, ◌≤◌, ◌<◌, ◌^◌, ◌++◌, ◌∷◌, [], fold, length, OnOk, IfOk};
+ghost use Rattle.sv_source.specs.Loading.{Contents};
 ghost use Rattle.sv_preproc.specs.Answers.{Cause, Says, Opens, Stops, LoadsTold, AdvancesTold, AnswersTold};
 ghost use Rattle.sv_preproc.specs.Code.{seen, macros_in, Bounded};
 ghost use Rattle.sv_preproc.specs.Macros.{command_macros};
@@ -163,6 +164,7 @@ impl State {
 /// were loaded (IEEE 1800-2017 clause 22). The settings name at most 2^30 files.
 ///
 /// It fails where a rule is broken, at the first token that breaks one; where a load failed; and for want of memory.
+#[tactic(auto, using(crate::proofs::OneOutcome::has_outcome))]
 pub fn expand<F: Files>(
     alloc: Global,
     set: &Settings,
@@ -171,6 +173,8 @@ pub fn expand<F: Files>(
     requires { length set.now.files ≤ 2 ^ 30 }
     // Where the contents of the files are told, the answer is what the expansion comes to.
     ensures answer { AnswersTold set.now (F.contents files.old) result }
+    // For any contents the expansion comes to one outcome: tokens or a refusal, and not both.
+    ensures one { (contents : Contents) → spec.HasOutcome set.now contents }
     ensures same { F.contents files.new ≡ F.contents files.old }
     // A fault is answered only where the count of faults rose; tokens and refusals leave the count as it was.
     ensures cause { Cause result (F.faults files.old) (F.faults files.new) }

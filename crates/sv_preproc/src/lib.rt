@@ -5,6 +5,7 @@ mod branches;
 mod calls;
 mod definition;
 mod expansion;
+mod formals;
 mod including;
 mod lines;
 mod loading;

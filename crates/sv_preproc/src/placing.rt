@@ -105,11 +105,14 @@ fn only_token(at: Place, tokens: Tokens) -> Option<Coming>
     }))
 }
 
-// The one token of a text, if it is one. A text that passes what can be cut into tokens is too long for the memory.
+// The most bytes of a pasted text. Pastes can double a text again and again, so a longer one is want of memory.
+const PASTED_LIMIT: usize = 1 << 26;
+
+// The one token of a text, if it is one.
 fn pasted(alloc: Global, at: Place, text: &[u8]) -> Result<Option<Coming>, AllocError>
     ensures { IfOk result (λ item. item ≡ spec.pasted at text.now) }
 {
-    if text.len() >= u32::MAX as usize {
+    if text.len() > PASTED_LIMIT {
         return Err(AllocError);
     }
     Ok(only_token(at, lex(alloc, 0, text)?))

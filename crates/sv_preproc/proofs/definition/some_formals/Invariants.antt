@@ -1,6 +1,6 @@
 use Rattle.std.proofs.Common.{◌≡◌, true, drop}
 use Rattle.sv_preproc.specs.Definitions.{formals_from}
-use Rattle.sv_preproc.proofs.Formals.{behind_formals}
+use Rattle.sv_preproc.proofs.FormalLists.{behind_formals}
 use Rattle.sv_preproc.proofs.definition.some_formals.Given as goal
 
 abbrev pub invariant-loop-at : goal.invariant-loop-at
