@@ -1,11 +1,10 @@
 -- A step with its file.
-use Rattle.std.proofs.Common.{◌≡◌, ℕ, ◌+◌, ◌^◌, ◌-◌, ◌<◌, ◌≤◌, Bool, true, false, List, length, Result, Ok, Err, IfOk, sym, ap, ◌∙◌, subst, arith}
+use Rattle.std.proofs.Common.{◌≡◌, ℕ, ◌<◌, Bool, true, false, length, Result, Ok, Err, IfOk, sym, ap, ◌∙◌, subst}
 use Rattle.sv_lexer.proofs.Raw.{tokens_from-count}
-use Rattle.sv_source.specs.declared.token.Place.{Place}
 use Rattle.sv_preproc.specs.States.{State, Step, goes, looks}
 use Rattle.sv_preproc.specs.Expansion.{step}
 use Rattle.sv_preproc.specs.Answers.{Opens}
-use Rattle.sv_preproc.specs.Left.{weight, most_weight, Ready, Settles}
+use Rattle.sv_preproc.specs.Left.{weight, Ready, Settles}
 use Rattle.sv_preproc.specs.declared.settings.Settings.{Settings}
 use Rattle.sv_preproc.specs.declared.settings.ExpandFail.{ExpandFail}
 use Rattle.sv_source.specs.declared.refusal.Fail.{Fail}

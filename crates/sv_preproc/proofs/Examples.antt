@@ -2,12 +2,11 @@
 use Rattle.std.proofs.Common.{◌≡◌, ℕ, List, [], ◌∷◌, map, Option, Some, None, if◌then◌else◌, codes, refl}
 use Rattle.std.specs.Str.{bytes_eq}
 use Rattle.sv_source.specs.Loading.{Contents}
-use Rattle.sv_source.specs.declared.token.Token.{Token}
 use Rattle.sv_source.specs.declared.refusal.Refusal.{Refusal}
 use Rattle.sv_lexer.specs.Pieces.{longest}
 use Rattle.sv_lexer.specs.Tables.{reserved_words, marks}
 use Rattle.sv_lexer.specs.Lexing.{tokens_of}
-use Rattle.sv_preproc.specs.Runs.{Outcome, Run, expands, refused, start, running, ended, after}
+use Rattle.sv_preproc.specs.Runs.{Run, expands, refused, start, running, ended, after}
 use Rattle.sv_preproc.specs.declared.settings.Define.{Define}
 use Rattle.sv_preproc.specs.declared.settings.Settings.{Settings}
 

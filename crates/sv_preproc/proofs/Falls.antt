@@ -1,20 +1,18 @@
 -- Each step leaves less to do: the parts of the definition, one after another.
-use Rattle.std.proofs.Common.{◌≡◌, ℕ, zero, suc, ◌+◌, ◌-◌, ◌*◌, ◌^◌, ◌<◌, ◌≤◌, ◌==◌, Bool, true, false, nat_lt, List, [], ◌∷◌, ◌++◌, length, drop, map, Option, Some, None, slice_get, refl, sym, ap, arith, length-append, codes}
+use Rattle.std.proofs.Common.{◌≡◌, ℕ, ◌+◌, ◌^◌, ◌<◌, ◌≤◌, ◌==◌, nat_lt, List, [], ◌∷◌, ◌++◌, length, Option, Some, None, refl, arith, length-append, codes}
 use Rattle.std.proofs.lemmas.Bool.Decides.{nat_tests}
-use Rattle.sv_source.specs.declared.token.Kind.{Kind}
-use Rattle.sv_source.specs.declared.token.Kind.TheVariants as K
 use Rattle.sv_source.specs.declared.token.Token.{Token}
-use Rattle.sv_preproc.specs.Tokens.{is, name_of, said_by}
+use Rattle.sv_preproc.specs.Tokens.{is, name_of}
 use Rattle.sv_preproc.specs.Macros.{placed_count, placed}
-use Rattle.sv_preproc.specs.States.{State, Step, goes, looks, done, breaks, spending_limit, behind_lines, raw_token, any_token, first_by, next_raw, next_any, next_name, behind_next}
+use Rattle.sv_preproc.specs.States.{State, spending_limit, next_any, behind_next}
 use Rattle.sv_preproc.specs.Calls as calls
 use Rattle.sv_preproc.specs.declared.macros.Macro.{Macro}
 use Rattle.sv_preproc.specs.declared.state.Coming.{Coming}
-use Rattle.sv_preproc.specs.declared.state.Coming.TheVariants.{Raw, Kept, FileEnd, UseEnd}
+use Rattle.sv_preproc.specs.declared.state.Coming.TheVariants.{UseEnd}
 use Rattle.sv_preproc.specs.declared.state.Bracket.{Bracket}
 use Rattle.sv_preproc.specs.declared.state.Call.{Call}
-use Rattle.sv_preproc.specs.Left.{weight, most_weight}
-use Rattle.sv_preproc.proofs.Weights.{Within, Behind, Waits, Falls, by_test, settled, lines_fall, next_falls, behind_falls, count_placed}
+use Rattle.sv_preproc.specs.Left.{weight}
+use Rattle.sv_preproc.proofs.Weights.{Within, Behind, Falls, by_test, settled, behind_falls, count_placed}
 
 delivered_falls : (count w : ℕ) (s : State) (t : Token) → Within count w s → Falls count w (calls.delivered_outside s t)
 delivered_falls count w s t i = by_test count w (nat_lt spending_limit (s.spent + 1)) _ _ (λ _. tt) (λ e.

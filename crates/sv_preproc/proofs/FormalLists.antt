@@ -1,5 +1,5 @@
 -- A list of formals that is read in part.
-use Rattle.std.proofs.Common.{◌≡◌, ℕ, ◌+◌, ◌-◌, ◌<◌, ◌≤◌, List, [], ◌∷◌, ◌++◌, length, drop, get_or, Option, Some, None, if◌then◌else◌, sym, ap, ◌∙◌, arith}
+use Rattle.std.proofs.Common.{◌≡◌, ℕ, ◌+◌, ◌-◌, ◌<◌, ◌≤◌, List, ◌∷◌, ◌++◌, length, drop, get_or, Option, Some, None, if◌then◌else◌, sym, ap, ◌∙◌, arith}
 use Rattle.std.proofs.lemmas.List.{drop_more, drop_all}
 use Rattle.std.specs.Str.{bytes_eq}
 use Rattle.sv_preproc.specs.Macros.{formal_number}

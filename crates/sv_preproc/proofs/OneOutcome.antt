@@ -1,14 +1,13 @@
 -- Each expansion comes to one outcome.
-use Rattle.std.proofs.Common.{◌≡◌, ℕ, zero, suc, ◌+◌, ◌-◌, ◌*◌, ◌^◌, ◌<◌, ◌≤◌, Bool, true, false, nat_lt, List, [], ◌∷◌, length, Option, Some, None, refl, sym, ap, ◌∙◌, arith}
+use Rattle.std.proofs.Common.{◌≡◌, ℕ, zero, suc, ◌+◌, ◌^◌, ◌<◌, ◌≤◌, Bool, true, false, nat_lt, length, Option, Some, None, refl, sym, ap, ◌∙◌, arith}
 use Rattle.std.proofs.lemmas.Bool.Decides.{nat_tests}
 use Rattle.sv_source.specs.Loading.{Contents}
-use Rattle.sv_source.specs.declared.token.Place.{Place}
 use Rattle.sv_lexer.proofs.Raw.{tokens_from-count}
 use Rattle.sv_preproc.specs.Including.{Held, first_held}
 use Rattle.sv_preproc.specs.States.{State, Step, goes, looks, done, breaks}
 use Rattle.sv_preproc.specs.Expansion.{step}
-use Rattle.sv_preproc.specs.Runs.{Outcome, Run, running, ended, expands, refused, start, room_left, opened, lost, found, without_search, with_files, one_more, after, Expands, HasOutcome}
-use Rattle.sv_preproc.specs.Left.{weight, most_weight, Ready}
+use Rattle.sv_preproc.specs.Runs.{Outcome, Run, running, ended, start, room_left, opened, lost, found, without_search, with_files, one_more, after, Expands, HasOutcome}
+use Rattle.sv_preproc.specs.Left.{weight, Ready}
 use Rattle.sv_preproc.specs.declared.settings.Settings.{Settings}
 use Rattle.sv_preproc.specs.declared.turn.Search.{Search}
 use Rattle.sv_preproc.proofs.Weights.{Behind, Waits, Falls}
@@ -60,8 +59,8 @@ ends_within : (set : Settings) (contents : Contents) (k : ℕ) (s : State) → R
 ends_within set contents zero s r less = absurd (omega arith)
 ends_within set contents (suc k) s r less =
     one_step set contents s (ends_step set contents (weight (length set.files) s)
-        (λ t b. ends_within set contents k t (record { spent = b.spent; loaded = b.loaded; uses = b.uses; names = b.names }) (omega (arith, b.less, less)))
-        (step set s) (step_falls set s r))
+    (λ t b. ends_within set contents k t (record { spent = b.spent; loaded = b.loaded; uses = b.uses; names = b.names }) (omega (arith, b.less, less)))
+    (step set s) (step_falls set s r))
 
 pub has_outcome : (set : Settings) → length set.files ≤ 2 ^ 30 → (contents : Contents) → HasOutcome set contents
 has_outcome set few contents =

@@ -1,5 +1,5 @@
 -- The first of some paths that isn't absent.
-use Rattle.std.proofs.Common.{◌≡◌, ℕ, zero, suc, ◌<◌, List, [], ◌∷◌, length, drop, get_or, Option, Some, None, refl, sym, ap, ◌∙◌, arith}
+use Rattle.std.proofs.Common.{◌≡◌, ℕ, zero, suc, ◌<◌, List, [], ◌∷◌, length, drop, get_or, Some, refl, sym, ap, ◌∙◌, arith}
 use Rattle.sv_source.specs.Loading.{Contents}
 use Rattle.sv_preproc.specs.Including.{first_held}
 

@@ -1,13 +1,11 @@
 -- Each step leaves less to do: directives, ends and files.
-use Rattle.std.proofs.Common.{◌≡◌, ℕ, zero, suc, ◌+◌, ◌-◌, ◌*◌, ◌^◌, ◌<◌, ◌≤◌, ◌==◌, Bool, true, false, nat_lt, List, [], ◌∷◌, ◌++◌, length, drop, map, Option, Some, None, slice_get, refl, sym, ap, arith, length-append, codes}
-use Rattle.std.proofs.lemmas.Bool.Decides.{nat_tests}
-use Rattle.std.specs.Option.{is_some}
+use Rattle.std.proofs.Common.{◌≡◌, ℕ, zero, suc, ◌+◌, ◌-◌, ◌^◌, ◌<◌, ◌≤◌, ◌==◌, Bool, true, false, nat_lt, List, [], ◌∷◌, length, drop, map, Option, Some, None, slice_get, refl, ap, arith, length-append}
 use Rattle.sv_source.specs.declared.token.Kind.{Kind}
 use Rattle.sv_source.specs.declared.token.Kind.TheVariants as K
 use Rattle.sv_source.specs.declared.token.Token.{Token}
 use Rattle.sv_preproc.specs.Tokens.{is_string, said_by}
 use Rattle.sv_preproc.specs.Definitions.{ends_line, behind_line, line_of, defining}
-use Rattle.sv_preproc.specs.States.{State, Step, goes, looks, done, breaks, with_coming, depth_limit, behind_lines, raw_token, first_by, next_raw, next_name, behind_next}
+use Rattle.sv_preproc.specs.States.{State, goes, breaks, with_coming, depth_limit, raw_token, first_by, next_raw, next_name, behind_next}
 use Rattle.sv_lexer.specs.Lexing.{tokens_of}
 use Rattle.sv_preproc.specs.Including.{Held}
 use Rattle.sv_preproc.specs.Runs.{room_left, opened}
@@ -28,8 +26,8 @@ use Rattle.sv_preproc.specs.declared.state.Branch.TheVariants.{Waiting, Taken, O
 use Rattle.sv_preproc.specs.declared.state.Conditional.{Conditional}
 use Rattle.sv_preproc.specs.declared.state.OpenFile.{OpenFile}
 use Rattle.sv_preproc.specs.declared.state.Call.{Call}
-use Rattle.sv_preproc.specs.Left.{weight, most_weight, Ready}
-use Rattle.sv_preproc.proofs.Weights.{Within, Behind, Waits, Falls, by_test, settled, shorter, next_falls, behind_falls, drop_one}
+use Rattle.sv_preproc.specs.Left.{weight, Ready}
+use Rattle.sv_preproc.proofs.Weights.{Within, Behind, Waits, Falls, by_test, settled, shorter, next_falls, drop_one}
 use Rattle.sv_preproc.proofs.Falls.{next_within, given_on_falls, use_begins_falls}
 
 -- with the same counts, and no more to come

@@ -1,17 +1,16 @@
 -- Each step leaves less to do.
-use Rattle.std.proofs.Common.{◌≡◌, ℕ, zero, suc, ◌+◌, ◌-◌, ◌*◌, ◌^◌, ◌<◌, ◌≤◌, Bool, true, false, cond, nat_lt, List, [], ◌∷◌, ◌++◌, length, drop, map, Option, Some, None, slice_get, refl, sym, ap, arith, length-append}
-use Rattle.std.proofs.lemmas.Bool.Decides.{nat_tests}
+use Rattle.std.proofs.Common.{◌≡◌, ℕ, suc, ◌+◌, ◌^◌, ◌<◌, ◌≤◌, Bool, true, false, cond, List, [], ◌∷◌, ◌++◌, length, drop, map, Option, Some, None, refl, ap, arith, length-append}
 use Rattle.std.specs.Option.{option_map, option_and_then}
 use Rattle.sv_source.specs.declared.token.Place.{Place}
 use Rattle.sv_source.specs.declared.token.Token.{Token}
 use Rattle.sv_preproc.specs.Tokens.{moved}
 use Rattle.sv_preproc.specs.Macros.{replaced, part_count, placed_count, pasted, joined, with_part, with_parts, placed}
-use Rattle.sv_preproc.specs.States.{State, Step, goes, looks, done, breaks, is_newline, behind_lines, raw_token, any_token, first_by}
+use Rattle.sv_preproc.specs.States.{State, Step, goes, looks, done, breaks, is_newline, behind_lines, first_by}
 use Rattle.sv_preproc.specs.Left.{weight, most_weight}
 use Rattle.sv_preproc.specs.declared.macros.Part.{Part}
 use Rattle.sv_preproc.specs.declared.macros.Part.TheVariants.{Plain, Formal, Join}
 use Rattle.sv_preproc.specs.declared.state.Coming.{Coming}
-use Rattle.sv_preproc.specs.declared.state.Coming.TheVariants.{Raw, Kept, FileEnd, UseEnd}
+use Rattle.sv_preproc.specs.declared.state.Coming.TheVariants.{Kept}
 use Rattle.sv_preproc.specs.declared.state.Placing.{Placing}
 
 -- in a step from a state of this weight

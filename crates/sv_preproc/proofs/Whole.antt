@@ -1,11 +1,10 @@
 -- Runs that go on by one step.
-use Rattle.std.proofs.Common.{◌≡◌, ℕ, zero, suc, ◌+◌, ◌-◌, ◌*◌, ◌^◌, ◌<◌, ◌≤◌, List, [], ◌∷◌, ◌++◌, length, Option, Some, None, Result, Ok, Err, Bool, true, false, refl, sym, ap, ◌∙◌, add-one, subst, arith}
+use Rattle.std.proofs.Common.{◌≡◌, ℕ, zero, suc, ◌^◌, ◌<◌, ◌≤◌, [], ◌∷◌, ◌++◌, length, Result, Ok, Err, Bool, true, false, refl, ap, ◌∙◌, subst, arith}
 use Rattle.sv_source.specs.Loading.{Contents}
-use Rattle.sv_preproc.specs.Including.{Tried}
 use Rattle.sv_preproc.specs.States.{State}
-use Rattle.sv_preproc.specs.Runs.{Run, running, ended, expands, refused, start, one_more, after, end_token, Expands, LooksAt}
-use Rattle.sv_preproc.specs.Answers.{Wants, Answers, Advances, Cause}
-use Rattle.sv_preproc.specs.Left.{weight, most_weight, Ready, Settles}
+use Rattle.sv_preproc.specs.Runs.{Run, running, ended, refused, start, one_more, after, end_token}
+use Rattle.sv_preproc.specs.Answers.{Answers, Advances, Cause}
+use Rattle.sv_preproc.specs.Left.{weight, Ready, Settles}
 use Rattle.sv_preproc.specs.declared.settings.Settings.{Settings}
 use Rattle.sv_preproc.specs.declared.settings.Expanded.{Expanded}
 use Rattle.sv_preproc.specs.declared.settings.ExpandFail.{ExpandFail}

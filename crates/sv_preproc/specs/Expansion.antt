@@ -1,33 +1,24 @@
 -- Macro expansion, a step at a time (IEEE 1800-2017 clause 22).
-use Rattle.std.specs.Prelude.{◌≡◌, ℕ, zero, suc, ◌+◌, ◌-◌, ◌^◌, ◌==◌, ◌&&◌, ◌||◌, not, nat_lt, Bool, true, false, List, [], ◌∷◌, ◌++◌, drop, length, slice_get, Option, Some, None, if◌then◌else◌, codes}
-use Rattle.std.specs.Option.{is_some}
+use Rattle.std.specs.Prelude.{ℕ, ◌+◌, ◌-◌, ◌==◌, ◌&&◌, nat_lt, Bool, true, false, List, [], ◌∷◌, drop, length, slice_get, Option, Some, None, codes}
 use Rattle.sv_source.specs.declared.token.Kind.{Kind}
 use Rattle.sv_source.specs.declared.token.Place.{Place}
 use Rattle.sv_source.specs.declared.token.Token.{Token}
-use Rattle.sv_source.specs.declared.refusal.Refusal.{Refusal}
-use Rattle.sv_preproc.specs.Tokens.{is, is_name, is_word, is_decimal, is_string, is_line, is_continued, name_of, said_by}
-use Rattle.sv_preproc.specs.Macros.{Macros, defined, undefined, marked, placed_count, placed}
-use Rattle.sv_preproc.specs.declared.macros.Macro.{Macro}
+use Rattle.sv_preproc.specs.Tokens.{is, is_name, is_word, is_decimal, is_string, is_continued, said_by}
+use Rattle.sv_preproc.specs.Macros.{defined, undefined, marked}
 use Rattle.sv_preproc.specs.declared.state.Coming.{Coming}
 use Rattle.sv_preproc.specs.declared.state.Coming.TheVariants.{Raw, Kept, FileEnd, UseEnd}
-use Rattle.sv_preproc.specs.declared.state.Branch.{Branch}
-use Rattle.sv_preproc.specs.declared.state.Branch.TheVariants.{Waiting, Taken, Over}
 use Rattle.sv_preproc.specs.declared.state.Conditional.{Conditional}
 use Rattle.sv_preproc.specs.declared.state.OpenFile.{OpenFile}
-use Rattle.sv_preproc.specs.declared.state.Bracket.{Bracket}
-use Rattle.sv_preproc.specs.declared.state.Bracket.TheVariants.{Round, Square, Curly}
 use Rattle.sv_preproc.specs.declared.state.Call.{Call}
-use Rattle.sv_preproc.specs.declared.turn.Search.{Search}
 use Rattle.sv_source.specs.declared.token.Kind.TheVariants.{Cut, Directive, Line, Continued, Quote}
 use Rattle.sv_preproc.specs.Definitions.{line_of, behind_line, defining}
 use Rattle.sv_preproc.specs.declared.definition.Defining.{Defining}
 use Rattle.sv_preproc.specs.declared.definition.Defining.TheVariants.{Defines, BreaksAt, BreaksList, IllFormed}
 use Rattle.sv_preproc.specs.Including.{between_quotes, candidates}
 use Rattle.sv_preproc.specs.declared.settings.Settings.{Settings}
-use Rattle.sv_preproc.specs.declared.words.Condition.{Condition}
 use Rattle.sv_preproc.specs.declared.words.Word.{Word}
 use Rattle.sv_preproc.specs.declared.words.Word.TheVariants as W
-use Rattle.sv_preproc.specs.States.{State, first_by, raw_token, Step, goes, looks, done, breaks, spending_limit, depth_limit, broken, with_coming, next_raw, next_any, behind_next, next_name}
+use Rattle.sv_preproc.specs.States.{State, first_by, raw_token, Step, goes, looks, done, depth_limit, broken, with_coming, next_raw, behind_next, next_name}
 use Rattle.sv_preproc.specs.declared.shapes.Shape.{Shape}
 use Rattle.sv_preproc.specs.declared.shapes.Shape.TheVariants.{AnyName, AnyWord, Number, Slash}
 use Rattle.sv_preproc.specs.Calls.{given_on, use_begins}

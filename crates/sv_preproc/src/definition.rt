@@ -158,11 +158,7 @@ fn first_barred(alloc: Global, body: &[Token]) -> Result<Option<Defining>, Alloc
     Ok(None)
 }
 
-fn part_of(
-    alloc: Global,
-    numbers: &FormalNumbers,
-    token: &Token,
-) -> Result<Part, AllocError>
+fn part_of(alloc: Global, numbers: &FormalNumbers, token: &Token) -> Result<Part, AllocError>
     ensures { IfOk result (λ part. part ≡ part_by (numbers_in numbers.now) token.now) }
 {
     if token.kind == Kind::Paste {
@@ -174,11 +170,7 @@ fn part_of(
     }
 }
 
-fn parts_by(
-    alloc: Global,
-    numbers: &FormalNumbers,
-    body: &[Token],
-) -> Result<Parts, AllocError>
+fn parts_by(alloc: Global, numbers: &FormalNumbers, body: &[Token]) -> Result<Parts, AllocError>
     ensures { IfOk result (λ parts. parts ≡ map (part_by (numbers_in numbers.now)) body.now) }
 {
     let mut parts = Parts::new(alloc);

@@ -1,4 +1,4 @@
-use Rattle.std.proofs.Common.{◌≡◌, fold, take}
+use Rattle.std.proofs.Common.{◌≡◌, take}
 use Rattle.sv_preproc.specs.Code.{macros_in}
 use Rattle.sv_preproc.specs.Macros.{command_macros}
 use Rattle.sv_preproc.proofs.expansion.command_macros.Given as goal

@@ -1,4 +1,4 @@
-use Rattle.std.proofs.Common.{◌≡◌, true, false, Ok, Err, refl, sym, ap, ◌∙◌}
+use Rattle.std.proofs.Common.{◌≡◌, true, false, Ok, ap, ◌∙◌}
 use Rattle.std.proofs.lemmas.Result.{err_from_is_err_and}
 use Rattle.sv_preproc.specs.Code.{seen}
 use Rattle.sv_preproc.proofs.Whole.{comes_at, settled_at, stops_answers, done_answers, advances_err, advances_ok, level_at}

@@ -1,4 +1,4 @@
-use Rattle.std.proofs.Common.{◌≡◌, ◌+◌, length, Some, cond}
+use Rattle.std.proofs.Common.{◌≡◌, length, Some}
 use Rattle.sv_source.specs.Loading.{Contents}
 use Rattle.sv_preproc.specs.Code.{seen}
 use Rattle.sv_preproc.specs.Left.{weight, Ready}

@@ -1,4 +1,4 @@
-use Rattle.std.proofs.Common.{◌≡◌, Some, sym, ap, ◌∙◌, arith}
+use Rattle.std.proofs.Common.{◌≡◌, Some, sym, ap, ◌∙◌}
 use Rattle.sv_preproc.proofs.Searches.{held_at}
 use Rattle.sv_preproc.proofs.loading.load_first.Goals as goal
 
