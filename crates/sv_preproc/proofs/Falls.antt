@@ -2,13 +2,13 @@
 use Rattle.std.proofs.Common.{◌≡◌, ℕ, ◌+◌, ◌^◌, ◌<◌, ◌≤◌, ◌==◌, nat_lt, List, [], ◌∷◌, ◌++◌, length, Option, Some, None, refl, arith, length-append, codes}
 use Rattle.std.proofs.lemmas.Bool.Decides.{nat_tests}
 use Rattle.sv_source.specs.declared.token.Token.{Token}
-use Rattle.sv_preproc.specs.Tokens.{is, name_of}
-use Rattle.sv_preproc.specs.Macros.{placed_count, placed}
+use Rattle.sv_macro.specs.Tokens.{is, name_of}
+use Rattle.sv_macro.specs.Macros.{placed_count, placed}
 use Rattle.sv_preproc.specs.States.{State, spending_limit, next_any, behind_next}
 use Rattle.sv_preproc.specs.Calls as calls
-use Rattle.sv_preproc.specs.declared.macros.Macro.{Macro}
-use Rattle.sv_preproc.specs.declared.state.Coming.{Coming}
-use Rattle.sv_preproc.specs.declared.state.Coming.TheVariants.{UseEnd}
+use Rattle.sv_macro.specs.declared.macros.Macro.{Macro}
+use Rattle.sv_macro.specs.declared.coming.Coming.{Coming}
+use Rattle.sv_macro.specs.declared.coming.Coming.TheVariants.{UseEnd}
 use Rattle.sv_preproc.specs.declared.state.Bracket.{Bracket}
 use Rattle.sv_preproc.specs.declared.state.Call.{Call}
 use Rattle.sv_preproc.specs.Left.{weight}

@@ -1,7 +1,4 @@
 pub mod Examples
-pub mod Placed
-pub mod FormalLists
-pub mod Directories
 pub mod Weights
 pub mod Falls
 pub mod StepFalls

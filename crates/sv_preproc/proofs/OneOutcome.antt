@@ -3,7 +3,7 @@ use Rattle.std.proofs.Common.{◌≡◌, ℕ, zero, suc, ◌+◌, ◌^◌, ◌<�
 use Rattle.std.proofs.lemmas.Bool.Decides.{nat_tests}
 use Rattle.sv_source.specs.Loading.{Contents}
 use Rattle.sv_lexer.proofs.Raw.{tokens_from-count}
-use Rattle.sv_preproc.specs.Including.{Held, first_held}
+use Rattle.sv_macro.specs.Including.{Held, first_held}
 use Rattle.sv_preproc.specs.States.{State, Step, goes, looks, done, breaks}
 use Rattle.sv_preproc.specs.Expansion.{step}
 use Rattle.sv_preproc.specs.Runs.{Outcome, Run, running, ended, start, room_left, opened, lost, found, without_search, with_files, one_more, after, Expands, HasOutcome}

@@ -1,7 +1,7 @@
 -- The first of some paths that isn't absent.
 use Rattle.std.proofs.Common.{◌≡◌, ℕ, zero, suc, ◌<◌, List, [], ◌∷◌, length, drop, get_or, Some, refl, sym, ap, ◌∙◌, arith}
 use Rattle.sv_source.specs.Loading.{Contents}
-use Rattle.sv_preproc.specs.Including.{first_held}
+use Rattle.sv_macro.specs.Including.{first_held}
 
 pub held_at : (contents : Contents) (paths : List (List ℕ)) (i : ℕ) (p bytes : List ℕ) → i < length paths → p ≡ get_or paths i p → contents p ≡ Some bytes →
     first_held contents (drop i paths) ≡ Some (record { path = p; bytes = bytes })

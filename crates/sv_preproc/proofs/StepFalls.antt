@@ -3,24 +3,26 @@ use Rattle.std.proofs.Common.{◌≡◌, ℕ, zero, suc, ◌+◌, ◌-◌, ◌^�
 use Rattle.sv_source.specs.declared.token.Kind.{Kind}
 use Rattle.sv_source.specs.declared.token.Kind.TheVariants as K
 use Rattle.sv_source.specs.declared.token.Token.{Token}
-use Rattle.sv_preproc.specs.Tokens.{is_string, said_by}
-use Rattle.sv_preproc.specs.Definitions.{ends_line, behind_line, line_of, defining}
-use Rattle.sv_preproc.specs.States.{State, goes, breaks, with_coming, depth_limit, raw_token, first_by, next_raw, next_name, behind_next}
+use Rattle.sv_macro.specs.Tokens.{is_string, said_by}
+use Rattle.sv_macro.specs.Definitions.{ends_line, behind_line, line_of, defining}
+use Rattle.sv_macro.specs.Lines.{raw_token, first_by}
+use Rattle.sv_preproc.specs.States.{State, goes, breaks, with_coming, depth_limit, next_raw, next_name, behind_next}
 use Rattle.sv_lexer.specs.Lexing.{tokens_of}
-use Rattle.sv_preproc.specs.Including.{Held}
+use Rattle.sv_macro.specs.Including.{Held}
 use Rattle.sv_preproc.specs.Runs.{room_left, opened}
+use Rattle.sv_macro.specs.Shapes as lined
 use Rattle.sv_preproc.specs.Branches as branches
 use Rattle.sv_preproc.specs.Expansion as spec
 use Rattle.sv_preproc.specs.declared.settings.Settings.{Settings}
-use Rattle.sv_preproc.specs.declared.words.Condition.{Condition}
-use Rattle.sv_preproc.specs.declared.words.Condition.TheVariants.{Ifdef, Ifndef, Elsif, Else, Endif}
-use Rattle.sv_preproc.specs.declared.words.Word.{Word}
-use Rattle.sv_preproc.specs.declared.words.Word.TheVariants as W
-use Rattle.sv_preproc.specs.declared.definition.Defining.{Defining}
-use Rattle.sv_preproc.specs.declared.definition.Defining.TheVariants.{Defines, BreaksAt, BreaksList, IllFormed}
-use Rattle.sv_preproc.specs.declared.shapes.Shape.{Shape}
-use Rattle.sv_preproc.specs.declared.state.Coming.{Coming}
-use Rattle.sv_preproc.specs.declared.state.Coming.TheVariants.{Raw, Kept, FileEnd, UseEnd}
+use Rattle.sv_macro.specs.declared.words.Condition.{Condition}
+use Rattle.sv_macro.specs.declared.words.Condition.TheVariants.{Ifdef, Ifndef, Elsif, Else, Endif}
+use Rattle.sv_macro.specs.declared.words.Word.{Word}
+use Rattle.sv_macro.specs.declared.words.Word.TheVariants as W
+use Rattle.sv_macro.specs.declared.definition.Defining.{Defining}
+use Rattle.sv_macro.specs.declared.definition.Defining.TheVariants.{Defines, BreaksAt, BreaksList, IllFormed}
+use Rattle.sv_macro.specs.declared.shapes.Shape.{Shape}
+use Rattle.sv_macro.specs.declared.coming.Coming.{Coming}
+use Rattle.sv_macro.specs.declared.coming.Coming.TheVariants.{Raw, Kept, FileEnd, UseEnd}
 use Rattle.sv_preproc.specs.declared.state.Branch.{Branch}
 use Rattle.sv_preproc.specs.declared.state.Branch.TheVariants.{Waiting, Taken, Over}
 use Rattle.sv_preproc.specs.declared.state.Conditional.{Conditional}
@@ -127,18 +129,18 @@ include_falls count w set s t i = string_falls count w set (behind_next s) t (ne
 })
 
 -- what is dropped
-joints_fall : (coming : List Coming) → length (spec.behind_joints coming) ≤ length coming
+joints_fall : (coming : List Coming) → length (lined.behind_joints coming) ≤ length coming
 joints_fall [] = omega arith
-joints_fall (item ∷ coming) = shorter (spec.is_joint item) item coming (spec.behind_joints coming) (joints_fall coming)
+joints_fall (item ∷ coming) = shorter (lined.is_joint item) item coming (lined.behind_joints coming) (joints_fall coming)
 
 some_none : {A : Type 0} (x : A) → None ≡ Some x → ⊥
 some_none x e = cc
 
-shapes_fall : (shapes : List Shape) (coming rest : List Coming) → spec.behind_shapes shapes coming ≡ Some rest → length rest ≤ length coming
+shapes_fall : (shapes : List Shape) (coming rest : List Coming) → lined.behind_shapes shapes coming ≡ Some rest → length rest ≤ length coming
 shapes_fall [] coming rest e = (let same : coming ≡ rest = cc in omega (arith, ap length same))
 shapes_fall (shape ∷ shapes) coming rest e =
-    by_fit (spec.first_fits shape (first_by raw_token (spec.behind_joints coming))) coming rest (drop 1 (spec.behind_joints coming)) (spec.behind_shapes shapes (drop 1 (spec.behind_joints coming)))
-    (omega (arith, drop_one (spec.behind_joints coming), joints_fall coming)) (λ f. shapes_fall shapes (drop 1 (spec.behind_joints coming)) rest f) e
+    by_fit (lined.first_fits shape (first_by raw_token (lined.behind_joints coming))) coming rest (drop 1 (lined.behind_joints coming)) (lined.behind_shapes shapes (drop 1 (lined.behind_joints coming)))
+    (omega (arith, drop_one (lined.behind_joints coming), joints_fall coming)) (λ f. shapes_fall shapes (drop 1 (lined.behind_joints coming)) rest f) e
   where
     by_fit : (b : Bool) (coming rest next : List Coming) (o : Option (List Coming)) → length next ≤ length coming → (o ≡ Some rest → length rest ≤ length next) →
         (elim b as (λ _. Option (List Coming)) [ true ↦ o | false ↦ None ]) ≡ Some rest → length rest ≤ length coming
@@ -150,7 +152,7 @@ dropped_falls count w s t None i less = tt
 dropped_falls count w s t (Some coming) i less = settled count w s _ i (omega (arith, less coming refl)) i.spent i.loaded (omega arith) (omega arith)
 
 dropped_with_falls : (count w : ℕ) (s : State) (t : Token) (shapes : List Shape) → Within count w s → Falls count w (spec.dropped_with s t shapes)
-dropped_with_falls count w s t shapes i = dropped_falls count w s t (spec.behind_shapes shapes s.coming) i (λ coming e. shapes_fall shapes s.coming coming e)
+dropped_with_falls count w s t shapes i = dropped_falls count w s t (lined.behind_shapes shapes s.coming) i (λ coming e. shapes_fall shapes s.coming coming e)
 
 -- directives
 obeyed_falls : (count w : ℕ) (set : Settings) (s : State) (t : Token) (word : Word) → Within count w s → Falls count w (spec.obeyed set s t word)

@@ -3,15 +3,16 @@ use Rattle.std.proofs.Common.{◌≡◌, ℕ, suc, ◌+◌, ◌^◌, ◌<◌, �
 use Rattle.std.specs.Option.{option_map, option_and_then}
 use Rattle.sv_source.specs.declared.token.Place.{Place}
 use Rattle.sv_source.specs.declared.token.Token.{Token}
-use Rattle.sv_preproc.specs.Tokens.{moved}
-use Rattle.sv_preproc.specs.Macros.{replaced, part_count, placed_count, pasted, joined, with_part, with_parts, placed}
-use Rattle.sv_preproc.specs.States.{State, Step, goes, looks, done, breaks, is_newline, behind_lines, first_by}
+use Rattle.sv_macro.specs.Tokens.{moved}
+use Rattle.sv_macro.specs.Macros.{replaced, part_count, placed_count, pasted, joined, with_part, with_parts, placed}
+use Rattle.sv_macro.specs.Lines.{is_newline, behind_lines, first_by}
+use Rattle.sv_preproc.specs.States.{State, Step, goes, looks, done, breaks}
 use Rattle.sv_preproc.specs.Left.{weight, most_weight}
-use Rattle.sv_preproc.specs.declared.macros.Part.{Part}
-use Rattle.sv_preproc.specs.declared.macros.Part.TheVariants.{Plain, Formal, Join}
-use Rattle.sv_preproc.specs.declared.state.Coming.{Coming}
-use Rattle.sv_preproc.specs.declared.state.Coming.TheVariants.{Kept}
-use Rattle.sv_preproc.specs.declared.state.Placing.{Placing}
+use Rattle.sv_macro.specs.declared.macros.Part.{Part}
+use Rattle.sv_macro.specs.declared.macros.Part.TheVariants.{Plain, Formal, Join}
+use Rattle.sv_macro.specs.declared.coming.Coming.{Coming}
+use Rattle.sv_macro.specs.declared.coming.Coming.TheVariants.{Kept}
+use Rattle.sv_macro.specs.declared.coming.Placing.{Placing}
 
 -- in a step from a state of this weight
 pub record Within (count w : ℕ) (s : State) : Type 0 where

@@ -4,7 +4,7 @@ use Rattle.sv_source.specs.Faults.{Rose}
 use Rattle.sv_source.specs.Loading.{Contents}
 use Rattle.sv_source.specs.declared.refusal.Fail.{Fail}
 use Rattle.sv_source.specs.declared.refusal.Fail.TheVariants as fail
-use Rattle.sv_preproc.specs.Including.{Held, first_held, Tried}
+use Rattle.sv_macro.specs.Including.{Held, first_held, Tried}
 use Rattle.sv_preproc.specs.States.{State, Step, goes, looks, breaks}
 use Rattle.sv_preproc.specs.Expansion.{step}
 use Rattle.sv_preproc.specs.Runs.{expands, refused, running, ended, room_left, opened, found, one_more, end_token, Expands, LooksAt}

@@ -6,8 +6,8 @@ use Rattle.sv_preproc.specs.declared.state.Branch.{Branch}
 use Rattle.sv_preproc.specs.declared.state.Branch.TheVariants.{Waiting, Taken, Over}
 use Rattle.sv_preproc.specs.declared.state.Conditional.{Conditional}
 use Rattle.sv_preproc.specs.declared.state.OpenFile.{OpenFile}
-use Rattle.sv_preproc.specs.declared.words.Condition.{Condition}
-use Rattle.sv_preproc.specs.declared.words.Condition.TheVariants.{Ifdef, Ifndef, Elsif, Else}
+use Rattle.sv_macro.specs.declared.words.Condition.{Condition}
+use Rattle.sv_macro.specs.declared.words.Condition.TheVariants.{Ifdef, Ifndef, Elsif, Else}
 use Rattle.sv_preproc.specs.States.{State, Step, goes, broken, behind_next, next_name}
 
 -- a conditional whose test is made

@@ -1,11 +1,11 @@
 -- Uses of macros and their arguments (IEEE 1800-2017 clause 22.5.1).
 use Rattle.std.specs.Prelude.{ℕ, ◌+◌, ◌==◌, ◌&&◌, ◌||◌, nat_lt, Bool, true, false, List, [], ◌∷◌, ◌++◌, length, Option, Some, None, if◌then◌else◌, codes}
 use Rattle.sv_source.specs.declared.token.Token.{Token}
-use Rattle.sv_preproc.specs.Tokens.{is, name_of}
-use Rattle.sv_preproc.specs.Macros.{marked, placed_count, placed}
-use Rattle.sv_preproc.specs.declared.macros.Macro.{Macro}
-use Rattle.sv_preproc.specs.declared.state.Coming.{Coming}
-use Rattle.sv_preproc.specs.declared.state.Coming.TheVariants.{UseEnd}
+use Rattle.sv_macro.specs.Tokens.{is, name_of}
+use Rattle.sv_macro.specs.Macros.{marked, placed_count, placed}
+use Rattle.sv_macro.specs.declared.macros.Macro.{Macro}
+use Rattle.sv_macro.specs.declared.coming.Coming.{Coming}
+use Rattle.sv_macro.specs.declared.coming.Coming.TheVariants.{UseEnd}
 use Rattle.sv_preproc.specs.declared.state.Bracket.{Bracket}
 use Rattle.sv_preproc.specs.declared.state.Bracket.TheVariants.{Round, Square, Curly}
 use Rattle.sv_preproc.specs.declared.state.Call.{Call}

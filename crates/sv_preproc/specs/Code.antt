@@ -1,19 +1,12 @@
 -- What the program's data stand for.
 use Rattle.std.specs.Prelude.{◌≡◌, ◌-◌, ◌^◌, ◌<◌, ◌≤◌, length, Result, Ok, Err}
-use Rattle.std.specs.Str.{bytes_eq}
-use Rattle.indexmap.specs.IndexMap as map
 use Rattle.sv_source.specs.declared.refusal.Fail.{Fail}
 use Rattle.sv_source.specs.declared.refusal.Fail.TheVariants.{Memory, Refused}
-use Rattle.sv_preproc.specs.Macros.{Macros}
+use Rattle.sv_macro.specs.Tables.{macros_in}
 use Rattle.sv_preproc.specs.States as spec
-use Rattle.sv_preproc.specs.declared.table.Table.{Table}
 use Rattle.sv_preproc.specs.declared.state.State.{State}
 use Rattle.sv_preproc.specs.declared.turn.Turn.{Turn}
 use Rattle.sv_preproc.specs.declared.turn.Turn.TheVariants.{Go, Look, Done}
-
--- what each name stands for in the table
-abbrev pub macros_in : Table → Macros
-macros_in table = λ name. map.get bytes_eq table.macros name
 
 -- how far the expansion has come
 abbrev pub seen : State → spec.State

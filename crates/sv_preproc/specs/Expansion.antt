@@ -1,26 +1,27 @@
 -- Macro expansion, a step at a time (IEEE 1800-2017 clause 22).
-use Rattle.std.specs.Prelude.{ℕ, ◌+◌, ◌-◌, ◌==◌, ◌&&◌, nat_lt, Bool, true, false, List, [], ◌∷◌, drop, length, slice_get, Option, Some, None, codes}
+use Rattle.std.specs.Prelude.{ℕ, ◌+◌, ◌-◌, ◌==◌, ◌&&◌, nat_lt, Bool, true, false, List, [], ◌∷◌, length, slice_get, Option, Some, None}
 use Rattle.sv_source.specs.declared.token.Kind.{Kind}
 use Rattle.sv_source.specs.declared.token.Place.{Place}
 use Rattle.sv_source.specs.declared.token.Token.{Token}
-use Rattle.sv_preproc.specs.Tokens.{is, is_name, is_word, is_decimal, is_string, is_continued, said_by}
-use Rattle.sv_preproc.specs.Macros.{defined, undefined, marked}
-use Rattle.sv_preproc.specs.declared.state.Coming.{Coming}
-use Rattle.sv_preproc.specs.declared.state.Coming.TheVariants.{Raw, Kept, FileEnd, UseEnd}
+use Rattle.sv_macro.specs.Tokens.{is_string, said_by}
+use Rattle.sv_macro.specs.Macros.{defined, undefined, marked}
+use Rattle.sv_macro.specs.declared.coming.Coming.{Coming}
+use Rattle.sv_macro.specs.declared.coming.Coming.TheVariants.{Raw, Kept, FileEnd, UseEnd}
 use Rattle.sv_preproc.specs.declared.state.Conditional.{Conditional}
 use Rattle.sv_preproc.specs.declared.state.OpenFile.{OpenFile}
 use Rattle.sv_preproc.specs.declared.state.Call.{Call}
 use Rattle.sv_source.specs.declared.token.Kind.TheVariants.{Cut, Directive, Line, Continued, Quote}
-use Rattle.sv_preproc.specs.Definitions.{line_of, behind_line, defining}
-use Rattle.sv_preproc.specs.declared.definition.Defining.{Defining}
-use Rattle.sv_preproc.specs.declared.definition.Defining.TheVariants.{Defines, BreaksAt, BreaksList, IllFormed}
-use Rattle.sv_preproc.specs.Including.{between_quotes, candidates}
+use Rattle.sv_macro.specs.Definitions.{line_of, behind_line, defining}
+use Rattle.sv_macro.specs.declared.definition.Defining.{Defining}
+use Rattle.sv_macro.specs.declared.definition.Defining.TheVariants.{Defines, BreaksAt, BreaksList, IllFormed}
+use Rattle.sv_macro.specs.Including.{between_quotes, candidates}
 use Rattle.sv_preproc.specs.declared.settings.Settings.{Settings}
-use Rattle.sv_preproc.specs.declared.words.Word.{Word}
-use Rattle.sv_preproc.specs.declared.words.Word.TheVariants as W
-use Rattle.sv_preproc.specs.States.{State, first_by, raw_token, Step, goes, looks, done, depth_limit, broken, with_coming, next_raw, behind_next, next_name}
-use Rattle.sv_preproc.specs.declared.shapes.Shape.{Shape}
-use Rattle.sv_preproc.specs.declared.shapes.Shape.TheVariants.{AnyName, AnyWord, Number, Slash}
+use Rattle.sv_macro.specs.declared.words.Word.{Word}
+use Rattle.sv_macro.specs.declared.words.Word.TheVariants as W
+use Rattle.sv_preproc.specs.States.{State, Step, goes, looks, done, depth_limit, broken, with_coming, next_raw, behind_next, next_name}
+use Rattle.sv_macro.specs.declared.shapes.Shape.{Shape}
+use Rattle.sv_macro.specs.declared.shapes.Shape.TheVariants.{AnyName, AnyWord, Number, Slash}
+use Rattle.sv_macro.specs.Shapes.{behind_shapes}
 use Rattle.sv_preproc.specs.Calls.{given_on, use_begins}
 use Rattle.sv_preproc.specs.Branches.{skips, branches}
 
@@ -63,34 +64,6 @@ abbrev pub include : Settings → State → Token → Step
 include set s t = include_from set (behind_next s) t (next_raw s)
 
 -- directives that are dropped with tokens of their line, one of each shape
-abbrev pub fits : Shape → Token → Bool
-fits AnyName t = is_name t
-fits AnyWord t = is_word t
-fits Number t = is_decimal t
-fits Slash t = is t (codes "/")
-
-abbrev pub first_fits : Shape → Option Token → Bool
-first_fits shape None = false
-first_fits shape (Some t) = fits shape t
-
-abbrev pub is_joint : Coming → Bool
-is_joint (Raw t) = is_continued t
-is_joint (Kept t) = false
-is_joint FileEnd = false
-is_joint (UseEnd name) = false
-
-abbrev pub behind_joints : List Coming → List Coming
-behind_joints [] = []
-behind_joints (item ∷ coming) = elim (is_joint item) [ true ↦ behind_joints coming | false ↦ item ∷ coming ]
-
-abbrev pub behind_shapes : List Shape → List Coming → Option (List Coming)
-behind_shapes [] coming = Some coming
-behind_shapes (shape ∷ shapes) coming =
-    elim (first_fits shape (first_by raw_token (behind_joints coming))) [
-      | true ↦ behind_shapes shapes (drop 1 (behind_joints coming))
-      | false ↦ None
-    ]
-
 abbrev pub dropped : State → Token → Option (List Coming) → Step
 dropped s t None = broken s 201 t
 dropped s t (Some coming) = goes (with_coming s coming)

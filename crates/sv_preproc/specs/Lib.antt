@@ -1,8 +1,3 @@
-pub mod Words
-pub mod Tokens
-pub mod Macros
-pub mod Definitions
-pub mod Including
 pub mod States
 pub mod Calls
 pub mod Branches
@@ -11,4 +6,3 @@ pub mod Runs
 pub mod Code
 pub mod Answers
 pub mod Left
-pub mod Numbers

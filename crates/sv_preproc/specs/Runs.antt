@@ -1,17 +1,18 @@
 -- Whole expansions.
-use Rattle.std.specs.Prelude.{◌≡◌, ℕ, zero, suc, ◌+◌, ◌-◌, nat_lt, min, Bool, true, false, List, [], ◌∷◌, ◌++◌, map, length, Option, Some, None, if◌then◌else◌, codes}
+use Rattle.std.specs.Prelude.{◌≡◌, ℕ, zero, suc, ◌+◌, ◌-◌, nat_lt, min, Bool, true, false, List, [], ◌∷◌, ◌++◌, map, length, fold, Option, Some, None, if◌then◌else◌, codes}
 use Rattle.sv_source.specs.Loading.{Contents}
 use Rattle.sv_source.specs.declared.token.Kind.TheVariants.{End}
 use Rattle.sv_source.specs.declared.token.Place.{Place}
 use Rattle.sv_source.specs.declared.token.Token.{Token}
 use Rattle.sv_source.specs.declared.refusal.Refusal.{Refusal}
 use Rattle.sv_lexer.specs.Lexing.{behind_bytes, tokens_of}
-use Rattle.sv_preproc.specs.Macros.{command_macros}
-use Rattle.sv_preproc.specs.Including.{Held, first_held, Tried}
+use Rattle.sv_macro.specs.Macros.{Macros, defined, parts_of}
+use Rattle.sv_preproc.specs.declared.settings.Define.{Define}
+use Rattle.sv_macro.specs.Including.{Held, first_held, Tried}
 use Rattle.sv_preproc.specs.States.{State, Step, goes, looks, done, breaks, file_limit, files_limit}
 use Rattle.sv_preproc.specs.Expansion.{step, head_place}
 use Rattle.sv_preproc.specs.declared.settings.Settings.{Settings}
-use Rattle.sv_preproc.specs.declared.state.Coming.TheVariants.{Raw, FileEnd}
+use Rattle.sv_macro.specs.declared.coming.Coming.TheVariants.{Raw, FileEnd}
 use Rattle.sv_preproc.specs.declared.turn.Search.{Search}
 
 -- what an expansion comes to: tokens, or a broken rule; and the files by the number in a place
@@ -22,6 +23,11 @@ pub data Outcome : Type 0 where
 -- the end of all files
 abbrev pub end_token : Place → Token
 end_token place = record { kind = End; text = codes "<end>"; place = place }
+
+-- the macros of the command line
+abbrev pub command_macros : List Define → Macros
+command_macros defines =
+    fold (λ macros d. defined macros d.name (record { arity = None; parts = parts_of [] d.body; busy = false })) (λ _. None) defines
 
 -- before the first file
 abbrev pub start : Settings → State

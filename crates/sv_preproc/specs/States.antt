@@ -1,12 +1,11 @@
 -- How far an expansion has come, and what a step comes to.
-use Rattle.std.specs.Prelude.{ℕ, ◌^◌, ◌||◌, Bool, true, false, List, [], ◌∷◌, drop, Option, Some, None, if◌then◌else◌}
+use Rattle.std.specs.Prelude.{ℕ, ◌^◌, List, drop, Option}
+use Rattle.sv_macro.specs.Lines.{behind_lines, raw_token, any_token, first_by, name_in}
 use Rattle.sv_source.specs.declared.token.Place.{Place}
 use Rattle.sv_source.specs.declared.token.Token.{Token}
 use Rattle.sv_source.specs.declared.refusal.Refusal.{Refusal}
-use Rattle.sv_preproc.specs.Tokens.{is_name, is_line, is_continued}
-use Rattle.sv_preproc.specs.Macros.{Macros}
-use Rattle.sv_preproc.specs.declared.state.Coming.{Coming}
-use Rattle.sv_preproc.specs.declared.state.Coming.TheVariants.{Raw, Kept, FileEnd, UseEnd}
+use Rattle.sv_macro.specs.Macros.{Macros}
+use Rattle.sv_macro.specs.declared.coming.Coming.{Coming}
 use Rattle.sv_preproc.specs.declared.state.OpenFile.{OpenFile}
 use Rattle.sv_preproc.specs.declared.state.Call.{Call}
 use Rattle.sv_preproc.specs.declared.turn.Search.{Search}
@@ -67,36 +66,6 @@ broken s rule t = breaks (record { rule = rule; place = t.place; word = t.text }
 abbrev pub with_coming : State → List Coming → State
 with_coming s coming = record s { coming = coming }
 
--- a newline, behind a backslash or not
-abbrev pub is_newline : Coming → Bool
-is_newline (Raw t) = is_line t || is_continued t
-is_newline (Kept t) = false
-is_newline FileEnd = false
-is_newline (UseEnd name) = false
-
--- what comes behind newlines
-abbrev pub behind_lines : List Coming → List Coming
-behind_lines [] = []
-behind_lines (item ∷ coming) = elim (is_newline item) [ true ↦ behind_lines coming | false ↦ item ∷ coming ]
-
--- a token of a file
-abbrev pub raw_token : Coming → Option Token
-raw_token (Raw t) = Some t
-raw_token (Kept t) = None
-raw_token FileEnd = None
-raw_token (UseEnd name) = None
-
--- a token of any kind
-abbrev pub any_token : Coming → Option Token
-any_token (Raw t) = Some t
-any_token (Kept t) = Some t
-any_token FileEnd = None
-any_token (UseEnd name) = None
-
-abbrev pub first_by : (Coming → Option Token) → List Coming → Option Token
-first_by token [] = None
-first_by token (item ∷ coming) = token item
-
 -- the token that comes behind newlines, and what is behind it
 abbrev pub next_raw : State → Option Token
 next_raw s = first_by raw_token (behind_lines s.coming)
@@ -106,11 +75,6 @@ next_any s = first_by any_token (behind_lines s.coming)
 
 abbrev pub behind_next : State → State
 behind_next s = with_coming s (drop 1 (behind_lines s.coming))
-
--- the name, if that token is one
-abbrev pub name_in : Option Token → Option (List ℕ)
-name_in None = None
-name_in (Some t) = if is_name t then Some t.text else None
 
 abbrev pub next_name : State → Option (List ℕ)
 next_name s = name_in (next_raw s)

@@ -4,11 +4,11 @@ ghost use Rattle.sv_preproc.specs.Branches as spec;
 ghost use Rattle.sv_preproc.specs.States.{behind_next, next_name};
 ghost use Rattle.sv_preproc.specs.Code.{seen, Turns};
 
-use crate::lines::take_name;
 use crate::state::{Branch, Conditional, OpenFile, State};
-use crate::tokens::broken;
 use crate::turn::Turn;
-use crate::words::Condition;
+use sv_macro::lines::take_name;
+use sv_macro::tokens::broken;
+use sv_macro::words::Condition;
 use sv_source::{Fail, Token};
 
 fn is_taken(branch: Branch) -> bool

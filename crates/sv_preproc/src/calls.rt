@@ -3,18 +3,19 @@ ghost use Rattle.std.specs.Prelude.{◌≡◌, ◌≤◌, ◌<◌, ◌+◌, ◌^
 ghost use Rattle.std.specs.Prelude.{codes};
 ghost use Rattle.sv_source.specs.declared.token.Token.{Token};
 ghost use Rattle.sv_source.specs.declared.refusal.Fail.TheVariants.{Refused};
-ghost use Rattle.sv_preproc.specs.Tokens.{name_of};
+ghost use Rattle.sv_macro.specs.Tokens.{name_of};
 ghost use Rattle.sv_preproc.specs.Calls as spec;
 ghost use Rattle.sv_preproc.specs.States.{goes};
 ghost use Rattle.sv_preproc.specs.Code.{seen, Turns, Bounded};
 
-use crate::lines::take_any;
-use crate::placing::{Placed, placed, placed_count};
-use crate::stack::Stack;
-use crate::state::{Bracket, Call, Coming, State};
-use crate::tokens::{broken, is, name_of};
+use crate::state::{Bracket, Call, State};
 use crate::turn::Turn;
 use std::alloc::{AllocError, Global};
+use sv_macro::coming::Coming;
+use sv_macro::lines::take_any;
+use sv_macro::placing::{Placed, placed, placed_count};
+use sv_macro::stack::Stack;
+use sv_macro::tokens::{broken, is, name_of};
 use sv_source::{Fail, Items, Place, Refusal, Text, Token, Tokens};
 
 /// The most macros used, tokens placed and tokens delivered.

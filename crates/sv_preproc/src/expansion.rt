@@ -2,21 +2,22 @@
 ghost use Rattle.std.specs.Prelude.{◌≡◌, ◌≤◌, ◌<◌, ◌^◌, ◌++◌, ◌∷◌, [], fold, length, OnOk, IfOk};
 ghost use Rattle.sv_source.specs.Loading.{Contents};
 ghost use Rattle.sv_preproc.specs.Answers.{Cause, Says, Opens, Stops, LoadsTold, AdvancesTold, AnswersTold};
-ghost use Rattle.sv_preproc.specs.Code.{seen, macros_in, Bounded};
-ghost use Rattle.sv_preproc.specs.Macros.{command_macros};
+ghost use Rattle.sv_preproc.specs.Code.{seen, Bounded};
+ghost use Rattle.sv_macro.specs.Tables.{macros_in};
+ghost use Rattle.sv_preproc.specs.Runs.{command_macros};
 ghost use Rattle.sv_preproc.specs.Runs as spec;
 ghost use Rattle.sv_preproc.specs.Left.{Ready, Settles};
 
-use crate::definition::parts_of;
 use crate::loading::{Found, load_first};
-use crate::macros::Macro;
 use crate::settings::{Define, ExpandFail, Expanded, Settings};
-use crate::stack::Stack;
 use crate::state::State;
-use crate::table::Table;
 use crate::turn::{Search, Turn};
 use std::alloc::{AllocError, Global};
 use std::mem;
+use sv_macro::definition::parts_of;
+use sv_macro::macros::Macro;
+use sv_macro::stack::Stack;
+use sv_macro::table::Table;
 use sv_source::{Fail, FileNames, Files, Kind, Place, Refusal, Text, Token, Tokens};
 
 // The macros of the command line.

@@ -3,23 +3,12 @@
 
 mod branches;
 mod calls;
-mod definition;
 mod expansion;
-mod formals;
-mod including;
-mod lines;
 mod loading;
-mod macros;
-mod placing;
 mod settings;
-mod shapes;
-mod stack;
 mod state;
 mod step;
-mod table;
-mod tokens;
 mod turn;
-mod words;
 
 pub use expansion::expand;
 pub use settings::{Define, Defines, ExpandFail, Expanded, Settings, Texts};

@@ -5,10 +5,11 @@ ghost use Rattle.sv_preproc.specs.Code.{seen, Bounded};
 ghost use Rattle.sv_preproc.specs.Runs as spec;
 
 use crate::settings::ExpandFail;
-use crate::stack::Stack;
-use crate::state::{Coming, OpenFile, State};
+use crate::state::{OpenFile, State};
 use std::alloc::{AllocError, Global};
 use sv_lexer::{lex, place_behind};
+use sv_macro::coming::Coming;
+use sv_macro::stack::Stack;
 use sv_source::{Files, Loaded, Place, Text, Tokens};
 
 /// What stands at the first of some paths that isn't absent.

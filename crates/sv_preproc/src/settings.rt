@@ -1,8 +1,6 @@
 use std::alloc::AllocError;
+pub use sv_macro::texts::Texts;
 use sv_source::{FileNames, Items, Refusal, Text, Tokens};
-
-/// A list of texts.
-pub type Texts = Items<Text>;
 
 /// A macro that the command line defines.
 #[derive(Drop, Debug)]

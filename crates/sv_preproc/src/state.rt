@@ -1,21 +1,9 @@
 // How far an expansion has come.
 
-use crate::stack::Stack;
-use crate::table::Table;
+use sv_macro::coming::Coming;
+use sv_macro::stack::Stack;
+use sv_macro::table::Table;
 use sv_source::{FileNames, Items, Place, Text, Token, Tokens};
-
-/// What is still to come.
-#[derive(Drop, Debug)]
-pub enum Coming {
-    /// A token that is looked at for directives and uses.
-    Raw(Token),
-    /// A token of an argument that was expanded already.
-    Kept(Token),
-    /// The end of a file.
-    FileEnd,
-    /// The end of the expansion of the macro with this name.
-    UseEnd(Text),
-}
 
 /// Whether a conditional's branch is taken.
 #[derive(Clone, Copy, PartialEq, Eq, Debug)]
@@ -101,15 +89,4 @@ pub struct State {
     pub ending: Place,
     /// The tokens that were delivered.
     pub delivered: Tokens,
-}
-
-/// A macro's body that is placed in part.
-#[derive(Drop, Debug)]
-pub struct Placing {
-    /// What is complete.
-    pub complete: Items<Coming>,
-    /// What a paste may still be joined to.
-    pub chain: Items<Coming>,
-    /// Whether a paste was the last part.
-    pub pasting: bool,
 }

@@ -3,19 +3,20 @@ ghost use Rattle.std.specs.Prelude.{◌≡◌, ◌≤◌, ◌^◌, ◌<◌, leng
 ghost use Rattle.sv_preproc.specs.Expansion as spec;
 ghost use Rattle.sv_preproc.specs.Branches as branches;
 ghost use Rattle.sv_preproc.specs.States.{goes};
-ghost use Rattle.sv_preproc.specs.Tokens.{said_by};
+ghost use Rattle.sv_macro.specs.Tokens.{said_by};
 ghost use Rattle.sv_preproc.specs.Code.{seen, Turns, Bounded};
 
-use crate::definition::{Defining, read_definition, take_line};
-use crate::including::{between_quotes, candidates};
-use crate::lines::{take_name, take_raw};
 use crate::settings::{Settings, Texts};
-use crate::shapes::{Shape, take_shapes};
-use crate::state::{Coming, State};
-use crate::tokens::{broken, is_string, said_by};
+use crate::state::State;
 use crate::turn::{Search, Turn};
-use crate::words::Word;
 use std::alloc::Global;
+use sv_macro::coming::Coming;
+use sv_macro::definition::{Defining, read_definition, take_line};
+use sv_macro::including::{between_quotes, candidates};
+use sv_macro::lines::{take_name, take_raw};
+use sv_macro::shapes::{Shape, take_shapes};
+use sv_macro::tokens::{broken, is_string, said_by};
+use sv_macro::words::Word;
 use sv_source::{Fail, Kind, Place, Text, Token};
 
 /// The most files that are open at a time, with that of the command line.

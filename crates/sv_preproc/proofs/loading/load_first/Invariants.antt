@@ -1,6 +1,6 @@
 use Rattle.std.proofs.Common.{◌≡◌, ℕ, List, drop, Some}
 use Rattle.sv_source.specs.Loading.{Contents}
-use Rattle.sv_preproc.specs.Including.{first_held, Tried}
+use Rattle.sv_macro.specs.Including.{first_held, Tried}
 use Rattle.sv_preproc.proofs.loading.load_first.Given as goal
 
 abbrev pub invariant-loop-path : goal.invariant-loop-path

@@ -1,5 +1,5 @@
 use Rattle.std.proofs.Common.{◌≡◌, ◌++◌, map, length}
-use Rattle.sv_preproc.specs.declared.state.Coming.TheVariants.{Raw}
+use Rattle.sv_macro.specs.declared.coming.Coming.TheVariants.{Raw}
 use Rattle.sv_preproc.proofs.loading.push_raw.Given as goal
 
 abbrev pub invariant-loop-token : goal.invariant-loop-token

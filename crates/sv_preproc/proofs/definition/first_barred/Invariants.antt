@@ -1,6 +1,0 @@
-use Rattle.std.proofs.Common.{◌≡◌, drop}
-use Rattle.sv_preproc.specs.Definitions.{first_barred}
-use Rattle.sv_preproc.proofs.definition.first_barred.Given as goal
-
-abbrev pub invariant-loop-token : goal.invariant-loop-token
-invariant-loop-token l = first_barred (drop l.token-index l.body) ≡ first_barred l.body

@@ -1,7 +1,0 @@
-use Rattle.std.proofs.Common.{◌≡◌, ◌++◌, map, drop}
-use Rattle.sv_preproc.specs.Tokens.{moved}
-use Rattle.sv_preproc.specs.declared.state.Coming.TheVariants.{Kept}
-use Rattle.sv_preproc.proofs.placing.kept.Given as goal
-
-abbrev pub invariant-loop-token : goal.invariant-loop-token
-invariant-loop-token l = l.items ++ map (λ t. Kept (moved l.at t)) (drop l.token-index l.tokens) ≡ map (λ t. Kept (moved l.at t)) l.tokens
