@@ -1,0 +1,30 @@
+use Rattle.std.proofs.Common.{◌≡◌, true, false, Ok, ap, ◌∙◌}
+use Rattle.std.proofs.lemmas.Result.{err_from_is_err_and}
+use Rattle.sv_preproc.specs.Code.{seen}
+use Rattle.sv_preproc.proofs.Whole.{comes_at, settled_at, stops_answers, done_answers, advances_err, advances_ok, level_at}
+use Rattle.sv_preproc.proofs.expansion.expand.Goals as goal
+
+pub returns-in_err-advance-clause-answer : goal.returns-in_err-advance-clause-answer
+returns-in_err-advance-clause-answer g c = λ contents told.
+    let p = err_from_is_err_and c.from_residual-in_err-advance.result c.from_residual-in_err-advance.ensures.1 in
+    let told_now = c.loop-state.invariant.same ∙ told in
+    let a = advances_err c.args.set.now contents (seen c.loop-state.state) (seen c.advance.new.self) c.advance.result c.in_err-advance.field-0.0 c.in_err-advance.was (c.advance.ensures.answer contents told_now) in
+    rw (p.1, p.2) (stops_answers c.args.set.now contents (seen c.loop-state.state) (seen c.advance.new.self) c.in_err-advance.field-0.0 (c.loop-state.invariant.comes contents told) a)
+
+pub loop-state-preserved : goal.loop-state-preserved
+loop-state-preserved g c =
+    let is : c.advance.result ≡ Ok true = c.in_ok-advance.was ∙ ap Ok c.if-branch.true in
+    let s = settled_at _ (seen c.loop-state.state) (seen c.advance.new.self) c.advance.result is c.advance.ensures.falls in
+    record {
+      ready = s.0;
+      same = c.advance.ensures.same ∙ c.loop-state.invariant.same;
+      level = level_at c.advance.result _ _ is c.advance.ensures.cause ∙ c.loop-state.invariant.level;
+      comes = λ contents told. comes_at c.args.set.now contents (seen c.loop-state.state) (seen c.advance.new.self) c.advance.result is (c.loop-state.invariant.comes contents told) (c.advance.ensures.answer contents (c.loop-state.invariant.same ∙ told));
+    }
+
+pub returns-clause-answer : goal.returns-clause-answer
+returns-clause-answer g c = λ contents told.
+    let is : c.advance.result ≡ Ok false = c.in_ok-advance.was ∙ ap Ok c.if-branch.false in
+    let told_now = c.loop-state.invariant.same ∙ told in
+    let a = advances_ok c.args.set.now contents (seen c.loop-state.state) (seen c.advance.new.self) c.advance.result is (c.advance.ensures.answer contents told_now) in
+    done_answers c.args.set.now contents (seen c.loop-state.state) (seen c.advance.new.self) c.in_ok-finished.field-0 (c.loop-state.invariant.comes contents told) a c.in_ok-finished.ensures.0 c.in_ok-finished.ensures.1

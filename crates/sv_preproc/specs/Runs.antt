@@ -1,0 +1,112 @@
+-- Whole expansions.
+use Rattle.std.specs.Prelude.{◌≡◌, ℕ, zero, suc, ◌+◌, ◌-◌, nat_lt, min, Bool, true, false, List, [], ◌∷◌, ◌++◌, map, length, fold, Option, Some, None, if◌then◌else◌, codes}
+use Rattle.sv_source.specs.Loading.{Contents}
+use Rattle.sv_source.specs.declared.token.Kind.TheVariants.{End}
+use Rattle.sv_source.specs.declared.token.Place.{Place}
+use Rattle.sv_source.specs.declared.token.Token.{Token}
+use Rattle.sv_source.specs.declared.refusal.Refusal.{Refusal}
+use Rattle.sv_lexer.specs.Lexing.{behind_bytes, tokens_of}
+use Rattle.sv_macro.specs.Macros.{Macros, defined, parts_of}
+use Rattle.sv_preproc.specs.declared.settings.Define.{Define}
+use Rattle.sv_macro.specs.Including.{Held, first_held, Tried}
+use Rattle.sv_preproc.specs.States.{State, Step, goes, looks, done, breaks, file_limit, files_limit}
+use Rattle.sv_preproc.specs.Expansion.{step, head_place}
+use Rattle.sv_preproc.specs.declared.settings.Settings.{Settings}
+use Rattle.sv_macro.specs.declared.coming.Coming.TheVariants.{Raw, FileEnd}
+use Rattle.sv_preproc.specs.declared.turn.Search.{Search}
+
+-- what an expansion comes to: tokens, or a broken rule; and the files by the number in a place
+pub data Outcome : Type 0 where
+  expands : List Token → List (List ℕ) → Outcome
+  refused : Refusal → List (List ℕ) → Outcome
+
+-- the end of all files
+abbrev pub end_token : Place → Token
+end_token place = record { kind = End; text = codes "<end>"; place = place }
+
+-- the macros of the command line
+abbrev pub command_macros : List Define → Macros
+command_macros defines =
+    fold (λ macros d. defined macros d.name (record { arity = None; parts = parts_of [] d.body; busy = false })) (λ _. None) defines
+
+-- before the first file
+abbrev pub start : Settings → State
+start set = record {
+  coming = [];
+  macros = command_macros set.defines;
+  files = [];
+  calls = [];
+  uses = 0;
+  next = 0;
+  names = [];
+  loaded = 0;
+  spent = 0;
+  ending = record { file = 0; line = 1; col = 1 };
+  delivered = [];
+}
+
+-- the most bytes that the next file may have
+abbrev pub room_left : State → ℕ
+room_left s = min file_limit (files_limit - s.loaded)
+
+-- the tokens of a file come next, and then its end
+abbrev pub opened : Bool → State → Held → State
+opened top s held = record s {
+  coming = map Raw (tokens_of (length s.names) held.bytes) ++ FileEnd ∷ s.coming;
+  files = (record { path = held.path; conditionals = [] }) ∷ s.files;
+  names = s.names ++ held.path ∷ [];
+  loaded = s.loaded + length held.bytes;
+  ending = if top then behind_bytes (head_place s) held.bytes else s.ending;
+}
+
+-- a file that is wanted is absent or too long; one of the command line has the next number
+abbrev pub lost : ℕ → Search → State → Step
+lost rule search s =
+    breaks (record { rule = rule; place = search.place; word = search.word }) (if search.top then s.names ++ search.word ∷ [] else s.names)
+
+abbrev pub found : Search → State → Option Held → Step
+found search s None = lost 101 search s
+found search s (Some held) = elim (nat_lt (room_left s) (length held.bytes)) [ true ↦ lost 102 search s | false ↦ goes (opened search.top s held) ]
+
+-- some way through an expansion
+pub data Run : Type 0 where
+  running : State → Run
+  ended : Outcome → Run
+
+abbrev pub without_search : Step → Run
+without_search (goes s) = running s
+without_search (looks search s) = running s
+without_search (done s) = ended (expands (s.delivered ++ end_token s.ending ∷ []) s.names)
+without_search (breaks r names) = ended (refused r names)
+
+abbrev pub with_files : Contents → Step → Run
+with_files contents (looks search s) = without_search (found search s (first_held contents search.paths))
+with_files contents other = without_search other
+
+abbrev pub one_more : Settings → Contents → Run → Run
+one_more set contents (running s) = with_files contents (step set s)
+one_more set contents (ended outcome) = ended outcome
+
+abbrev pub after : Settings → Contents → ℕ → Run → Run
+after set contents zero run = run
+after set contents (suc n) run = after set contents n (one_more set contents run)
+
+-- the expansion of the settings, with these files, comes to this
+abbrev pub Expands : Settings → Contents → Outcome → Type 0
+Expands set contents outcome = (n : ℕ) × (after set contents n (running (start set)) ≡ ended outcome)
+
+-- the expansion looks for a file at this path
+pub record LooksAt (set : Settings) (contents : Contents) (path : List ℕ) : Type 0 where
+  pub turns : ℕ
+  pub state : State
+  pub next : State
+  pub search : Search
+  pub comes : after set contents turns (running (start set)) ≡ running state
+  pub wants : step set state ≡ looks search next
+  pub tried : Tried contents search.paths path
+
+-- it comes to one outcome: tokens or a refusal, and not both
+pub record HasOutcome (set : Settings) (contents : Contents) : Type 0 where
+  pub outcome : Outcome
+  pub comes : Expands set contents outcome
+  pub only : (other : Outcome) → Expands set contents other → other ≡ outcome

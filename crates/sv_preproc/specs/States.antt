@@ -1,0 +1,80 @@
+-- How far an expansion has come, and what a step comes to.
+use Rattle.std.specs.Prelude.{ℕ, ◌^◌, List, drop, Option}
+use Rattle.sv_macro.specs.Lines.{behind_lines, raw_token, any_token, first_by, name_in}
+use Rattle.sv_source.specs.declared.token.Place.{Place}
+use Rattle.sv_source.specs.declared.token.Token.{Token}
+use Rattle.sv_source.specs.declared.refusal.Refusal.{Refusal}
+use Rattle.sv_macro.specs.Macros.{Macros}
+use Rattle.sv_macro.specs.declared.coming.Coming.{Coming}
+use Rattle.sv_preproc.specs.declared.state.OpenFile.{OpenFile}
+use Rattle.sv_preproc.specs.declared.state.Call.{Call}
+use Rattle.sv_preproc.specs.declared.turn.Search.{Search}
+
+-- how far an expansion has come
+pub record State : Type 0 where
+  -- what comes, of the files and bodies that are open
+  pub coming : List Coming
+  -- what each name stands for
+  pub macros : Macros
+  -- the open files and calls, the innermost first, and how many bodies are open
+  pub files : List OpenFile
+  pub calls : List Call
+  pub uses : ℕ
+  -- how many files of the command line were looked for
+  pub next : ℕ
+  -- the paths of the files that were loaded, and how many bytes
+  pub names : List (List ℕ)
+  pub loaded : ℕ
+  -- how many macros were used, tokens placed and tokens delivered
+  pub spent : ℕ
+  -- the place behind the last file of the command line
+  pub ending : Place
+  -- the tokens that were delivered
+  pub delivered : List Token
+
+-- what a step comes to
+pub data Step : Type 0 where
+  -- it goes on
+  goes : State → Step
+  -- it goes on with the first of some files that isn't absent
+  looks : Search → State → Step
+  -- all files are expanded
+  done : State → Step
+  -- a rule is broken; the files loaded so far
+  breaks : Refusal → List (List ℕ) → Step
+
+-- the most macros used, tokens placed and tokens delivered
+abbrev pub spending_limit : ℕ
+spending_limit = 2 ^ 22
+
+-- the most bytes of a file, and of all files
+abbrev pub file_limit : ℕ
+file_limit = 2 ^ 24
+
+abbrev pub files_limit : ℕ
+files_limit = 2 ^ 26
+
+-- the most files that are open at a time, with that of the command line
+abbrev pub depth_limit : ℕ
+depth_limit = 17
+
+-- the rule is broken at the token
+abbrev pub broken : State → ℕ → Token → Step
+broken s rule t = breaks (record { rule = rule; place = t.place; word = t.text }) s.names
+
+-- the rest goes on behind these
+abbrev pub with_coming : State → List Coming → State
+with_coming s coming = record s { coming = coming }
+
+-- the token that comes behind newlines, and what is behind it
+abbrev pub next_raw : State → Option Token
+next_raw s = first_by raw_token (behind_lines s.coming)
+
+abbrev pub next_any : State → Option Token
+next_any s = first_by any_token (behind_lines s.coming)
+
+abbrev pub behind_next : State → State
+behind_next s = with_coming s (drop 1 (behind_lines s.coming))
+
+abbrev pub next_name : State → Option (List ℕ)
+next_name s = name_in (next_raw s)

@@ -1,0 +1,106 @@
+// Loads of files.
+ghost use Rattle.std.specs.Prelude.{◌≡◌, ◌≤◌, ◌<◌, ◌^◌, ◌++◌, ◌+◌, ◌-◌, map, min, length, OnOk};
+ghost use Rattle.sv_preproc.specs.Answers.{Cause, FindsTold, FoundWithin};
+ghost use Rattle.sv_preproc.specs.Code.{seen, Bounded};
+ghost use Rattle.sv_preproc.specs.Runs as spec;
+
+use crate::settings::ExpandFail;
+use crate::state::{OpenFile, State};
+use std::alloc::{AllocError, Global};
+use sv_lexer::{lex, place_behind};
+use sv_macro::coming::Coming;
+use sv_macro::stack::Stack;
+use sv_source::{Files, Loaded, Place, Text, Tokens};
+
+/// What stands at the first of some paths that isn't absent.
+#[derive(Drop, Debug)]
+pub enum Found {
+    /// A file, by its path and its bytes.
+    File(Text, Text),
+    /// All are absent.
+    Absent,
+    /// A file that has too many bytes.
+    TooLong,
+}
+
+/// Loads the first of these paths that isn't absent.
+pub fn load_first<F: Files>(
+    alloc: Global,
+    files: &mut F,
+    paths: &[Text],
+    limit: u64,
+) -> Result<Found, ExpandFail>
+    requires { limit < 2 ^ 32 }
+    ensures answer { FindsTold (F.contents files.old) paths.now limit result }
+    ensures within { FoundWithin limit result }
+    ensures same { F.contents files.new ≡ F.contents files.old }
+    ensures cause { Cause result (F.faults files.old) (F.faults files.new) }
+{
+    for path in paths {
+        match files.load(alloc, path.as_bytes(), limit) {
+            Loaded::Bytes(bytes) => return Ok(Found::File(path.copy(alloc)?, bytes)),
+            Loaded::Absent => {}
+            Loaded::TooLong => return Ok(Found::TooLong),
+            Loaded::Failed => {
+                return Err(ExpandFail::FileFault {
+                    path: path.copy(alloc)?,
+                });
+            }
+            Loaded::Memory => return Err(ExpandFail::Memory),
+        }
+    }
+    Ok(Found::Absent)
+}
+
+// The tokens of a file come next.
+fn push_raw(coming: &mut Stack<Coming>, tokens: Tokens) -> Result<(), AllocError>
+    ensures { OnOk result (coming.new ≡ map Coming.Raw tokens ++ coming.old) }
+{
+    let mut tokens = tokens;
+    while let Some(token) = tokens.pop() {
+        coming.push(Coming::Raw(token))?;
+    }
+    Ok(())
+}
+
+impl State {
+    /// The most bytes that the next file may have.
+    pub fn room_left(&self) -> u64
+        requires { self.now.loaded ≤ 2 ^ 26 }
+        ensures { result ≡ spec.room_left (seen self.now) }
+    {
+        ((1 << 26) - self.loaded).min(1 << 24)
+    }
+
+    /// The tokens of a file come next, and then its end.
+    pub fn open(
+        &mut self,
+        alloc: Global,
+        top: bool,
+        path: Text,
+        bytes: &[u8],
+    ) -> Result<(), AllocError>
+        requires bounded { Bounded self.old }
+        requires within { length bytes.now ≤ spec.room_left (seen self.old) }
+        ensures { OnOk result (seen self.new ≡ spec.opened top (seen self.old) (record { path = path; bytes = bytes.now })) }
+    {
+        let start = Place {
+            file: self.names.len() as u32,
+            line: 1,
+            col: 1,
+        };
+        let tokens = lex(alloc, start.file, bytes)?;
+        self.coming.push(Coming::FileEnd)?;
+        push_raw(&mut self.coming, tokens)?;
+        self.files.push(OpenFile {
+            path: path.copy(alloc)?,
+            conditionals: Stack::new(alloc),
+        })?;
+        if top {
+            self.ending = place_behind(start, bytes);
+        }
+        self.names.push(path)?;
+        self.loaded += bytes.len() as u64;
+        Ok(())
+    }
+}

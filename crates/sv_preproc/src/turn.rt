@@ -1,0 +1,28 @@
+// What a step of an expansion comes to.
+
+use crate::settings::Texts;
+use sv_source::{Place, Text};
+
+/// A file that is wanted.
+#[derive(Drop, Debug)]
+pub struct Search {
+    /// Where it may be: the first that isn't absent is meant.
+    pub paths: Texts,
+    /// Whether the command line names it.
+    pub top: bool,
+    /// Where a refusal of it stands.
+    pub place: Place,
+    /// The word of that refusal.
+    pub word: Text,
+}
+
+/// What a step comes to.
+#[derive(Drop, Debug)]
+pub enum Turn {
+    /// The expansion goes on.
+    Go,
+    /// It goes on with a file.
+    Look(Search),
+    /// It is done.
+    Done,
+}
