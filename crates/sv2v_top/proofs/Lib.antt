@@ -9,9 +9,11 @@ pub mod Building
 pub mod Spines
 pub mod Readable
 pub mod SimpleNames
+pub mod SourceNames
 pub mod Built
 pub mod Correct
-pub mod AskedFor
 pub mod Fit
 pub mod Runs
+pub mod Ends
+pub mod Causes
 pub mod Promises

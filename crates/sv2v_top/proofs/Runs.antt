@@ -1,25 +1,28 @@
--- From the bytes of a file to the request.
-use Rattle.std.proofs.Common.{◌≡◌, refl, subst, ℕ, ◌≤◌, List, length, Option, Some, Result, Ok, Err}
+-- From the tokens of an expansion to the request, and to the sinks.
+use Rattle.std.proofs.Common.{◌≡◌, refl, subst, ℕ, List, Option, Result, Ok, Err}
 use Rattle.sv_source.specs.Faults.{NotRaised}
 use Rattle.sv_source.specs.Loading.{Contents}
+use Rattle.sv_source.specs.declared.token.Place.{Place}
+use Rattle.sv_source.specs.declared.token.Token.{Token}
 use Rattle.sv_source.specs.declared.text.Text.{Text}
 use Rattle.sv_source.specs.Putting.{appended, Gains, GainsFront, PutCause}
 use Rattle.sv_source.specs.declared.sink.Put.{Put}
 use Rattle.sv_source.specs.declared.sink.Put.TheVariants.{Ok as PutOk, Failed}
-use Rattle.sv2v_top.specs.Words.{Asked}
+use Rattle.command_line.specs.declared.words.Asked.{Asked}
 use Rattle.sv2v_top.specs.declared.run.Stop.{Stop}
 use Rattle.sv2v_top.specs.declared.run.Stop.TheVariants as S
 use Rattle.sv2v_top.specs.declared.status.Status.TheVariants.{SinkFault}
 use Rattle.sv2v_top.specs.Endings.{Says, said, unsaid}
-use Rattle.sv2v_top.specs.Headline.{FileGives, AskedGives, Holds, breaks, file_limit}
+use Rattle.sv2v_top.specs.Headline.{ExpandsTo, TokensGive, AskedGives, in_tokens}
 
-pub from-file : (request : Asked) (told : Option Contents) (before now : ℕ) (bytes : List ℕ) (result : Result Text Stop)
-    → length bytes ≤ file_limit → Holds told request.file (Some bytes) → NotRaised before now → FileGives request bytes result → AskedGives request told before now result
-from-file request told before now bytes (Ok text) few held calm g = record { bytes = bytes; few = few; held = held; translates = g }
-from-file request told before now bytes (Err S.Usage) few held calm g = g
-from-file request told before now bytes (Err S.Memory) few held calm g = tt
-from-file request told before now bytes (Err (S.FileFault path)) few held calm g = absurd g
-from-file request told before now bytes (Err (S.Refused path refusal)) few held calm g = (record { is_path = g.0; cause = breaks bytes few held g.1 }, calm)
+pub from-tokens : (request : Asked) (told : Option Contents) (before now : ℕ) (tokens : List Token) (last : Place) (names : List (List ℕ)) (result : Result Text Stop)
+    → ExpandsTo request told tokens last names → NotRaised before now → TokensGive request.top tokens last names result → AskedGives request told before now result
+from-tokens request told before now tokens last names (Ok text) x calm g = record { tokens = tokens; last = last; names = names; expansion = x; translates = g }
+from-tokens request told before now tokens last names (Err S.Usage) x calm g = g
+from-tokens request told before now tokens last names (Err S.Memory) x calm g = tt
+from-tokens request told before now tokens last names (Err (S.FileFault path)) x calm g = absurd g
+from-tokens request told before now tokens last names (Err (S.Refused path refusal)) x calm g =
+    (record { names = names; is_path = g.0; cause = in_tokens tokens last x g.1 }, calm)
 
 -- the line of a write fault, put on the error stream
 pub fault-said : {b a : Option (List ℕ)} → {fb fa : ℕ} → {line : List ℕ} → (result : Put)

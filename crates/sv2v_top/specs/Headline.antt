@@ -1,69 +1,66 @@
 -- What a run of the translator answers.
-use Rattle.std.specs.Prelude.{◌≡◌, ◌^◌, ◌<◌, ◌≤◌, ℕ, List, length, Option, Some, None, Result, Ok, Err}
+use Rattle.std.specs.Prelude.{◌≡◌, ◌++◌, ℕ, List, [], ◌∷◌, slice_index_or, Option, Some, None, Result, Ok, Err}
 use Rattle.sv_source.specs.Faults.{Rose, NotRaised}
 use Rattle.sv_source.specs.Loading.{Contents}
 use Rattle.sv_source.specs.declared.text.Text.{Text}
 use Rattle.sv_source.specs.declared.refusal.Refusal.{Refusal}
-use Rattle.sv2v_top.specs.Words.{Asked, asked}
+use Rattle.sv_source.specs.declared.token.Place.{Place}
+use Rattle.sv_source.specs.declared.token.Token.{Token}
+use Rattle.sv_preproc.specs.Runs.{Outcome, expands, refused, end_token, Comes, LooksAt}
+use Rattle.command_line.specs.declared.words.Asked.{Asked}
+use Rattle.command_line.specs.Words.{asked}
 use Rattle.sv2v_top.specs.declared.run.Stop.{Stop}
 use Rattle.sv2v_top.specs.declared.run.Stop.TheVariants as S
-use Rattle.sv2v_top.specs.source.Answers.{stage_refusal}
 use Rattle.sv2v_top.specs.Translation.{Translates, Breaks}
 
--- the most bytes of a file
-abbrev pub file_limit : ℕ
-file_limit = 2 ^ 24
+-- The files of a request expand to these tokens, whose files have these names, and end behind them at a place. Where the
+-- contents of the files are told, the expansion is that of these contents; else that of what its searches find.
+abbrev pub ExpandsTo : Asked → Option Contents → List Token → Place → List (List ℕ) → Type 0
+ExpandsTo request told tokens last names = Comes request.settings told (expands (tokens ++ end_token last ∷ []) names)
 
--- E101 at the head of the file: it is absent
-abbrev pub absent_refusal : List ℕ → Refusal
-absent_refusal path = record { rule = 101; place = record { file = 0; line = 1; col = 1 }; word = path }
+-- the name of the file of a place
+abbrev pub file_of : List (List ℕ) → Place → List ℕ
+file_of names place = slice_index_or names place.file []
 
--- where the contents are told, the path holds these bytes
-abbrev pub Holds : Option Contents → List ℕ → Option (List ℕ) → Type 0
-Holds told path held = (contents : Contents) → told ≡ Some contents → contents path ≡ held
-
--- the file that is asked for has this translation
+-- the files that are asked for have this translation
 pub record IsTranslated (request : Asked) (told : Option Contents) (text : List ℕ) : Type 0 where
-  pub bytes : List ℕ
-  pub few : length bytes ≤ file_limit
-  pub held : Holds told request.file (Some bytes)
-  pub translates : Translates request.top bytes text
+  pub tokens : List Token
+  pub last : Place
+  pub names : List (List ℕ)
+  pub expansion : ExpandsTo request told tokens last names
+  pub translates : Translates request.top tokens text
 
--- the file is too long for what is built
-abbrev pub IsTooLong : Option Contents → List ℕ → Type 0
-IsTooLong told path = (contents : Contents) → told ≡ Some contents → (bytes : List ℕ) × (contents path ≡ Some bytes) × (file_limit < length bytes)
+-- why the files that are asked for are refused: their expansion breaks a rule, or their tokens have a break
+pub data Cause (request : Asked) (told : Option Contents) (names : List (List ℕ)) (r : Refusal) : Type 0 where
+  in_expansion : Comes request.settings told (refused r names) → Cause request told names r
+  in_tokens : (tokens : List Token) (last : Place) → ExpandsTo request told tokens last names → Breaks request.top tokens last r → Cause request told names r
 
--- why the file that is asked for is refused: it is absent, it is too long for what is built, or its text has a break
-pub data Cause (request : Asked) (told : Option Contents) (r : Refusal) : Type 0 where
-  is_absent : Holds told request.file None → r ≡ absent_refusal request.file → Cause request told r
-  is_too_long : IsTooLong told request.file → r ≡ stage_refusal → Cause request told r
-  breaks : (bytes : List ℕ) → length bytes ≤ file_limit → Holds told request.file (Some bytes) → Breaks request.top bytes r → Cause request told r
-
--- the refusal stands at that file
+-- the refusal stands in the file with this name
 pub record IsRefused (request : Asked) (told : Option Contents) (path : List ℕ) (r : Refusal) : Type 0 where
-  pub is_path : path ≡ request.file
-  pub cause : Cause request told r
+  pub names : List (List ℕ)
+  pub is_path : path ≡ file_of names r.place
+  pub cause : Cause request told names r
 
--- the load of that file failed, and the count of faults rose
-pub record IsFaulty (request : Asked) (before now : ℕ) (path : List ℕ) : Type 0 where
-  pub is_path : path ≡ request.file
+-- a load failed, and the count of faults rose; where the contents are told, the expansion looks for a file at this path
+pub record IsFaulty (request : Asked) (told : Option Contents) (before now : ℕ) (path : List ℕ) : Type 0 where
   pub rose : Rose before now
+  pub looks : (contents : Contents) → told ≡ Some contents → LooksAt request.settings contents path
 
 -- what is answered for a request, by what the files tell, and by the count of their faults before and after
 abbrev pub AskedGives : Asked → Option Contents → ℕ → ℕ → Result Text Stop → Type 0
 AskedGives request told before now (Ok text) = IsTranslated request told text
 AskedGives request told before now (Err S.Usage) = ⊥
 AskedGives request told before now (Err S.Memory) = Unit {0}
-AskedGives request told before now (Err (S.FileFault path)) = IsFaulty request before now path
+AskedGives request told before now (Err (S.FileFault path)) = IsFaulty request told before now path
 AskedGives request told before now (Err (S.Refused path refusal)) = IsRefused request told path refusal × NotRaised before now
 
--- what is answered for the bytes of its file
-abbrev pub FileGives : Asked → List ℕ → Result Text Stop → Type 0
-FileGives request bytes (Ok text) = Translates request.top bytes text
-FileGives request bytes (Err S.Usage) = ⊥
-FileGives request bytes (Err S.Memory) = Unit {0}
-FileGives request bytes (Err (S.FileFault path)) = ⊥
-FileGives request bytes (Err (S.Refused path refusal)) = (path ≡ request.file) × Breaks request.top bytes refusal
+-- what is answered for the tokens of an expansion
+abbrev pub TokensGive : List ℕ → List Token → Place → List (List ℕ) → Result Text Stop → Type 0
+TokensGive top tokens last names (Ok text) = Translates top tokens text
+TokensGive top tokens last names (Err S.Usage) = ⊥
+TokensGive top tokens last names (Err S.Memory) = Unit {0}
+TokensGive top tokens last names (Err (S.FileFault path)) = ⊥
+TokensGive top tokens last names (Err (S.Refused path refusal)) = (path ≡ file_of names refusal.place) × Breaks top tokens last refusal
 
 -- what is answered for words
 pub record Answers (words : List (List ℕ)) (told : Option Contents) (before now : ℕ) (result : Result Text Stop) : Type 0 where

@@ -1,4 +1,4 @@
-pub mod Words
+pub mod Tokens
 pub mod source
 pub mod Translation
 pub mod Headline

@@ -1,16 +1,19 @@
 -- What a call of the translator promises of each status: its cause, and what stands on the output and the error stream.
-use Rattle.std.specs.Prelude.{◌≡◌, ◌⊎◌, ◌≤◌, ℕ, List, length, Option, Some, None, Err}
-use Rattle.sv_source.specs.Faults.{Rose, NoFault, NotRaised}
+use Rattle.std.specs.Prelude.{◌≡◌, ◌⊎◌, ℕ, List, Option, Some, None, Err}
+use Rattle.sv_source.specs.Faults.{NoFault, NotRaised}
 use Rattle.sv_source.specs.Loading.{Contents}
 use Rattle.sv_source.specs.Message.{usage_line, memory_line, read_fault_line, refusal_line, write_fault_line}
 use Rattle.sv_source.specs.declared.refusal.Refusal.{Refusal}
-use Rattle.sv2v_top.specs.Words.{Asked, asked}
+use Rattle.sv_source.specs.declared.token.Place.{Place}
+use Rattle.sv_source.specs.declared.token.Token.{Token}
+use Rattle.command_line.specs.declared.words.Asked.{Asked}
+use Rattle.command_line.specs.Words.{asked}
 use Rattle.sv2v_top.specs.declared.run.Stop.{Stop}
 use Rattle.sv_types.specs.declared.design.Design.{Design}
 use Rattle.sv2v_top.specs.declared.status.Status.{Status}
 use Rattle.sv2v_top.specs.declared.status.Status.TheVariants.{Done, Refused, Usage, Memory, FileFault, SinkFault, Unsettled}
 use Rattle.sv2v_top.specs.Translation.{Accepted}
-use Rattle.sv2v_top.specs.Headline.{file_limit, IsTranslated, IsRefused, Cause, RunGives}
+use Rattle.sv2v_top.specs.Headline.{ExpandsTo, file_of, IsTranslated, IsRefused, IsFaulty, Cause, RunGives}
 use Rattle.sv2v_top.specs.Endings.{Put_on, Took, Untouched, FailedAt, Says, line_of}
 
 -- a call: its words, what the files tell, how often they had failed before and after it, and its two sinks
@@ -33,7 +36,7 @@ pub record Said (c : Call) (line : List ℕ) : Type 0 where
   pub line_put : Took c.err line
   pub nothing_put : Untouched c.out
 
--- `Done`: the words name a top and a file, the text is a right translation of that file, all of it is on the output, and
+-- `Done`: the words name a top and files, the text is a right translation of these files, all of it is on the output, and
 -- nothing is on the error stream.
 pub record IsDone (c : Call) : Type 0 where
   pub request : Asked
@@ -46,14 +49,15 @@ pub record IsDone (c : Call) : Type 0 where
 abbrev pub OnDone : Call → Status → Type 0
 OnDone c status = status ≡ Done → IsDone c
 
--- `Refused`: the refusal is the first break of the file, no load failed in the call, and the refusal's line is said.
+-- `Refused`: the refusal is the first break of the files, no load failed in the call, and the refusal's line is said.
 pub record IsRefusal (c : Call) : Type 0 where
   pub request : Asked
   pub asks : asked c.words ≡ Some request
+  pub path : List ℕ
   pub refusal : Refusal
-  pub refused : IsRefused request c.told request.file refusal
+  pub refused : IsRefused request c.told path refusal
   pub no_fault : NotRaised c.faults_before c.faults_after
-  pub said : Said c (refusal_line request.file refusal)
+  pub said : Said c (refusal_line path refusal)
 
 abbrev pub OnRefused : Call → Status → Type 0
 OnRefused c status = status ≡ Refused → IsRefusal c
@@ -70,12 +74,13 @@ OnUsage c status = status ≡ Usage → IsUsage c
 abbrev pub OnMemory : Call → Status → Type 0
 OnMemory c status = status ≡ Memory → Said c memory_line
 
--- `FileFault`: the load of the file that the words name failed, the count of faults rose, and the path is said.
+-- `FileFault`: the load of a file that the expansion looks for failed, the count of faults rose, and the path is said.
 pub record IsFileFault (c : Call) : Type 0 where
   pub request : Asked
   pub asks : asked c.words ≡ Some request
-  pub rose : Rose c.faults_before c.faults_after
-  pub said : Said c (read_fault_line request.file)
+  pub path : List ℕ
+  pub faulty : IsFaulty request c.told c.faults_before c.faults_after path
+  pub said : Said c (read_fault_line path)
 
 abbrev pub OnFileFault : Call → Status → Type 0
 OnFileFault c status = status ≡ FileFault → IsFileFault c
@@ -103,21 +108,22 @@ Unless Answered status = Answered ⊎ (status ≡ Memory) ⊎ (status ≡ SinkFa
 abbrev pub UsageComes : Call → Status → Type 0
 UsageComes c status = asked c.words ≡ None → Unless (status ≡ Usage) status
 
--- the file of a request is there, within the limit, and has no break
+-- the files of a request have no break
 pub record Accepts (request : Asked) (contents : Contents) : Type 0 where
-  pub bytes : List ℕ
-  pub held : contents request.file ≡ Some bytes
-  pub few : length bytes ≤ file_limit
+  pub tokens : List Token
+  pub last : Place
+  pub names : List (List ℕ)
+  pub expansion : ExpandsTo request (Some contents) tokens last names
   pub design : Design
-  pub accepted : Accepted request.top bytes design
+  pub accepted : Accepted request.top tokens design
 
--- a file without a break is translated
+-- files without a break are translated
 abbrev pub DoneComes : Call → Status → Type 0
 DoneComes c status = (request : Asked) (contents : Contents) → asked c.words ≡ Some request → c.told ≡ Some contents
     → NoFault c.faults_before c.faults_after → Accepts request contents → Unless (status ≡ Done) status
 
--- a file with a break is refused, with that break
+-- files with a break are refused, with that break
 abbrev pub RefusalComes : Call → Status → Type 0
-RefusalComes c status = (request : Asked) (contents : Contents) (r : Refusal) → asked c.words ≡ Some request → c.told ≡ Some contents
-    → NoFault c.faults_before c.faults_after → Cause request c.told r
-    → Unless ((status ≡ Refused) × Took c.err (refusal_line request.file r)) status
+RefusalComes c status = (request : Asked) (contents : Contents) (names : List (List ℕ)) (r : Refusal) → asked c.words ≡ Some request → c.told ≡ Some contents
+    → NoFault c.faults_before c.faults_after → Cause request (Some contents) names r
+    → Unless ((status ≡ Refused) × Took c.err (refusal_line (file_of names r.place) r)) status

@@ -12,7 +12,6 @@ mod sv_build;
 mod sv_tree;
 mod translation;
 mod uses;
-mod words;
 
 pub use main_call::translate_main;
 pub use status::Status;

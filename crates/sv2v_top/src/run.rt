@@ -1,18 +1,17 @@
-//! From the words of the command line to the translation of the file that they name.
+//! From the words of the command line to the translation of the files that they name.
 
-ghost use Rattle.std.specs.Prelude.{◌≡◌, ◌^◌, ◌≤◌, length, map, string_bytes, IfOk};
-ghost use Rattle.sv2v_top.specs.Headline.{absent_refusal, FileGives, AskedGives, RunGives};
-ghost use Rattle.sv2v_top.specs.Words.{seen_by};
+ghost use Rattle.std.specs.Prelude.{◌≡◌, ◌<◌, ◌≤◌, ◌-◌, ◌++◌, ◌∷◌, ◌^◌, [], List, length, map, string_bytes, IfOk};
+ghost use Rattle.sv_preproc.specs.Runs.{end_token};
+ghost use Rattle.sv2v_top.specs.Headline.{file_of, TokensGive, AskedGives, RunGives};
+ghost use Rattle.sv2v_top.specs.Tokens.{NamesAreSimple, BodiesAreSimple, EndsWithEnd};
+ghost use Rattle.sv2v_top.specs.declared.run.Stop.TheVariants.{Refused};
 
-use crate::elab_build::not_built;
 use crate::translation::translate;
-use crate::words::{Asked, read_words};
+use command_line::{Asked, read_words};
 use std::alloc::{AllocError, Global};
 use std::string::String;
-use sv_source::{Fail, Files, Loaded, Place, Refusal, Text};
-
-/// The most bytes of a file.
-const FILE_LIMIT: u64 = 1 << 24;
+use sv_preproc::{ExpandFail, Expanded, expand};
+use sv_source::{Fail, FileNames, Files, Place, Refusal, Text, Token, at};
 
 /// Why nothing is translated.
 #[derive(Drop)]
@@ -37,59 +36,60 @@ impl From<AllocError> for Stop {
     }
 }
 
-/// The refusal of a file that is absent.
-fn absent(alloc: Global, path: &[u8]) -> Result<Refusal, AllocError>
-    ensures { IfOk result (λ r. r ≡ absent_refusal path.now) }
+/// The name of the file of a place.
+fn file_of(alloc: Global, names: &FileNames, place: Place) -> Result<Text, AllocError>
+    ensures { IfOk result (λ path. path ≡ file_of names.now place) }
 {
-    let word = Text::from_bytes(alloc, path)?;
-    let place = Place {
-        file: 0,
-        line: 1,
-        col: 1,
-    };
-    Ok(Refusal {
-        rule: 101,
-        place,
-        word,
-    })
-}
-
-/// The translation of the bytes of a file.
-fn translated(alloc: Global, asked: Asked<'_>, bytes: &[u8]) -> Result<Text, Stop>
-    requires { length bytes.now ≤ 2 ^ 24 }
-    ensures { FileGives (seen_by asked.entry) bytes.now result }
-{
-    match translate(alloc, asked.top, bytes) {
-        Ok(text) => Ok(text),
-        Err(Fail::Memory) => Err(Stop::Memory),
-        Err(Fail::Refused(refusal)) => Err(Stop::Refused(
-            Text::from_bytes(alloc, asked.file)?,
-            refusal,
-        )),
+    match at(names.as_slice(), place.file as usize) {
+        Some(name) => name.copy(alloc),
+        None => Ok(Text::new(alloc)),
     }
 }
 
-/// The translation of the file that is asked for.
-fn load_and_translate<F: Files>(
+/// A refusal, in the file of its place.
+fn refused(alloc: Global, refusal: Refusal, names: &FileNames) -> Result<Stop, AllocError>
+    ensures { IfOk result (λ stop. stop ≡ Refused (file_of names.now refusal.place) refusal) }
+{
+    Ok(Stop::Refused(
+        file_of(alloc, names, refusal.place)?,
+        refusal,
+    ))
+}
+
+/// The translation of the tokens of an expansion.
+fn translated(alloc: Global, top: &[u8], expanded: Expanded) -> Result<Text, Stop>
+    requires few { length expanded.tokens < 2 ^ 32 - 1 }
+    requires names { NamesAreSimple expanded.tokens }
+    requires ends { EndsWithEnd expanded.tokens }
+    ensures { (tokens : List Token) → (last : Place) → expanded.tokens ≡ tokens ++ end_token last ∷ [] → TokensGive top.now tokens last expanded.files result }
+{
+    let Expanded { mut tokens, files } = expanded;
+    let Some(end) = tokens.pop() else {
+        unreachable!();
+    };
+    match translate(alloc, top, tokens.as_slice(), end.place) {
+        Ok(text) => Ok(text),
+        Err(Fail::Memory) => Err(Stop::Memory),
+        Err(Fail::Refused(refusal)) => Err(refused(alloc, refusal, &files)?),
+    }
+}
+
+/// The translation of the files that are asked for.
+fn expand_and_translate<F: Files>(
     alloc: Global,
-    asked: Asked<'_>,
+    asked: &Asked,
     files: &mut F,
 ) -> Result<Text, Stop>
-    ensures gives { AskedGives (seen_by asked.entry) (F.contents files.old) (F.faults files.old) (F.faults files.new) result }
+    requires few { length asked.now.settings.files ≤ 2 ^ 30 }
+    requires bodies { BodiesAreSimple asked.now.settings.defines }
+    ensures gives { AskedGives asked.now (F.contents files.old) (F.faults files.old) (F.faults files.new) result }
     ensures later { F.faults files.old ≤ F.faults files.new }
 {
-    match files.load(alloc, asked.file, FILE_LIMIT) {
-        Loaded::Bytes(bytes) => translated(alloc, asked, bytes.as_bytes()),
-        Loaded::Absent => {
-            let refusal = absent(alloc, asked.file)?;
-            Err(Stop::Refused(Text::from_bytes(alloc, asked.file)?, refusal))
-        }
-        Loaded::TooLong => {
-            let refusal = not_built(alloc)?;
-            Err(Stop::Refused(Text::from_bytes(alloc, asked.file)?, refusal))
-        }
-        Loaded::Failed => Err(Stop::FileFault(Text::from_bytes(alloc, asked.file)?)),
-        Loaded::Memory => Err(Stop::Memory),
+    match expand(alloc, &asked.settings, files) {
+        Ok(expanded) => translated(alloc, asked.top.as_bytes(), expanded),
+        Err(ExpandFail::Memory) => Err(Stop::Memory),
+        Err(ExpandFail::FileFault { path }) => Err(Stop::FileFault(path)),
+        Err(ExpandFail::Refused { refusal, files }) => Err(refused(alloc, refusal, &files)?),
     }
 }
 
@@ -100,6 +100,6 @@ pub fn run<F: Files>(alloc: Global, words: &[String], files: &mut F) -> Result<T
 {
     match read_words(alloc, words)? {
         None => Err(Stop::Usage),
-        Some(asked) => load_and_translate(alloc, asked, files),
+        Some(asked) => expand_and_translate(alloc, &asked, files),
     }
 }

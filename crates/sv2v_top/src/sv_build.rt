@@ -6,13 +6,13 @@ mod tree;
 
 ghost use Rattle.std.specs.Prelude.{◌≡◌, ◌^◌, ◌-◌, ◌<◌, length, slice_get, IfOk};
 ghost use Rattle.sv2v_top.specs.source.Grammar.{source_rows};
-ghost use Rattle.sv2v_top.specs.source.Reading.{refusal_at, ReadingGives};
+ghost use Rattle.sv2v_top.specs.source.Reading.{byte_rule, token_rule, failing_rule, refusal_at, ReadingGives};
 
 use crate::sv_tree::Module;
 use grammar::source_table;
 use ll_engine::{Ll1, NewFail, ParseFail};
 use std::alloc::{AllocError, Global};
-use sv_source::{Fail, Place, Refusal, Text, Token, at};
+use sv_source::{Fail, Kind, Place, Refusal, Text, Token, at};
 use symbols::symbols;
 use tree::module;
 
@@ -57,9 +57,39 @@ fn syntax_refusal(
     }
 }
 
+/// The rule of a byte where no token begins.
+fn byte_rule(text: &[u8]) -> u16
+    ensures { result ≡ byte_rule text.now }
+{
+    match text {
+        [c, ..] if *c > 127 => 103,
+        _ => 301,
+    }
+}
+
+/// The rule of a failing token.
+fn token_rule(token: &Token) -> u16
+    ensures { result ≡ token_rule token.now }
+{
+    match token.kind {
+        Kind::Bad => byte_rule(token.text.as_bytes()),
+        _ => 302,
+    }
+}
+
+/// The rule of the failing token with this number, or of the end.
+fn failing_rule(tokens: &[Token], index: u32) -> u16
+    ensures { result ≡ failing_rule (slice_get tokens.now index) }
+{
+    match at(tokens, index as usize) {
+        None => 302,
+        Some(token) => token_rule(token),
+    }
+}
+
 /// The module that the tokens read as. Where they have no reading by the grammar, E302 stands at the failing token, or behind
-/// the last byte: a text begins with the tokens before it, and none with it too. E303 stands where nesting first passes
-/// the limit, if that comes first.
+/// the last byte: a text begins with the tokens before it, and none with it too. Of a byte where no token begins it is
+/// E103, if the byte is above 127, or E301. E303 stands where nesting first passes the limit, if that comes first.
 pub fn read_source(alloc: Global, tokens: &[Token], last: Place) -> Result<Module, Fail>
     requires { length tokens.now < 2 ^ 32 - 1 }
     ensures { ReadingGives tokens.now last result }
@@ -72,9 +102,12 @@ pub fn read_source(alloc: Global, tokens: &[Token], last: Place) -> Result<Modul
             None => unreachable!(),
         },
         Err(ParseFail::Memory) => Err(Fail::Memory),
-        Err(ParseFail::NoText { at }) => Err(Fail::Refused(syntax_refusal(
-            alloc, 302, tokens, last, at,
-        )?)),
+        Err(ParseFail::NoText { at }) => {
+            let rule = failing_rule(tokens, at);
+            Err(Fail::Refused(syntax_refusal(
+                alloc, rule, tokens, last, at,
+            )?))
+        }
         Err(ParseFail::Deep { at }) => Err(Fail::Refused(syntax_refusal(
             alloc, 303, tokens, last, at,
         )?)),

@@ -51,6 +51,20 @@ pub fn check(
     failing: Failing,
     want: Want,
 ) -> Result<(), Fail> {
+    let put = (want.out.as_bytes(), want.err.as_bytes());
+    check_bytes(rt, alloc, words, held, failing, want.status, put)
+}
+
+/// The same for the bytes of the output and of the error stream.
+pub fn check_bytes(
+    rt: &impl Abort,
+    alloc: Global,
+    words: &[&str],
+    held: &[(&str, &str)],
+    failing: Failing,
+    answer: Status,
+    (on_out, on_err): (&[u8], &[u8]),
+) -> Result<(), Fail> {
     let mut list = Vec::new(alloc);
     for word in words {
         list.push(String::from_str(alloc, word)?)?;
@@ -59,8 +73,8 @@ pub fn check(
     let mut out = MemorySink::new(alloc, ROOM, failing.out.to_vec(alloc)?)?;
     let mut err = MemorySink::new(alloc, ROOM, failing.err.to_vec(alloc)?)?;
     let status = translate_main(alloc, list.as_slice(), &mut files, &mut out, &mut err);
-    assert_eq!(rt; out.bytes(), want.out.as_bytes(), "the output of {held:?}");
-    assert_eq!(rt; err.bytes(), want.err.as_bytes(), "the errors of {held:?}");
-    assert_eq!(rt; status, want.status, "of {held:?}");
+    assert_eq!(rt; out.bytes(), on_out, "the output of {held:?}");
+    assert_eq!(rt; err.bytes(), on_err, "the errors of {held:?}");
+    assert_eq!(rt; status, answer, "of {held:?}");
     Ok(())
 }

@@ -18,12 +18,21 @@ fn other_words_are_refused(rt: HostRuntime) -> Result<(), Fail> {
         out: "",
         err: USAGE,
     };
-    let lists: [&[&str]; 11] = [
+    let lists: [&[&str]; 20] = [
         &[],
         &["m.sv"],
         &["--top=m"],
         &["--top=m", "--top=m"],
-        &["--top=m", "m.sv", "m.sv"],
+        &["--top=m", "--top=m", "m.sv"],
+        &["--top", "m", "m.sv"],
+        &["--top=m", "m.sv", "-I"],
+        &["--top=m", "m.sv", "-I", ""],
+        &["--top=m", "m.sv", "-D"],
+        &["--top=m", "m.sv", "-D1"],
+        &["--top=m", "m.sv", "-Dmodule"],
+        &["--top=m", "m.sv", "-DX=/*"],
+        &["--top=m", "m.sv", "-DX=`define"],
+        &["--top=m", "m.sv", "--names=plain"],
         &["--top=", "m.sv"],
         &["--top=1m", "m.sv"],
         &["--top=module", "m.sv"],

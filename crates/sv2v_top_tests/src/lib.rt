@@ -6,6 +6,8 @@ mod accepted;
 #[cfg(test)]
 mod caller;
 #[cfg(test)]
+mod expansion;
+#[cfg(test)]
 mod faults;
 #[cfg(test)]
 mod processes;

@@ -1,12 +1,16 @@
 -- The lines that the programs print on their error stream.
-use Rattle.std.specs.Prelude.{ℕ, List, [], ◌∷◌, codes, decimal}
-use Rattle.std.specs.List.{concat}
+use Rattle.std.specs.Prelude.{ℕ, ◌==◌, not, List, [], ◌∷◌, codes, decimal}
+use Rattle.std.specs.List.{concat, take_while}
 use Rattle.sv_source.specs.declared.refusal.Refusal.{Refusal}
 
--- FILE:LINE:COL: Ennn WORD
+-- the bytes before the first newline
+abbrev pub first_line : List ℕ → List ℕ
+first_line text = take_while (λ c. not (c == 10)) text
+
+-- FILE:LINE:COL: Ennn WORD, where a word of several lines is cut behind its first one
 abbrev pub refusal_line : List ℕ → Refusal → List ℕ
 refusal_line file r =
-    concat (file ∷ codes ":" ∷ decimal r.place.line ∷ codes ":" ∷ decimal r.place.col ∷ codes ": E" ∷ decimal r.rule ∷ codes " " ∷ r.word ∷ codes "\n" ∷ [])
+    concat (file ∷ codes ":" ∷ decimal r.place.line ∷ codes ":" ∷ decimal r.place.col ∷ codes ": E" ∷ decimal r.rule ∷ codes " " ∷ first_line r.word ∷ codes "\n" ∷ [])
 
 -- how sv2v is called
 abbrev pub usage_line : List ℕ

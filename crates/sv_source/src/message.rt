@@ -1,13 +1,21 @@
 // The lines that the programs print on their error stream.
-ghost use Rattle.std.specs.Prelude.{◌≤◌, length};
+ghost use Rattle.std.specs.Prelude.{◌≡◌, ◌≤◌, length};
 ghost use Rattle.sv_source.specs.Putting.{Gains, PutCause, KeepsRoom};
-ghost use Rattle.sv_source.specs.Message.{refusal_line, usage_line, eval_usage_line, memory_line, read_fault_line, write_fault_line, unsettled_line};
+ghost use Rattle.sv_source.specs.Message.{first_line, refusal_line, usage_line, eval_usage_line, memory_line, read_fault_line, write_fault_line, unsettled_line};
 
 use crate::{Put, Refusal, Sink, put_all, put_parts};
 use itoa::Buffer;
 
+/// The bytes before the first newline.
+fn first_line(text: &[u8]) -> &[u8]
+    ensures { result.now ≡ first_line text.now }
+{
+    let len = text.iter().take_while(|byte| **byte != b'\n').count();
+    &text[..len]
+}
+
 /// Puts `FILE:LINE:COL: Ennn WORD` and a newline: why a source is refused. `file` is the name of the file of the
-/// refusal's place.
+/// refusal's place. A word of several lines, as a comment that isn't closed, is cut behind its first one.
 pub fn put_refusal<S: Sink>(sink: &mut S, file: &[u8], refusal: &Refusal) -> Put
     ensures bytes { Gains (S.written sink.old) (S.written sink.new) (refusal_line file.now refusal.now) result }
     ensures later { S.faults sink.old ≤ S.faults sink.new }
@@ -26,7 +34,7 @@ pub fn put_refusal<S: Sink>(sink: &mut S, file: &[u8], refusal: &Refusal) -> Put
         b": E",
         rule.format(refusal.rule).as_bytes(),
         b" ",
-        refusal.word.as_bytes(),
+        first_line(refusal.word.as_bytes()),
         b"\n",
     ];
     put_parts(sink, &parts)
