@@ -6,3 +6,5 @@ pub mod Searches
 pub mod Advance
 pub mod Whole
 pub mod OneOutcome
+pub mod Along
+pub mod Ending

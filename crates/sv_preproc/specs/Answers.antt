@@ -7,7 +7,7 @@ use Rattle.sv_source.specs.declared.refusal.Fail.TheVariants as fail
 use Rattle.sv_macro.specs.Including.{Held, first_held, Tried}
 use Rattle.sv_preproc.specs.States.{State, Step, goes, looks, breaks}
 use Rattle.sv_preproc.specs.Expansion.{step}
-use Rattle.sv_preproc.specs.Runs.{expands, refused, running, ended, room_left, opened, found, one_more, end_token, Expands, LooksAt}
+use Rattle.sv_preproc.specs.Runs.{expands, refused, running, ended, room_left, opened, found, one_more, end_token, Expands, Comes, LooksAt}
 use Rattle.sv_preproc.specs.declared.settings.Settings.{Settings}
 use Rattle.sv_preproc.specs.declared.settings.Expanded.{Expanded}
 use Rattle.sv_preproc.specs.declared.settings.ExpandFail.{ExpandFail}
@@ -27,6 +27,13 @@ Answers set contents (Err (Refused refusal files)) = Expands set contents (refus
 -- the same where the contents of the files are told
 abbrev pub AnswersTold : Settings → Option Contents → Result Expanded ExpandFail → Type 0
 AnswersTold set told result = (contents : Contents) → told ≡ Some contents → Answers set contents result
+
+-- The answer of an expansion, by what its searches find.
+abbrev pub Reaches : Settings → Option Contents → Result Expanded ExpandFail → Type 0
+Reaches set told (Ok e) = Comes set told (expands e.tokens e.files)
+Reaches set told (Err Memory) = Unit {0}
+Reaches set told (Err (FileFault path)) = Unit {0}
+Reaches set told (Err (Refused refusal files)) = Comes set told (refused refusal files)
 
 -- a fault is answered only where the count of faults rose; tokens and refusals leave the count as it was, and it never
 -- falls
