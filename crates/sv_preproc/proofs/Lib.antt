@@ -8,3 +8,8 @@ pub mod Whole
 pub mod OneOutcome
 pub mod Along
 pub mod Ending
+pub mod KeptItems
+pub mod KeptBodies
+pub mod KeptStates
+pub mod KeptSteps
+pub mod Kept
