@@ -13,3 +13,4 @@ pub mod KeptBodies
 pub mod KeptStates
 pub mod KeptSteps
 pub mod Kept
+pub mod Outcomes
