@@ -13,4 +13,5 @@ pub mod KeptBodies
 pub mod KeptStates
 pub mod KeptSteps
 pub mod Kept
+pub mod Reaching
 pub mod Outcomes

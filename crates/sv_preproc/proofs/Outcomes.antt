@@ -1,29 +1,13 @@
 -- Where the contents of the files are told, what an expansion comes to by what its searches find is what it comes to by
 -- the files.
-use Rattle.std.proofs.Common.{◌≡◌, ℕ, zero, suc, List, [], ◌∷◌, slice_get, Option, Some, None, refl, sym, ap, ◌∙◌, subst}
+use Rattle.std.proofs.Common.{◌≡◌, ℕ, zero, suc, Option, Some, None, refl, sym, ap, ◌∙◌, subst}
 use Rattle.sv_source.specs.Loading.{Contents}
 use Rattle.sv_macro.specs.Including.{Held, first_held}
 use Rattle.sv_preproc.specs.States.{State, Step, goes, looks, done, breaks}
 use Rattle.sv_preproc.specs.Expansion.{step}
-use Rattle.sv_preproc.specs.Runs.{Outcome, Run, running, ended, start, found, without_search, with_files, after, Expands, Finds, FindsFor, with_found, RunComes, at_end, by_step, Comes}
+use Rattle.sv_preproc.specs.Runs.{Outcome, Run, running, ended, start, found, without_search, with_files, after, Expands, FindsFor, with_found, RunComes, at_end, by_step, Comes}
 use Rattle.sv_preproc.specs.declared.settings.Settings.{Settings}
-
--- a file that is held stands at one of the paths
-listed_in : (path : List ℕ) (paths : List (List ℕ)) (bytes : Option (List ℕ)) (rest : Option Held) (file : Held) →
-    (rest ≡ Some file → (i : ℕ) × (slice_get paths i ≡ Some file.path)) →
-    (elim bytes as (λ _. Option Held) [ None ↦ rest | Some b ↦ Some (record { path = path; bytes = b }) ]) ≡ Some file → (i : ℕ) × (slice_get (path ∷ paths) i ≡ Some file.path)
-listed_in path paths None rest file more e = (suc (more e).0, (more e).1)
-listed_in path paths (Some b) rest file more e = (0, let same : record { path = path; bytes = b } ≡ file = cc in ap (λ (h : Held). Some h.path) same)
-
-pub listed_held : (contents : Contents) (paths : List (List ℕ)) (file : Held) → first_held contents paths ≡ Some file → (i : ℕ) × (slice_get paths i ≡ Some file.path)
-listed_held contents [] file e = absurd (let no : None ≡ Some file = e in cc)
-listed_held contents (path ∷ paths) file e = listed_in path paths (contents path) (first_held contents paths) file (listed_held contents paths file) e
-
-pub finds_first : (contents : Contents) (paths : List (List ℕ)) → Finds (Some contents) paths (first_held contents paths)
-finds_first contents paths = record {
-  first = λ others e. let same : others ≡ contents = cc in ap (λ (c : Contents). first_held c paths) same;
-  listed = listed_held contents paths;
-}
+use Rattle.sv_preproc.proofs.Searches.{finds_told}
 
 -- a step goes on with the file that is told
 same_turn : (contents : Contents) (held : Option Held) (st : Step) → FindsFor (Some contents) st held → with_found held st ≡ with_files contents st
@@ -38,11 +22,11 @@ told_for contents (looks search s) = first_held contents search.paths
 told_for contents (done s) = None
 told_for contents (breaks r names) = None
 
-finds_told : (contents : Contents) (st : Step) → FindsFor (Some contents) st (told_for contents st)
-finds_told contents (goes s) = tt
-finds_told contents (looks search s) = finds_first contents search.paths
-finds_told contents (done s) = tt
-finds_told contents (breaks r names) = tt
+looks_told : (contents : Contents) (st : Step) → FindsFor (Some contents) st (told_for contents st)
+looks_told contents (goes s) = tt
+looks_told contents (looks search s) = finds_told contents search.paths (first_held contents search.paths) refl
+looks_told contents (done s) = tt
+looks_told contents (breaks r names) = tt
 
 module _ (set : Settings) (contents : Contents) (o : Outcome) where
   abbrev EndsAt : Run → Type 0
@@ -60,8 +44,8 @@ module _ (set : Settings) (contents : Contents) (o : Outcome) where
   run_comes zero run e = at_end e
   run_comes (suc n) (ended other) e = run_comes n (ended other) e
   run_comes (suc n) (running s) e =
-      by_step s (told_for contents (step set s)) refl (finds_told contents (step set s))
-      (subst (RunComes set (Some contents) o) (sym (same_turn contents (told_for contents (step set s)) (step set s) (finds_told contents (step set s)))) (run_comes n (with_files contents (step set s)) e))
+      by_step s (told_for contents (step set s)) refl (looks_told contents (step set s))
+      (subst (RunComes set (Some contents) o) (sym (same_turn contents (told_for contents (step set s)) (step set s) (looks_told contents (step set s)))) (run_comes n (with_files contents (step set s)) e))
 
 pub comes-expands : (set : Settings) (contents : Contents) (o : Outcome) → Comes set (Some contents) o → Expands set contents o
 comes-expands set contents o c = run_ends set contents o (running (start set)) c
