@@ -6,3 +6,12 @@ pub mod Searches
 pub mod Advance
 pub mod Whole
 pub mod OneOutcome
+pub mod Along
+pub mod Ending
+pub mod KeptItems
+pub mod KeptBodies
+pub mod KeptStates
+pub mod KeptSteps
+pub mod Kept
+pub mod Reaching
+pub mod Outcomes

@@ -7,7 +7,8 @@ use Rattle.sv_source.specs.declared.refusal.Fail.TheVariants as fail
 use Rattle.sv_macro.specs.Including.{Held, first_held, Tried}
 use Rattle.sv_preproc.specs.States.{State, Step, goes, looks, breaks}
 use Rattle.sv_preproc.specs.Expansion.{step}
-use Rattle.sv_preproc.specs.Runs.{expands, refused, running, ended, room_left, opened, found, one_more, end_token, Expands, LooksAt}
+use Rattle.sv_preproc.specs.Runs as runs
+use Rattle.sv_preproc.specs.Runs.{Outcome, expands, refused, running, ended, room_left, opened, found, one_more, end_token, Expands, RunComes, Comes, LooksAt}
 use Rattle.sv_preproc.specs.declared.settings.Settings.{Settings}
 use Rattle.sv_preproc.specs.declared.settings.Expanded.{Expanded}
 use Rattle.sv_preproc.specs.declared.settings.ExpandFail.{ExpandFail}
@@ -27,6 +28,13 @@ Answers set contents (Err (Refused refusal files)) = Expands set contents (refus
 -- the same where the contents of the files are told
 abbrev pub AnswersTold : Settings → Option Contents → Result Expanded ExpandFail → Type 0
 AnswersTold set told result = (contents : Contents) → told ≡ Some contents → Answers set contents result
+
+-- The answer of an expansion, by what its searches find.
+abbrev pub Reaches : Settings → Option Contents → Result Expanded ExpandFail → Type 0
+Reaches set told (Ok e) = Comes set told (expands e.tokens e.files)
+Reaches set told (Err Memory) = Unit {0}
+Reaches set told (Err (FileFault path)) = Unit {0}
+Reaches set told (Err (Refused refusal files)) = Comes set told (refused refusal files)
 
 -- a fault is answered only where the count of faults rose; tokens and refusals leave the count as it was, and it never
 -- falls
@@ -50,6 +58,15 @@ Finds contents paths limit (Err (Refused refusal files)) = ⊥
 
 abbrev pub FindsTold : Option Contents → List (List ℕ) → ℕ → Result Found ExpandFail → Type 0
 FindsTold told paths limit result = (contents : Contents) → told ≡ Some contents → Finds contents paths limit result
+
+-- the same by what a search finds
+abbrev pub SearchReaches : Option Contents → List (List ℕ) → ℕ → Result Found ExpandFail → Type 0
+SearchReaches told paths limit (Ok (File path bytes)) = runs.Finds told paths (Some (record { path = path; bytes = bytes })) × (length bytes ≤ limit)
+SearchReaches told paths limit (Ok Absent) = runs.Finds told paths None
+SearchReaches told paths limit (Ok TooLong) = (held : Held) × runs.Finds told paths (Some held) × (limit < length held.bytes)
+SearchReaches told paths limit (Err Memory) = Unit {0}
+SearchReaches told paths limit (Err (FileFault path)) = Unit {0}
+SearchReaches told paths limit (Err (Refused refusal files)) = ⊥
 
 abbrev pub FoundWithin : ℕ → Result Found ExpandFail → Type 0
 FoundWithin limit (Ok (File path bytes)) = length bytes ≤ limit
@@ -80,6 +97,13 @@ Loads contents search before now (Err (Refused refusal files)) = found search be
 abbrev pub LoadsTold : Option Contents → Search → State → State → Result Bool ExpandFail → Type 0
 LoadsTold told search before now result = (contents : Contents) → told ≡ Some contents → Loads contents search before now result
 
+-- the same by what the search finds
+abbrev pub LoadReaches : Option Contents → Search → State → State → Result Bool ExpandFail → Type 0
+LoadReaches told search before now (Ok b) = (held : Option Held) × runs.Finds told search.paths held × (found search before held ≡ goes now)
+LoadReaches told search before now (Err Memory) = Unit {0}
+LoadReaches told search before now (Err (FileFault path)) = Unit {0}
+LoadReaches told search before now (Err (Refused refusal files)) = (held : Option Held) × runs.Finds told search.paths held × (found search before held ≡ breaks refusal files)
+
 -- a file is wanted, and this is one of the paths that are tried
 pub record Wants (set : Settings) (contents : Contents) (s : State) (path : List ℕ) : Type 0 where
   pub search : Search
@@ -97,3 +121,11 @@ Advances set contents before now (Err (Refused refusal files)) = one_more set co
 
 abbrev pub AdvancesTold : Settings → Option Contents → State → State → Result Bool ExpandFail → Type 0
 AdvancesTold set told before now result = (contents : Contents) → told ≡ Some contents → Advances set contents before now result
+
+-- the same by what its search finds: what the run comes to from the state that is left it comes to from the state before
+abbrev pub AdvanceReaches : Settings → Option Contents → State → State → Result Bool ExpandFail → Type 0
+AdvanceReaches set told before now (Ok true) = (o : Outcome) → RunComes set told o (running now) → RunComes set told o (running before)
+AdvanceReaches set told before now (Ok false) = RunComes set told (expands (now.delivered ++ end_token now.ending ∷ []) now.names) (running before)
+AdvanceReaches set told before now (Err Memory) = Unit {0}
+AdvanceReaches set told before now (Err (FileFault path)) = Unit {0}
+AdvanceReaches set told before now (Err (Refused refusal files)) = RunComes set told (refused refusal files) (running before)

@@ -1,5 +1,5 @@
 -- Whole expansions.
-use Rattle.std.specs.Prelude.{◌≡◌, ℕ, zero, suc, ◌+◌, ◌-◌, nat_lt, min, Bool, true, false, List, [], ◌∷◌, ◌++◌, map, length, fold, Option, Some, None, if◌then◌else◌, codes}
+use Rattle.std.specs.Prelude.{◌≡◌, ℕ, zero, suc, ◌+◌, ◌-◌, nat_lt, min, Bool, true, false, List, [], ◌∷◌, ◌++◌, map, length, slice_get, fold, Option, Some, None, if◌then◌else◌, codes}
 use Rattle.sv_source.specs.Loading.{Contents}
 use Rattle.sv_source.specs.declared.token.Kind.TheVariants.{End}
 use Rattle.sv_source.specs.declared.token.Place.{Place}
@@ -94,6 +94,34 @@ after set contents (suc n) run = after set contents n (one_more set contents run
 -- the expansion of the settings, with these files, comes to this
 abbrev pub Expands : Settings → Contents → Outcome → Type 0
 Expands set contents outcome = (n : ℕ) × (after set contents n (running (start set)) ≡ ended outcome)
+
+-- what a search finds: where the contents of the files are told, the first of its paths that isn't absent; else a file at
+-- one of its paths, or none
+pub record Finds (told : Option Contents) (paths : List (List ℕ)) (held : Option Held) : Type 0 where
+  pub first : (contents : Contents) → told ≡ Some contents → first_held contents paths ≡ held
+  pub listed : (file : Held) → held ≡ Some file → (i : ℕ) × (slice_get paths i ≡ Some file.path)
+
+abbrev pub FindsFor : Option Contents → Step → Option Held → Type 0
+FindsFor told (goes s) held = Unit {0}
+FindsFor told (looks search s) held = Finds told search.paths held
+FindsFor told (done s) held = Unit {0}
+FindsFor told (breaks r names) held = Unit {0}
+
+abbrev pub with_found : Option Held → Step → Run
+with_found held (goes s) = running s
+with_found held (looks search s) = without_search (found search s held)
+with_found held (done s) = without_search (done s)
+with_found held (breaks r names) = without_search (breaks r names)
+
+-- a run comes to an outcome by what its searches find, which may be told
+pub data RunComes (set : Settings) (told : Option Contents) (outcome : Outcome) : Run → Type 0 where
+  at_end : {run : Run} → run ≡ ended outcome → RunComes set told outcome run
+  by_step : {run : Run} (s : State) (held : Option Held) → run ≡ running s → FindsFor told (step set s) held
+      → RunComes set told outcome (with_found held (step set s)) → RunComes set told outcome run
+
+-- the expansion of the settings comes to this, by what its searches find
+abbrev pub Comes : Settings → Option Contents → Outcome → Type 0
+Comes set told outcome = RunComes set told outcome (running (start set))
 
 -- the expansion looks for a file at this path
 pub record LooksAt (set : Settings) (contents : Contents) (path : List ℕ) : Type 0 where

@@ -1,7 +1,7 @@
 // Whole expansions (IEEE 1800-2017 clause 22).
 ghost use Rattle.std.specs.Prelude.{◌≡◌, ◌≤◌, ◌<◌, ◌^◌, ◌++◌, ◌∷◌, [], fold, length, OnOk, IfOk};
 ghost use Rattle.sv_source.specs.Loading.{Contents};
-ghost use Rattle.sv_preproc.specs.Answers.{Cause, Says, Opens, Stops, LoadsTold, AdvancesTold, AnswersTold};
+ghost use Rattle.sv_preproc.specs.Answers.{Cause, Says, Opens, Stops, LoadsTold, LoadReaches, AdvancesTold, AdvanceReaches, AnswersTold, Reaches};
 ghost use Rattle.sv_preproc.specs.Code.{seen, Bounded};
 ghost use Rattle.sv_macro.specs.Tables.{macros_in};
 ghost use Rattle.sv_preproc.specs.Runs.{command_macros};
@@ -89,6 +89,7 @@ impl State {
     ) -> Result<bool, ExpandFail>
         requires { Bounded self.old }
         ensures answer { LoadsTold (F.contents files.old) search (seen self.old) (seen self.new) result }
+        ensures reaches { LoadReaches (F.contents files.old) search (seen self.old) (seen self.new) result }
         ensures opened { IfOk result (λ b. Opens b search.top (seen self.old) (seen self.new)) }
         ensures same { F.contents files.new ≡ F.contents files.old }
         ensures cause { Cause result (F.faults files.old) (F.faults files.new) }
@@ -127,6 +128,7 @@ impl State {
         requires few { length set.now.files ≤ 2 ^ 30 }
         requires ready { Ready (length set.now.files) (seen self.old) }
         ensures answer { AdvancesTold set.now (F.contents files.old) (seen self.old) (seen self.new) result }
+        ensures reaches { AdvanceReaches set.now (F.contents files.old) (seen self.old) (seen self.new) result }
         ensures falls { Settles (length set.now.files) (seen self.old) (seen self.new) result }
         ensures same { F.contents files.new ≡ F.contents files.old }
         ensures cause { Cause result (F.faults files.old) (F.faults files.new) }
@@ -174,6 +176,8 @@ pub fn expand<F: Files>(
     requires { length set.now.files ≤ 2 ^ 30 }
     // Where the contents of the files are told, the answer is what the expansion comes to.
     ensures answer { AnswersTold set.now (F.contents files.old) result }
+    // Whatever the files tell, the answer is what the expansion comes to by what its searches find.
+    ensures comes { Reaches set.now (F.contents files.old) result }
     // For any contents the expansion comes to one outcome: tokens or a refusal, and not both.
     ensures one { (contents : Contents) → spec.HasOutcome set.now contents }
     ensures same { F.contents files.new ≡ F.contents files.old }

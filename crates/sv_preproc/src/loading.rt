@@ -1,6 +1,6 @@
 // Loads of files.
 ghost use Rattle.std.specs.Prelude.{◌≡◌, ◌≤◌, ◌<◌, ◌^◌, ◌++◌, ◌+◌, ◌-◌, map, min, length, OnOk};
-ghost use Rattle.sv_preproc.specs.Answers.{Cause, FindsTold, FoundWithin};
+ghost use Rattle.sv_preproc.specs.Answers.{Cause, FindsTold, SearchReaches, FoundWithin};
 ghost use Rattle.sv_preproc.specs.Code.{seen, Bounded};
 ghost use Rattle.sv_preproc.specs.Runs as spec;
 
@@ -32,6 +32,7 @@ pub fn load_first<F: Files>(
 ) -> Result<Found, ExpandFail>
     requires { limit < 2 ^ 32 }
     ensures answer { FindsTold (F.contents files.old) paths.now limit result }
+    ensures reaches { SearchReaches (F.contents files.old) paths.now limit result }
     ensures within { FoundWithin limit result }
     ensures same { F.contents files.new ≡ F.contents files.old }
     ensures cause { Cause result (F.faults files.old) (F.faults files.new) }
