@@ -1,0 +1,4 @@
+pub mod Sums
+pub mod Joined
+pub mod Drafted
+pub mod FewFiles
