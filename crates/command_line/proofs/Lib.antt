@@ -1,4 +1,2 @@
-pub mod Sums
-pub mod Joined
 pub mod Drafted
 pub mod FewFiles

@@ -13,9 +13,9 @@ use sv_source::Text;
 #[derive(Drop, Debug)]
 pub struct Draft {
     /// The name of the top module, if it is known.
-    pub top: Option<Text>,
+    top: Option<Text>,
     /// The files, the directories of included files and the macros.
-    pub settings: Settings,
+    settings: Settings,
 }
 
 impl Draft {

@@ -62,11 +62,24 @@ pub fn check(rt: &impl Abort, alloc: Global, words: &[&str], want: Want) -> Resu
         assert!(rt; false, "{words:?} ask for nothing");
         return Ok(());
     };
-    assert_eq!(rt; asked.top.as_bytes(), want.top.as_bytes(), "the top of {words:?}");
+    assert_eq!(rt;
+        asked.top.as_bytes(),
+        want.top.as_bytes(),
+        "the top of {words:?}"
+    );
     let settings = &asked.settings;
-    assert!(rt; same_texts(&settings.files, want.files), "the files of {words:?}");
-    assert!(rt; same_texts(&settings.dirs, want.dirs), "the directories of {words:?}");
-    assert!(rt; same_defines(&asked, want.defines), "the macros of {words:?}");
+    assert!(rt;
+        same_texts(&settings.files, want.files),
+        "the files of {words:?}"
+    );
+    assert!(rt;
+        same_texts(&settings.dirs, want.dirs),
+        "the directories of {words:?}"
+    );
+    assert!(rt;
+        same_defines(&asked, want.defines),
+        "the macros of {words:?}"
+    );
     Ok(())
 }
 
