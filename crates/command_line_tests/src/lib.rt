@@ -1,0 +1,9 @@
+//! Tests of command_line.
+#![tactic(auto)]
+
+#[cfg(test)]
+mod accepted;
+#[cfg(test)]
+mod caller;
+#[cfg(test)]
+mod refused;
