@@ -1,6 +1,7 @@
 -- Files have one expansion, and so one first break at most.
-use Rattle.std.proofs.Common.{◌≡◌, ◌⊎◌, ℕ, List, [], ◌∷◌, ◌++◌, map, Option, Some, None, sym, ap, subst, ◌∙◌, inl, inr}
+use Rattle.std.proofs.Common.{◌≡◌, ◌⊎◌, ℕ, List, [], ◌∷◌, ◌++◌, map, Some, None, sym, ap, subst, ◌∙◌, inl, inr}
 use Rattle.std.specs.List.{slice_get}
+use Rattle.std.proofs.lemmas.List.{same_from_push}
 use Rattle.sv_source.specs.Loading.{Contents}
 use Rattle.sv_source.specs.declared.refusal.Refusal.{Refusal}
 use Rattle.sv_source.specs.declared.token.Token.{Token}
@@ -94,7 +95,7 @@ module _ (request : Asked) (contents : Contents) where
   one-text tokens other_tokens last other_last names other_names x y =
       let same = one-expansion (expands (tokens ++ end_token last ∷ []) names) (expands (other_tokens ++ end_token other_last ∷ []) other_names) x y in
       let whole : tokens ++ end_token last ∷ [] ≡ other_tokens ++ end_token other_last ∷ [] = cc in
-      let ends = one-end tokens other_tokens (end_token last) (end_token other_last) whole in
+      let ends = same_from_push tokens other_tokens (end_token last) (end_token other_last) whole in
       one_text ends.0 (ap (λ (t : Token). t.place) ends.1) cc
 
   unlike : (ts : List Token) (names others : List (List ℕ)) (r : Refusal) → Comes request.settings (Some contents) (expands ts names) → Comes request.settings (Some contents) (refused r others) → ⊥
@@ -109,7 +110,7 @@ module _ (request : Asked) (contents : Contents) where
       go (one_text e f g) = no-break request.top a.tokens last a.design r a.accepted (subst (λ (ts : List Token). Breaks request.top ts last r) e b)
 
   -- what is said of a refusal
-  pub Same : List (List ℕ) → List (List ℕ) → Refusal → Refusal → Type 0
+  abbrev pub Same : List (List ℕ) → List (List ℕ) → Refusal → Refusal → Type 0
   Same names others r s = (names ≡ others) × (r ≡ s)
 
   -- files have one first break

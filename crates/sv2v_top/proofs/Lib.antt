@@ -14,6 +14,5 @@ pub mod Built
 pub mod Correct
 pub mod Fit
 pub mod Runs
-pub mod Ends
 pub mod Causes
 pub mod Promises

@@ -1,11 +1,10 @@
 -- How a run ends keeps each promise of the call.
-use Rattle.std.proofs.Common.{◌≡◌, ◌<◌, ◌≤◌, ℕ, List, Option, Some, None, Result, Ok, Err, refl, ap, subst, ◌∙◌, inl, inr, arith}
+use Rattle.std.proofs.Common.{◌≡◌, ℕ, List, Option, Some, Result, Ok, Err, ap, subst, ◌∙◌, inl, inr, arith}
 use Rattle.sv_source.specs.Faults.{Rose, NoFault}
 use Rattle.sv_source.specs.Loading.{Contents}
 use Rattle.sv_source.specs.declared.text.Text.{Text}
 use Rattle.sv_source.specs.declared.refusal.Refusal.{Refusal}
-use Rattle.sv_source.specs.declared.token.Place.{Place}
-use Rattle.sv_source.specs.Message.{memory_line, read_fault_line, refusal_line}
+use Rattle.sv_source.specs.Message.{memory_line, refusal_line}
 use Rattle.command_line.specs.declared.words.Asked.{Asked}
 use Rattle.command_line.specs.Words.{asked}
 use Rattle.sv2v_top.specs.declared.run.Stop.{Stop}

@@ -1,10 +1,11 @@
 -- From the tokens of an expansion to the request, and to the sinks.
-use Rattle.std.proofs.Common.{◌≡◌, refl, subst, ℕ, List, Option, Result, Ok, Err}
+use Rattle.std.proofs.Common.{◌≡◌, refl, sym, subst, ℕ, List, Option, Result, Ok, Err}
 use Rattle.sv_source.specs.Faults.{NotRaised}
 use Rattle.sv_source.specs.Loading.{Contents}
 use Rattle.sv_source.specs.declared.token.Place.{Place}
 use Rattle.sv_source.specs.declared.token.Token.{Token}
 use Rattle.sv_source.specs.declared.text.Text.{Text}
+use Rattle.sv_source.specs.declared.refusal.Refusal.{Refusal}
 use Rattle.sv_source.specs.Putting.{appended, Gains, GainsFront, PutCause}
 use Rattle.sv_source.specs.declared.sink.Put.{Put}
 use Rattle.sv_source.specs.declared.sink.Put.TheVariants.{Ok as PutOk, Failed}
@@ -13,7 +14,8 @@ use Rattle.sv2v_top.specs.declared.run.Stop.{Stop}
 use Rattle.sv2v_top.specs.declared.run.Stop.TheVariants as S
 use Rattle.sv2v_top.specs.declared.status.Status.TheVariants.{SinkFault}
 use Rattle.sv2v_top.specs.Endings.{Says, said, unsaid}
-use Rattle.sv2v_top.specs.Headline.{ExpandsTo, TokensGive, AskedGives, in_tokens}
+use Rattle.sv2v_top.specs.Headline.{ExpandsTo, file_of, TokensGive, AskedGives, in_tokens}
+use Rattle.sv2v_top.specs.Translation.{Breaks}
 
 pub from-tokens : (request : Asked) (told : Option Contents) (before now : ℕ) (tokens : List Token) (last : Place) (names : List (List ℕ)) (result : Result Text Stop)
     → ExpandsTo request told tokens last names → NotRaised before now → TokensGive request.top tokens last names result → AskedGives request told before now result
@@ -23,6 +25,13 @@ from-tokens request told before now tokens last names (Err S.Memory) x calm g = 
 from-tokens request told before now tokens last names (Err (S.FileFault path)) x calm g = absurd g
 from-tokens request told before now tokens last names (Err (S.Refused path refusal)) x calm g =
     (record { names = names; is_path = g.0; cause = in_tokens tokens last x g.1 }, calm)
+
+-- a refusal of the tokens, in the file of its place
+pub refused-gives : (top : List ℕ) (mine tokens : List Token) (at last : Place) (names : List (List ℕ)) (r : Refusal) (stop : Stop)
+    → mine ≡ tokens → at ≡ last → Breaks top mine at r → stop ≡ S.Refused (file_of names r.place) r → TokensGive top tokens last names (Err stop)
+refused-gives top mine tokens at last names r stop same there b is =
+    let moved : Breaks top mine last r = subst (λ (p : Place). Breaks top mine p r) there b in
+    subst (λ (s : Stop). TokensGive top tokens last names (Err s)) (sym is) (refl, subst (λ (ts : List Token). Breaks top ts last r) same moved)
 
 -- the line of a write fault, put on the error stream
 pub fault-said : {b a : Option (List ℕ)} → {fb fa : ℕ} → {line : List ℕ} → (result : Put)

@@ -1,16 +1,20 @@
 -- Names among the tokens of an expansion are simple names of the target language.
-use Rattle.std.proofs.Common.{◌≡◌, ◌⊎◌, ℕ, ◌<◌, Bool, true, false, not, cond, ◌||◌, ◌&&◌, List, [], ◌∷◌, ◌++◌, length, Option, Some, None, inl, inr, refl, sym, ap, subst, ◌∙◌}
+use Rattle.std.proofs.Common.{◌≡◌, ℕ, ◌<◌, Bool, true, false, not, cond, ◌||◌, ◌&&◌, List, [], ◌∷◌, ◌++◌, length, Option, Some, None, inl, inr, refl, ap, subst}
 use Rattle.std.specs.List.{All, flat_map, list_all}
-use Rattle.std.proofs.lemmas.List.Elements.{All-nil, All-cons, All-head, All-tail}
+use Rattle.std.proofs.lemmas.List.Elements.{All-nil, All-cons, All-append, All-head, All-tail}
 use Rattle.sv_lexer.proofs.Raw.{tokens_from-raw}
 use Rattle.row_machine.specs.Valuation.{Member}
 use Rattle.sv_source.specs.declared.token.Kind.{Kind}
 use Rattle.sv_source.specs.declared.token.Kind.TheVariants as Kinds
+use Rattle.sv_source.specs.Loading.{Contents}
+use Rattle.sv_source.specs.declared.token.Place.{Place}
 use Rattle.sv_source.specs.declared.token.Token.{Token}
 use Rattle.sv_lexer.specs.Facts.{IsRaw}
 use Rattle.sv_lexer.specs.Lexing.{tokens_of}
 use Rattle.sv_macro.specs.Tokens.{is_name_kind}
 use Rattle.sv_preproc.specs.declared.settings.Define.{Define}
+use Rattle.sv_preproc.specs.Runs.{expands, end_token, Comes}
+use Rattle.sv_preproc.proofs.Kept.{kept}
 use Rattle.command_line.specs.declared.part.Part.{Part}
 use Rattle.command_line.specs.declared.words.Asked.{Asked}
 use Rattle.command_line.specs.Words.{name_before, body_behind, is_simple_name, is_body, define_of, each, prepended, only_top, with_parts, asked_by, asked, are_few, part_of, joined, macro_in, directory_in, file_in, top_in, isnt_empty}
@@ -37,14 +41,10 @@ by-kind Kinds.Cut simple h = refl
 by-kind Kinds.Bad simple h = refl
 by-kind Kinds.End simple h = refl
 
-all-named : (ts : List Token) → ((t : Token) → Member ts t → is_simply_named t ≡ true) → NamesAreSimple ts
-all-named [] h = All-nil _
-all-named (t ∷ ts) h = All-cons _ t ts (h t (inl refl)) (all-named ts (λ u m. h u (inr m)))
-
 raw-named : (ts : List Token) → All IsRaw ts → ((t : Token) → Member ts t → 0 < length t.text → t.kind ≡ Kinds.Name → is_simple t.text ≡ true) → NamesAreSimple ts
 raw-named [] a h = All-nil _
 raw-named (t ∷ ts) a h =
-    All-cons _ t ts (by-kind t.kind (is_simple t.text) (h t (inl refl) (All-head IsRaw t ts a).some)) (raw-named ts (All-tail IsRaw t ts a) (λ u m. h u (inr m)))
+    All-cons (λ (x : Token). is_simply_named x ≡ true) t ts (by-kind t.kind (is_simple t.text) (h t (inl refl) (All-head IsRaw t ts a).some)) (raw-named ts (All-tail IsRaw t ts a) (λ u m. h u (inr m)))
 
 -- the tokens of each file are
 pub file-named : (file : ℕ) (bytes : List ℕ) → NamesAreSimple (tokens_of file bytes)
@@ -61,15 +61,16 @@ define-named text d e = pick (is_simple_name (name_before text) && is_body (body
     pick false e = cc
 
 defines-named : (texts : List (List ℕ)) (ds : List Define) → each define_of texts ≡ Some ds → BodiesAreSimple ds
-defines-named [] ds e = (let same : [] ≡ ds = cc in subst BodiesAreSimple same (All-nil _))
-defines-named (text ∷ texts) ds e = both (define_of text) (each define_of texts) refl refl e
+defines-named [] ds e = (let same : [] ≡ ds = cc in subst BodiesAreSimple same (All-nil (λ (x : Define). NamesAreSimple x.body)))
+defines-named (text ∷ texts) ds e = both (define_of text) (each define_of texts) refl refl (defines-named texts) e
   where
-    both : (first : Option Define) (rest : Option (List Define)) → define_of text ≡ first → each define_of texts ≡ rest → prepended first rest ≡ Some ds → BodiesAreSimple ds
-    both None rest f g e = cc
-    both (Some d) None f g e = cc
-    both (Some d) (Some others) f g e =
+    both : (first : Option Define) (rest : Option (List Define)) → define_of text ≡ first → each define_of texts ≡ rest
+        → ((others : List Define) → each define_of texts ≡ Some others → BodiesAreSimple others) → prepended first rest ≡ Some ds → BodiesAreSimple ds
+    both None rest f g more e = cc
+    both (Some d) None f g more e = cc
+    both (Some d) (Some others) f g more e =
         let same : d ∷ others ≡ ds = cc in
-        subst BodiesAreSimple same (All-cons _ d others (define-named text d f) (defines-named texts others g))
+        subst BodiesAreSimple same (All-cons (λ (x : Define). NamesAreSimple x.body) d others (define-named text d f) (more others g))
 
 parts-named : (top : Option (List ℕ)) (defines : Option (List Define)) (dirs files : List (List ℕ)) (request : Asked)
     → with_parts top defines dirs files ≡ Some request → defines ≡ Some request.settings.defines
@@ -95,3 +96,18 @@ request-named words request e = few (are_few words) e
     few : (holds : Bool) → cond holds (asked_by (each part_of (joined words))) None ≡ Some request → BodiesAreSimple request.settings.defines
     few true e = of_parts (each part_of (joined words)) e
     few false e = cc
+
+-- so are the tokens before the last one, if all are
+pub front-named : (ts us : List Token) → NamesAreSimple (ts ++ us) → NamesAreSimple ts
+front-named [] us a = All-nil (λ (t : Token). is_simply_named t ≡ true)
+front-named (t ∷ ts) us a =
+    All-cons (λ (u : Token). is_simply_named u ≡ true) t ts (All-head (λ (u : Token). is_simply_named u ≡ true) t (ts ++ us) a)
+    (front-named ts us (All-tail (λ (u : Token). is_simply_named u ≡ true) t (ts ++ us) a))
+
+-- so are the tokens of its expansion
+pub expansion-named : (request : Asked) → BodiesAreSimple request.settings.defines → (told : Option Contents) (front : List Token) (place : Place) (names : List (List ℕ))
+    → Comes request.settings told (expands (front ++ end_token place ∷ []) names) → NamesAreSimple (front ++ end_token place ∷ [])
+expansion-named request bodies told front place names comes =
+    All-append (λ (t : Token). is_simply_named t ≡ true) front (end_token place ∷ [])
+    (kept is_simply_named (λ at t holds. holds) file-named request.settings bodies told front place names comes)
+    (All-cons (λ (t : Token). is_simply_named t ≡ true) (end_token place) [] refl (All-nil (λ (t : Token). is_simply_named t ≡ true)))

@@ -6,7 +6,7 @@ use Rattle.sv_source.specs.declared.text.Text.{Text}
 use Rattle.sv_source.specs.declared.refusal.Refusal.{Refusal}
 use Rattle.sv_source.specs.declared.token.Place.{Place}
 use Rattle.sv_source.specs.declared.token.Token.{Token}
-use Rattle.sv_preproc.specs.Runs.{Outcome, expands, refused, end_token, Comes, LooksAt}
+use Rattle.sv_preproc.specs.Runs.{expands, refused, end_token, Comes, LooksAt}
 use Rattle.command_line.specs.declared.words.Asked.{Asked}
 use Rattle.command_line.specs.Words.{asked}
 use Rattle.sv2v_top.specs.declared.run.Stop.{Stop}

@@ -40,7 +40,7 @@ Reaches set told (Err (Refused refusal files)) = Comes set told (refused refusal
 -- falls
 abbrev pub FailCause : ExpandFail → ℕ → ℕ → Type 0
 FailCause Memory before now = before ≤ now
-FailCause (FileFault path) before now = Rose before now
+FailCause (FileFault path) before now = Rose before now × (before ≤ now)
 FailCause (Refused refusal files) before now = now ≡ before
 
 abbrev pub Cause : {A : Type 0} → Result A ExpandFail → ℕ → ℕ → Type 0

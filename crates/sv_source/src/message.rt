@@ -6,12 +6,19 @@ ghost use Rattle.sv_source.specs.Message.{first_line, refusal_line, usage_line, 
 use crate::{Put, Refusal, Sink, put_all, put_parts};
 use itoa::Buffer;
 
+/// How many bytes stand before the first newline.
+fn line_length(text: &[u8]) -> usize
+    ensures value { result ≡ length (first_line text.now) }
+    ensures within { result ≤ length text.now }
+{
+    text.iter().take_while(|byte| **byte != b'\n').count()
+}
+
 /// The bytes before the first newline.
 fn first_line(text: &[u8]) -> &[u8]
     ensures { result.now ≡ first_line text.now }
 {
-    let len = text.iter().take_while(|byte| **byte != b'\n').count();
-    &text[..len]
+    &text[..line_length(text)]
 }
 
 /// Puts `FILE:LINE:COL: Ennn WORD` and a newline: why a source is refused. `file` is the name of the file of the

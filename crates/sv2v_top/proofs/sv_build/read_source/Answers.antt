@@ -1,10 +1,11 @@
-use Rattle.std.proofs.Common.{◌≡◌, List, ℕ, map, None, Ok, Err, sym, subst, ◌∙◌}
+use Rattle.std.proofs.Common.{◌≡◌, List, ℕ, map, None, Ok, Err, sym, ap, subst, ◌∙◌}
+use Rattle.std.specs.List.{slice_get}
 use Rattle.ll_engine.specs.declared.table.Row.{Row}
 use Rattle.ll_engine.specs.declared.tree.Tree.{Tree}
 use Rattle.ll_engine.specs.Texts.{IsReading, FailsAt, PassesAt}
 use Rattle.ll_engine.specs.Answers.{ParseGives}
 use Rattle.sv_source.specs.declared.token.Token.{Token}
-use Rattle.sv2v_top.specs.source.Reading.{fails, nests}
+use Rattle.sv2v_top.specs.source.Reading.{fails, nests, refusal_at}
 use Rattle.sv2v_top.specs.source.Grammar.{symbol_of, source_rows}
 use Rattle.sv2v_top.specs.source.Building.{module_of, nesting_limit}
 use Rattle.sv2v_top.proofs.Readable.{readable}
@@ -30,7 +31,8 @@ returns-in-Err-NoText c =
     let at : ℕ = c.in-Err-NoText.at in
     let given : FailsAt c.in_ok-reader.reader c.as_slice.result.now 256 at = subst (λ f. ParseGives c.in_ok-reader.reader c.as_slice.result.now 256 (Err f)) c.in-Err-NoText.field-0-is c.in-Err-NoText.ensures in
     let first : FailsAt source_rows c.as_slice.result.now 256 at = subst (λ (t : List Row). FailsAt t c.as_slice.result.now 256 at) reader given in
-    fails at (subst (λ (w : List ℕ). FailsAt source_rows w 256 at) symbols first) c.in_ok-syntax_refusal-in-Err-NoText.ensures
+    fails at (subst (λ (w : List ℕ). FailsAt source_rows w 256 at) symbols first)
+    (c.in_ok-syntax_refusal-in-Err-NoText.ensures ∙ ap (λ n. refusal_at n c.args.last (slice_get c.args.tokens.now at)) c.failing_rule-rule.ensures)
 
 pub returns : goal.returns
 returns c =

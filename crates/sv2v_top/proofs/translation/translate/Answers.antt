@@ -10,7 +10,7 @@ use Rattle.sv2v_top.proofs.translation.translate.Goals as goal
 
 pub returns-in_err-source : goal.returns-in_err-source
 returns-in_err-source c =
-    let p = err_from_is_err_and c.from_residual-in_err-source.result c.from_residual-in_err-source.ensures.1 in
+    let p = err_from_is_err_and c.from_residual.result c.from_residual.ensures.1 in
     let same : p.0 ≡ c.in_err-source.field-0.0 = p.2 in
     subst (TranslationGives c.args.top.now c.args.tokens.now c.args.last) (sym (p.1 ∙ ap Err same))
     (unread-breaks c.args.top.now c.args.tokens.now c.args.last c.in_err-source.field-0.0 c.in_err-source.ensures)
@@ -18,7 +18,7 @@ returns-in_err-source c =
 pub lower-requires : goal.lower-requires
 lower-requires c =
     subst Translatable (sym c.in_ok-design.ensures.1)
-    (correct c.args.top.now c.args.tokens.now c.in_ok-source.source c.in_ok-source.ensures c.in_ok-design.ensures.0 c.given.names)
+    (correct c.args.top.now c.args.tokens.now c.in_ok-source.source c.in_ok-source.ensures c.in_ok-design.ensures.0 c.requires.names)
 
 pub returns : goal.returns
 returns c =

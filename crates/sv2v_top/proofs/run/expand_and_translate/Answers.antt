@@ -1,0 +1,46 @@
+use Rattle.std.proofs.Common.{◌≡◌, List, ℕ, ◌++◌, ◌∷◌, [], sym, subst, arith}
+use Rattle.sv_source.specs.Faults.{NotRaised}
+use Rattle.sv_source.specs.declared.token.Token.{Token}
+use Rattle.sv_preproc.specs.Runs.{expands, end_token, Comes}
+use Rattle.sv_preproc.specs.Answers.{FailCause}
+use Rattle.sv_preproc.specs.declared.settings.ExpandFail.{ExpandFail}
+use Rattle.sv_preproc.proofs.Ending.{ends-with-end}
+use Rattle.sv_preproc.proofs.Kept.{few-tokens}
+use Rattle.sv2v_top.specs.Headline.{ExpandsTo, TokensGive}
+use Rattle.sv2v_top.specs.Tokens.{NamesAreSimple}
+use Rattle.sv2v_top.proofs.Runs.{from-tokens}
+use Rattle.sv2v_top.proofs.SourceNames.{expansion-named}
+use Rattle.sv2v_top.proofs.run.expand_and_translate.Goals as goal
+
+pub translated-requires-clause-few : goal.translated-requires-clause-few
+translated-requires-clause-few g c =
+    let few = few-tokens c.args.asked.now.settings (g.F.Files.contents c.args.files.now) c.in-Ok.expanded.tokens c.in-Ok.expanded.files c.in-Ok.ensures.comes in
+    omega (arith, few)
+
+pub translated-requires-clause-names : goal.translated-requires-clause-names
+translated-requires-clause-names g c =
+    let set = c.args.asked.now.settings in
+    let told = g.F.Files.contents c.args.files.now in
+    let files = c.in-Ok.expanded.files in
+    let end = ends-with-end set told c.in-Ok.expanded.tokens files c.in-Ok.ensures.comes in
+    let comes : Comes set told (expands (end.0 ++ end_token end.1 ∷ []) files) = subst (λ (ts : List Token). Comes set told (expands ts files)) end.2 c.in-Ok.ensures.comes in
+    subst NamesAreSimple (sym end.2) (expansion-named c.args.asked.now c.requires.bodies told end.0 end.1 files comes)
+
+pub translated-requires-clause-ends : goal.translated-requires-clause-ends
+translated-requires-clause-ends g c =
+    ends-with-end c.args.asked.now.settings (g.F.Files.contents c.args.files.now) c.in-Ok.expanded.tokens c.in-Ok.expanded.files c.in-Ok.ensures.comes
+
+pub returns-in-Ok-clause-gives : goal.returns-in-Ok-clause-gives
+returns-in-Ok-clause-gives g c =
+    let told = g.F.Files.contents c.args.files.now in
+    let files = c.in-Ok.expanded.files in
+    let end = ends-with-end c.args.asked.now.settings told c.in-Ok.expanded.tokens files c.in-Ok.ensures.comes in
+    let expansion : ExpandsTo c.args.asked.now told end.0 end.1 files = subst (λ (ts : List Token). Comes c.args.asked.now.settings told (expands ts files)) end.2 c.in-Ok.ensures.comes in
+    let same : _ ≡ _ = c.in-Ok.ensures.cause in
+    let calm : NotRaised _ _ = omega arith in
+    from-tokens c.args.asked.now told _ _ end.0 end.1 files c.translated.result expansion calm
+    (subst (λ (top : List ℕ). TokensGive top end.0 end.1 files c.translated.result) c.as_bytes.ensures (c.translated.ensures end.0 end.1 end.2))
+
+pub returns-in-Err-FileFault-clause-later : goal.returns-in-Err-FileFault-clause-later
+returns-in-Err-FileFault-clause-later g c =
+    (subst (λ (f : ExpandFail). FailCause f (g.F.Files.faults c.args.files.now) (g.F.Files.faults c.expand.new.files)) c.in-Err-FileFault.field-0-is c.in-Err-FileFault.ensures.cause).1
