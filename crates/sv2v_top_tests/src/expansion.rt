@@ -145,7 +145,7 @@ fn files_are_expanded(rt: HostRuntime) -> Result<(), Fail> {
 
 #[test]
 fn breaks_are_refused(rt: HostRuntime) -> Result<(), Fail> {
-    let cases: [Case; 26] = [
+    let cases: [Case; 27] = [
         (
             &["--top=m", "p.sv"],
             &[("p.sv", "`define M(a, b) a\nmodule m(input logic `M(q));\nendmodule\n")],
@@ -201,6 +201,12 @@ fn breaks_are_refused(rt: HostRuntime) -> Result<(), Fail> {
             &["--top=m", "p.sv"],
             &[("p.sv", "`define F(a) a\nmodule `F(m; endmodule\n")],
             "p.sv:2:8: E208 `F\n",
+        ),
+        // a word of several lines is cut behind the first one
+        (
+            &["--top=m", "p.sv"],
+            &[("p.sv", "module m; /* a\n b\n c\nendmodule\n")],
+            "p.sv:1:11: E208 /* a\n",
         ),
         // the rules of reading stand at the files of their tokens
         (
