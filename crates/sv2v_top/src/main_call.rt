@@ -86,7 +86,8 @@ fn answer<F: Files, O: Sink, E: Sink>(
     }
 }
 
-/// sv2v as a call: reads the words `--top=NAME FILE`, loads the file, translates it, and puts the text on `out`.
+/// sv2v as a call: reads the words `[-I DIR].. [-D NAME[=TEXT]].. --top=NAME FILE..`, expands the files (IEEE 1800-2017
+/// clause 22), translates what they give, and puts the text on `out`.
 ///
 /// Answers `Done` with the whole text on `out`; `Refused`, `Usage`, `Memory` or `FileFault` with nothing on `out` and one
 /// line on `err`; `SinkFault` where a put failed, with a front of the text on `out`. Never `Unsettled`.
@@ -97,23 +98,23 @@ pub fn translate_main<F: Files, O: Sink, E: Sink>(
     out: &mut O,
     err: &mut E,
 ) -> Status
-    // A right translation of the file is on the output, whole.
+    // A right translation of the files is on the output, whole.
     ensures done { OnDone (call (map string_bytes words.now) (F.contents files.old) (F.faults files.old) (F.faults files.new) (sink (O.written out.old) (O.written out.new) (O.faults out.old) (O.faults out.new)) (sink (E.written err.old) (E.written err.new) (E.faults err.old) (E.faults err.new))) result }
-    // The first break of the file is said, with its rule, place and word, and the output is as it was.
+    // The first break of the files is said, with its rule, place and word, and the output is as it was.
     ensures refused { OnRefused (call (map string_bytes words.now) (F.contents files.old) (F.faults files.old) (F.faults files.new) (sink (O.written out.old) (O.written out.new) (O.faults out.old) (O.faults out.new)) (sink (E.written err.old) (E.written err.new) (E.faults err.old) (E.faults err.new))) result }
     // The words aren't of the form, and the usage line is said.
     ensures usage { OnUsage (call (map string_bytes words.now) (F.contents files.old) (F.faults files.old) (F.faults files.new) (sink (O.written out.old) (O.written out.new) (O.faults out.old) (O.faults out.new)) (sink (E.written err.old) (E.written err.new) (E.faults err.old) (E.faults err.new))) result }
     // Want of memory is said.
     ensures memory { OnMemory (call (map string_bytes words.now) (F.contents files.old) (F.faults files.old) (F.faults files.new) (sink (O.written out.old) (O.written out.new) (O.faults out.old) (O.faults out.new)) (sink (E.written err.old) (E.written err.new) (E.faults err.old) (E.faults err.new))) result }
-    // The load of the named file failed, and its path is said.
+    // The load of a file that the expansion looks for failed, and its path is said.
     ensures file_fault { OnFileFault (call (map string_bytes words.now) (F.contents files.old) (F.faults files.old) (F.faults files.new) (sink (O.written out.old) (O.written out.new) (O.faults out.old) (O.faults out.new)) (sink (E.written err.old) (E.written err.new) (E.faults err.old) (E.faults err.new))) result }
     // A sink failed, with a front of what it was given.
     ensures sink_fault { OnSinkFault (call (map string_bytes words.now) (F.contents files.old) (F.faults files.old) (F.faults files.new) (sink (O.written out.old) (O.written out.new) (O.faults out.old) (O.faults out.new)) (sink (E.written err.old) (E.written err.new) (E.faults err.old) (E.faults err.new))) result }
     // Words that aren't of the form are answered so.
     ensures usage_comes { UsageComes (call (map string_bytes words.now) (F.contents files.old) (F.faults files.old) (F.faults files.new) (sink (O.written out.old) (O.written out.new) (O.faults out.old) (O.faults out.new)) (sink (E.written err.old) (E.written err.new) (E.faults err.old) (E.faults err.new))) result }
-    // A file without a break is translated.
+    // Files without a break are translated.
     ensures done_comes { DoneComes (call (map string_bytes words.now) (F.contents files.old) (F.faults files.old) (F.faults files.new) (sink (O.written out.old) (O.written out.new) (O.faults out.old) (O.faults out.new)) (sink (E.written err.old) (E.written err.new) (E.faults err.old) (E.faults err.new))) result }
-    // A file with a break is refused with its first one.
+    // Files with a break are refused with their first one.
     ensures refusal_comes { RefusalComes (call (map string_bytes words.now) (F.contents files.old) (F.faults files.old) (F.faults files.new) (sink (O.written out.old) (O.written out.new) (O.faults out.old) (O.faults out.new)) (sink (E.written err.old) (E.written err.new) (E.faults err.old) (E.faults err.new))) result }
     // No design is run.
     ensures never_unsettled { NeverUnsettled result }
