@@ -1,10 +1,12 @@
 // The tables of the lexer.
-ghost use Rattle.std.specs.Prelude.{◌≡◌, ◌≤◌, map, length, IfOk};
+ghost use Rattle.std.specs.Prelude.{◌≡◌, ◌≤◌, [], map, length, slice_index_or, vec_len, IfOk, OnOk};
 ghost use Rattle.std.specs.List.{list_any};
 ghost use Rattle.std.specs.Str.{bytes_eq};
-ghost use Rattle.sv_lexer.specs.Tables.{words_of, reserved_words, marks as marks_table, is_reserved, mark_span};
+ghost use Rattle.sv_lexer.specs.Groups.{IsGrouped, with_word};
+ghost use Rattle.sv_lexer.specs.Tables.{words_of, longest_of, reserved_words, marks as marks_table, is_reserved, mark_span};
 
 use std::alloc::{AllocError, Global};
+use sv_source::Items;
 
 /// The reserved words, each followed by one space but for the last (IEEE 1800-2017 annex B).
 pub const RESERVED: &str =
@@ -14,13 +16,18 @@ pub const RESERVED: &str =
 pub const MARKS: &str =
     "( ) [ ] { } ; , . : ? # @ ' = + - * / % & | ^ ~ ! < > :: .* (* *) (*) ** ++ -- && || == != === !== ==? !=? <= >= << >> <<< >>> ~& ~| ~^ ^~ += -= *= /= %= &= |= ^= <<= >>= <<<= >>>= +: -:";
 
-/// The words of both tables, cut apart.
+const BYTES: usize = 256;
+
+/// The words of a table, cut apart: for each byte the list of those that begin with it.
+type Groups = Vec<Items<&'static str>>;
+
+/// The words of both tables.
 #[derive(Drop)]
 pub struct Tables {
-    reserved: Vec<&'static str>,
-    marks: Vec<&'static str>,
-    ghost all_reserved: { map (λ word. word.now) reserved.items ≡ reserved_words },
-    ghost all_marks: { map (λ mark. mark.now) marks.items ≡ marks_table },
+    reserved: Groups,
+    marks: Groups,
+    ghost all_reserved: { IsGrouped reserved_words reserved.items },
+    ghost all_marks: { IsGrouped marks_table marks.items },
 }
 
 // The words of a table.
@@ -30,10 +37,66 @@ fn words(alloc: Global, table: &'static str) -> Result<Vec<&'static str>, AllocE
     table.split(' ').collect(alloc)
 }
 
+// A list without words for each byte.
+fn no_words(alloc: Global) -> Result<Groups, AllocError>
+    ensures { IfOk result (λ groups. IsGrouped [] groups.items) }
+{
+    let mut groups = Vec::with_capacity(alloc, BYTES)?;
+    for _ in 0..BYTES {
+        groups.push(Items::new(alloc))?;
+    }
+    Ok(groups)
+}
+
+// Puts a word to the others with its first byte.
+fn add_word(groups: &mut Groups, word: &'static str) -> Result<(), AllocError>
+    requires { vec_len groups.old ≡ 256 }
+    ensures { OnOk result (groups.new.items ≡ with_word groups.old.items word.entry) }
+{
+    match word.as_bytes() {
+        [] => Ok(()),
+        [first, ..] => groups[usize::from(*first)].push(word),
+    }
+}
+
+fn grouped(alloc: Global, table: &'static str) -> Result<Groups, AllocError>
+    ensures { IfOk result (λ groups. IsGrouped (words_of table.now) groups.items) }
+{
+    let words = words(alloc, table)?;
+    let mut groups = no_words(alloc)?;
+    for word in &words {
+        add_word(&mut groups, word)?;
+    }
+    Ok(groups)
+}
+
+// The words that begin with the byte.
+fn group(groups: &Groups, first: u8) -> &[&'static str]
+    requires { vec_len groups.now ≡ 256 }
+    ensures { result.now ≡ slice_index_or groups.now.items first [] }
+{
+    groups[usize::from(first)].as_slice()
+}
+
 fn is_among(words: &[&str], name: &[u8]) -> bool
     ensures { result ≡ list_any (λ word. bytes_eq word.now name.now) words.now }
 {
     words.iter().any(|word| word.as_bytes() == name)
+}
+
+// The length of the longest of the words that begins the text, or 0.
+fn longest_among(words: &[&str], bytes: &[u8]) -> usize
+    ensures value { result ≡ longest_of bytes.now 0 (map (λ word. word.now) words.now) }
+    ensures within { result ≤ length bytes.now }
+{
+    let mut best = 0;
+    for word in words {
+        let word = word.as_bytes();
+        if best < word.len() && bytes.starts_with(word) {
+            best = word.len();
+        }
+    }
+    best
 }
 
 impl Tables {
@@ -41,8 +104,8 @@ impl Tables {
     #[tactic(auto, unfolding(crate::specs::Tables::reserved_words, crate::specs::Tables::marks))]
     pub fn new(alloc: Global) -> Result<Tables, AllocError> {
         Ok(Tables {
-            reserved: words(alloc, RESERVED)?,
-            marks: words(alloc, MARKS)?,
+            reserved: grouped(alloc, RESERVED)?,
+            marks: grouped(alloc, MARKS)?,
         })
     }
 
@@ -50,7 +113,10 @@ impl Tables {
     pub fn is_reserved(&self, name: &[u8]) -> bool
         ensures { result ≡ is_reserved name.now }
     {
-        is_among(&self.reserved, name)
+        match name {
+            [] => false,
+            [first, ..] => is_among(group(&self.reserved, *first), name),
+        }
     }
 
     /// The length of the longest mark at the front of a text, or 0.
@@ -58,13 +124,9 @@ impl Tables {
         ensures value { result ≡ mark_span bytes.now }
         ensures within { result ≤ length bytes.now }
     {
-        let mut best = 0;
-        for mark in &self.marks {
-            let mark = mark.as_bytes();
-            if best < mark.len() && bytes.starts_with(mark) {
-                best = mark.len();
-            }
+        match bytes {
+            [] => 0,
+            [first, ..] => longest_among(group(&self.marks, *first), bytes),
         }
-        best
     }
 }
