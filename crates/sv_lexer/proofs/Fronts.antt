@@ -8,10 +8,10 @@ use Rattle.sv_lexer.specs.declared.piece.Piece.{Piece}
 use Rattle.sv_lexer.specs.Bytes.{is_white, is_letter, is_digit, opens_many}
 use Rattle.sv_lexer.specs.Spans.{white_span, line_span, continued_span, line_comment_span, block_comment_span, cut_span, name_span, system_span, directive_span, paste_span, quote_span, decimal_span}
 use Rattle.sv_lexer.specs.Literals.{based_span, fill_span, string_span}
-use Rattle.sv_lexer.specs.Groups.{beginning}
-use Rattle.sv_lexer.specs.Tables.{marks, mark_span, longest_of}
+use Rattle.sv_lexer.specs.Groups.{has_first}
+use Rattle.sv_lexer.specs.Tables.{marks, mark_span}
 use Rattle.sv_lexer.specs.Pieces.{gap, token, longer, pieces, longest}
-use Rattle.sv_lexer.proofs.Groups.{longest_of-beginning}
+use Rattle.sv_lexer.proofs.Groups.{or-false, longest_of-none}
 
 abbrev Empties : List Piece → Type 0
 Empties [] = Unit {0}
@@ -66,20 +66,16 @@ abbrev starts : (ℕ → Bool) → List ℕ → Bool
 starts test [] = false
 starts test (d ∷ ds) = test d
 
-or-false : (a b : Bool) → (a || b) ≡ false → (a ≡ false) × (b ≡ false)
-or-false false b e = (refl, e)
-or-false true b e = absurd (let no : true ≡ false = e in cc)
-
 -- no word begins with a byte of the class
-beginning-none : (test : ℕ → Bool) (c : ℕ) (words : List (List ℕ)) → test c ≡ true → list_any (starts test) words ≡ false → beginning c words ≡ []
-beginning-none test c [] is none = refl
-beginning-none test c ([] ∷ words) is none = beginning-none test c words is none
-beginning-none test c ((d ∷ ds) ∷ words) is none =
+first-none : (test : ℕ → Bool) (c : ℕ) (words : List (List ℕ)) → test c ≡ true → list_any (starts test) words ≡ false → list_any (has_first c) words ≡ false
+first-none test c [] is none = refl
+first-none test c ([] ∷ words) is none = first-none test c words is none
+first-none test c ((d ∷ ds) ∷ words) is none =
     let both = or-false (test d) (list_any (starts test) words) none in
-    rw (apart-back test c d is both.0) (beginning-none test c words is both.1)
+    rw (apart-back test c d is both.0) (first-none test c words is both.1)
 
 mark-none : (test : ℕ → Bool) (c : ℕ) (cs : List ℕ) → test c ≡ true → list_any (starts test) marks ≡ false → mark_span (c ∷ cs) ≡ 0
-mark-none test c cs is none = sym (longest_of-beginning c cs 0 marks) ∙ ap (longest_of (c ∷ cs) 0) (beginning-none test c marks is none)
+mark-none test c cs is none = longest_of-none c cs 0 marks (first-none test c marks is none)
 
 module _ (c : ℕ) (cs : List ℕ) where
   white-none : is_white c ≡ false → white_span (c ∷ cs) ≡ 0

@@ -1,33 +1,33 @@
 // The tables of the lexer.
-ghost use Rattle.std.specs.Prelude.{◌≡◌, ◌≤◌, [], map, length, slice_index_or, vec_len, IfOk, OnOk};
+ghost use Rattle.std.specs.Prelude.{◌≡◌, ◌≤◌, ◌<◌, ◌^◌, map, length, IfOk};
 ghost use Rattle.std.specs.List.{list_any};
 ghost use Rattle.std.specs.Str.{bytes_eq};
-ghost use Rattle.sv_lexer.specs.Groups.{IsGrouped, with_word};
+ghost use Rattle.sv_lexer.specs.Groups.{IsGrouped, widened, with_word, group_words};
 ghost use Rattle.sv_lexer.specs.Tables.{words_of, longest_of, reserved_words, marks as marks_table, is_reserved, mark_span};
 
 use std::alloc::{AllocError, Global};
-use sv_source::Items;
 
 /// The reserved words, each followed by one space but for the last (IEEE 1800-2017 annex B).
 pub const RESERVED: &str =
     "accept_on alias always always_comb always_ff always_latch and assert assign assume automatic before begin bind bins binsof bit break buf bufif0 bufif1 byte case casex casez cell chandle checker class clocking cmos config const constraint context continue cover covergroup coverpoint cross deassign default defparam design disable dist do edge else end endcase endchecker endclass endclocking endconfig endfunction endgenerate endgroup endinterface endmodule endpackage endprimitive endprogram endproperty endspecify endsequence endtable endtask enum event eventually expect export extends extern final first_match for force foreach forever fork forkjoin function generate genvar global highz0 highz1 if iff ifnone ignore_bins illegal_bins implements implies import incdir include initial inout input inside instance int integer interconnect interface intersect join join_any join_none large let liblist library local localparam logic longint macromodule matches medium modport module nand negedge nettype new nexttime nmos nor noshowcancelled not notif0 notif1 null or output package packed parameter pmos posedge primitive priority program property protected pull0 pull1 pulldown pullup pulsestyle_ondetect pulsestyle_onevent pure rand randc randcase randsequence rcmos real realtime ref reg reject_on release repeat restrict return rnmos rpmos rtran rtranif0 rtranif1 s_always s_eventually s_nexttime s_until s_until_with scalared sequence shortint shortreal showcancelled signed small soft solve specify specparam static string strong strong0 strong1 struct super supply0 supply1 sync_accept_on sync_reject_on table tagged task this throughout time timeprecision timeunit tran tranif0 tranif1 tri tri0 tri1 triand trior trireg type typedef union unique unique0 unsigned until until_with untyped use uwire var vectored virtual void wait wait_order wand weak weak0 weak1 while wildcard wire with within wor xnor xor";
 
-/// The operators and marks of punctuation, separated by one space.
+/// The operators and marks of punctuation, separated by one space, those with one first byte together.
 pub const MARKS: &str =
-    "( ) [ ] { } ; , . : ? # @ ' = + - * / % & | ^ ~ ! < > :: .* (* *) (*) ** ++ -- && || == != === !== ==? !=? <= >= << >> <<< >>> ~& ~| ~^ ^~ += -= *= /= %= &= |= ^= <<= >>= <<<= >>>= +: -:";
+    "( (* (*) ) [ ] { } ; , . .* : :: ? # @ ' = == === ==? + ++ += +: - -- -= -: * *) ** *= / /= % %= & && &= | || |= ^ ^~ ^= ~ ~& ~| ~^ ! != !== !=? < <= << <<< <<= <<<= > >= >> >>> >>= >>>=";
 
-const BYTES: usize = 256;
+/// Some words of a table: from `start` on and before `end`.
+#[derive(Clone, Copy)]
+pub struct Group {
+    start: usize,
+    end: usize,
+}
 
-/// The words of a table, cut apart: for each byte the list of those that begin with it.
-type Groups = Vec<Items<&'static str>>;
-
-/// The words of both tables.
+/// The words of a table, cut apart. All that begin with one byte stand in that byte's group.
 #[derive(Drop)]
-pub struct Tables {
-    reserved: Groups,
-    marks: Groups,
-    ghost all_reserved: { IsGrouped reserved_words reserved.items },
-    ghost all_marks: { IsGrouped marks_table marks.items },
+struct Table {
+    words: Vec<&'static str>,
+    groups: [Group; 256],
+    ghost grouped: { IsGrouped words.items groups },
 }
 
 // The words of a table.
@@ -37,45 +37,52 @@ fn words(alloc: Global, table: &'static str) -> Result<Vec<&'static str>, AllocE
     table.split(' ').collect(alloc)
 }
 
-// A list without words for each byte.
-fn no_words(alloc: Global) -> Result<Groups, AllocError>
-    ensures { IfOk result (λ groups. IsGrouped [] groups.items) }
+// The group with one more word, which stands at this index.
+fn widened(group: Group, at: usize) -> Group
+    requires { at < 2 ^ 63 }
+    ensures { result ≡ widened group at }
 {
-    let mut groups = Vec::with_capacity(alloc, BYTES)?;
-    for _ in 0..BYTES {
-        groups.push(Items::new(alloc))?;
-    }
-    Ok(groups)
+    let start = if group.end == 0 { at } else { group.start };
+    Group { start, end: at + 1 }
 }
 
-// Puts a word to the others with its first byte.
-fn add_word(groups: &mut Groups, word: &'static str) -> Result<(), AllocError>
-    requires { vec_len groups.old ≡ 256 }
-    ensures { OnOk result (groups.new.items ≡ with_word groups.old.items word.entry) }
+// Widens the group of the word's first byte, if it has one.
+fn add_word(groups: &mut [Group; 256], word: &str, at: usize)
+    requires { at < 2 ^ 63 }
+    ensures { groups.new ≡ with_word groups.old word.now at }
 {
-    match word.as_bytes() {
-        [] => Ok(()),
-        [first, ..] => groups[usize::from(*first)].push(word),
+    if let [first, ..] = word.as_bytes() {
+        let first = usize::from(*first);
+        groups[first] = widened(groups[first], at);
     }
 }
 
-fn grouped(alloc: Global, table: &'static str) -> Result<Groups, AllocError>
-    ensures { IfOk result (λ groups. IsGrouped (words_of table.now) groups.items) }
+fn groups(words: &[&'static str]) -> [Group; 256]
+    ensures { IsGrouped words.now result }
 {
-    let words = words(alloc, table)?;
-    let mut groups = no_words(alloc)?;
-    for word in &words {
-        add_word(&mut groups, word)?;
+    let mut groups = [Group { start: 0, end: 0 }; 256];
+    for (at, word) in words.iter().enumerate() {
+        add_word(&mut groups, word, at);
     }
-    Ok(groups)
+    groups
 }
 
-// The words that begin with the byte.
-fn group(groups: &Groups, first: u8) -> &[&'static str]
-    requires { vec_len groups.now ≡ 256 }
-    ensures { result.now ≡ slice_index_or groups.now.items first [] }
-{
-    groups[usize::from(first)].as_slice()
+impl Table {
+    fn new(alloc: Global, table: &'static str) -> Result<Table, AllocError>
+        ensures { IfOk result (λ t. map (λ x. x.now) t.words.items ≡ words_of table.now) }
+    {
+        let words = words(alloc, table)?;
+        let groups = groups(&words);
+        Ok(Table { words, groups })
+    }
+
+    // The words among which are all that begin with the byte.
+    fn group(&self, first: u8) -> &[&'static str]
+        ensures { result.now ≡ group_words self.now.words.items self.now.groups first }
+    {
+        let Group { start, end } = self.groups[usize::from(first)];
+        &self.words[start..end]
+    }
 }
 
 fn is_among(words: &[&str], name: &[u8]) -> bool
@@ -99,13 +106,22 @@ fn longest_among(words: &[&str], bytes: &[u8]) -> usize
     best
 }
 
+/// The words of both tables.
+#[derive(Drop)]
+pub struct Tables {
+    reserved: Table,
+    marks: Table,
+    ghost all_reserved: { map (λ word. word.now) reserved.words.items ≡ reserved_words },
+    ghost all_marks: { map (λ mark. mark.now) marks.words.items ≡ marks_table },
+}
+
 impl Tables {
     /// Both tables, or want of memory.
     #[tactic(auto, unfolding(crate::specs::Tables::reserved_words, crate::specs::Tables::marks))]
     pub fn new(alloc: Global) -> Result<Tables, AllocError> {
         Ok(Tables {
-            reserved: grouped(alloc, RESERVED)?,
-            marks: grouped(alloc, MARKS)?,
+            reserved: Table::new(alloc, RESERVED)?,
+            marks: Table::new(alloc, MARKS)?,
         })
     }
 
@@ -115,7 +131,7 @@ impl Tables {
     {
         match name {
             [] => false,
-            [first, ..] => is_among(group(&self.reserved, *first), name),
+            [first, ..] => is_among(self.reserved.group(*first), name),
         }
     }
 
@@ -126,7 +142,7 @@ impl Tables {
     {
         match bytes {
             [] => 0,
-            [first, ..] => longest_among(group(&self.marks, *first), bytes),
+            [first, ..] => longest_among(self.marks.group(*first), bytes),
         }
     }
 }
