@@ -1,4 +1,4 @@
-use Rattle.std.proofs.Common.{◌∙◌, sym, ap, arith}
+use Rattle.std.proofs.Common.{◌∙◌, sym, ap}
 use Rattle.sv_source.specs.declared.token.Kind.TheVariants.{Name, Decimal}
 use Rattle.sv_lexer.specs.Pieces.{gap, token}
 use Rattle.sv_lexer.proofs.Fronts.{longest-white, longest-name, longest-decimal, longest-line, longest-mark}
