@@ -36,3 +36,7 @@ is_octal c = nat_le 48 c && nat_le c 55 || is_unknown c
 
 abbrev pub is_hex : ℕ → Bool
 is_hex c = is_digit c || nat_le 97 c && nat_le c 102 || nat_le 65 c && nat_le c 70 || is_unknown c
+
+-- a byte with which tokens of several kinds or comments begin: / \ $ ' " `
+abbrev pub opens_many : ℕ → Bool
+opens_many c = c == 47 || c == 92 || c == 36 || c == 39 || c == 34 || c == 96

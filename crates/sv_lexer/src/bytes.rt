@@ -71,3 +71,10 @@ pub fn is_hex(byte: u8) -> bool
 {
     byte.is_ascii_hexdigit() || is_unknown(byte)
 }
+
+/// A byte with which tokens of several kinds or comments begin.
+pub fn opens_many(byte: u8) -> bool
+    ensures { result ≡ spec.opens_many byte }
+{
+    matches!(byte, b'/' | b'\\' | b'$' | b'\'' | b'"' | b'`')
+}

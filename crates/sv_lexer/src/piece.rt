@@ -1,8 +1,11 @@
 // The longest piece at the front of a text.
 ghost use Rattle.std.specs.Prelude.{◌≡◌, ◌<◌, ◌≤◌, ℕ, length};
 ghost use Rattle.sv_lexer.specs.Literals.{string_span};
-ghost use Rattle.sv_lexer.specs.Pieces.{longest};
+ghost use Rattle.sv_source.specs.declared.token.Kind.TheVariants.{Mark, Bad};
+ghost use Rattle.sv_lexer.specs.Pieces.{longest, longer, token};
+ghost use Rattle.sv_lexer.specs.Tables.{mark_span};
 
+use crate::bytes::{is_digit, is_letter, is_white, opens_many};
 use crate::comments::{block_comment_span, cut_span, line_comment_span};
 use crate::literals::{based_span, fill_span};
 use crate::spans::{
@@ -51,9 +54,9 @@ impl Piece {
     }
 }
 
-/// The longest piece at the front of a text; `string` is the length of the string there, or 0.
+// The longest piece of all kinds.
 #[tactic(auto, unfolding(crate::specs::Pieces::longest))]
-pub fn longest(tables: &Tables, bytes: &[u8], string: usize) -> Piece
+fn longest_of_all(tables: &Tables, bytes: &[u8], string: usize) -> Piece
     requires some { 0 < length bytes.now }
     requires string { string ≡ string_span bytes.now }
     requires string_within { string ≤ length bytes.now }
@@ -78,4 +81,39 @@ pub fn longest(tables: &Tables, bytes: &[u8], string: usize) -> Piece
         .longer(Piece::token(Kind::Quote, quote_span(bytes)))
         .longer(Piece::token(Kind::Mark, tables.mark_span(bytes)))
         .longer(Piece::token(Kind::Bad, 1))
+}
+
+// The longest mark, or any byte alone.
+fn mark_or_bad(tables: &Tables, bytes: &[u8]) -> Piece
+    requires { 0 < length bytes.now }
+    ensures value { result ≡ longer (token Mark (mark_span bytes.now)) (token Bad 1) }
+    ensures some { 0 < result.len }
+    ensures within { result.len ≤ length bytes.now }
+{
+    Piece::token(Kind::Mark, tables.mark_span(bytes)).longer(Piece::token(Kind::Bad, 1))
+}
+
+/// The longest piece at the front of a text; `string` is the length of the string there, or 0.
+pub fn longest(tables: &Tables, bytes: &[u8], string: usize) -> Piece
+    requires some { 0 < length bytes.now }
+    requires string { string ≡ string_span bytes.now }
+    requires string_within { string ≤ length bytes.now }
+    ensures value { result ≡ longest bytes.now }
+    ensures some { 0 < result.len }
+    ensures within { result.len ≤ length bytes.now }
+{
+    let first = bytes[0];
+    if is_white(first) {
+        Piece::gap(white_span(bytes))
+    } else if is_letter(first) {
+        Piece::token(Kind::Name, name_span(bytes))
+    } else if is_digit(first) {
+        Piece::token(Kind::Decimal, decimal_span(bytes))
+    } else if first == b'\n' {
+        Piece::token(Kind::Line, 1)
+    } else if opens_many(first) {
+        longest_of_all(tables, bytes, string)
+    } else {
+        mark_or_bad(tables, bytes)
+    }
 }
