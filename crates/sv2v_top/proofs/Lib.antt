@@ -15,4 +15,7 @@ pub mod Correct
 pub mod Fit
 pub mod Runs
 pub mod Causes
+pub mod Spots
+pub mod Places
+pub mod Requests
 pub mod Promises
