@@ -1,14 +1,14 @@
 -- A property of tokens that lexing and moving keep: of macros and of the bodies that are placed.
-use Rattle.std.proofs.Common.{ℕ, zero, suc, Bool, true, false, cond, List, [], ◌∷◌, ◌++◌, drop, slice_index_or, Option, Some, None, All}
+use Rattle.std.proofs.Common.{ℕ, zero, suc, Bool, true, false, cond, List, [], ◌∷◌, ◌++◌, drop, slice_index_or, Option, Some, None, All, codes}
 use Rattle.std.specs.Option.{IfSome, option_map, option_and_then}
 use Rattle.std.specs.Str.{bytes_eq}
 use Rattle.std.proofs.lemmas.List.Elements.{All-nil, All-cons, All-head, All-tail, All-append, All-drop, All-map, All-weaker}
 use Rattle.sv_source.specs.declared.token.Place.{Place}
 use Rattle.sv_source.specs.declared.token.Token.{Token}
 use Rattle.sv_lexer.specs.Lexing.{tokens_of}
-use Rattle.sv_macro.specs.Tokens.{is_name, moved}
+use Rattle.sv_macro.specs.Tokens.{is, is_name, moved}
 use Rattle.sv_macro.specs.Macros.{Macros, defined, undefined, marked, is_paste_kind, formal_or_plain, part_by, formal_number, parts_of, replaced, text_of, only_token, pasted, joined, with_part, with_parts, placed}
-use Rattle.sv_macro.specs.Definitions.{barred, first_barred, unless_barred, of_body, with_formals, formals_of, has_formals, behind_name, defining}
+use Rattle.sv_macro.specs.Definitions.{barred, first_barred, unless_barred, of_body, one_longer, with_formal, formals_from, with_formals, formals_of, has_formals, behind_name, defining}
 use Rattle.sv_macro.specs.declared.macros.Part.{Part}
 use Rattle.sv_macro.specs.declared.macros.Part.TheVariants.{Plain, Formal, Join}
 use Rattle.sv_macro.specs.declared.macros.Macro.{Macro}
@@ -35,9 +35,14 @@ MacrosKeep K macros = (name : List ℕ) → IfSome (macros name) (BodyKeeps K)
 
 abbrev pub DefiningKeeps : (Token → Type 0) → Defining → Type 0
 DefiningKeeps K (Defines name m) = BodyKeeps K m
-DefiningKeeps K (BreaksAt rule t) = Unit {0}
+DefiningKeeps K (BreaksAt rule t) = K t
 DefiningKeeps K BreaksList = Unit {0}
 DefiningKeeps K IllFormed = Unit {0}
+
+abbrev pub FormalsKeep : (Token → Type 0) → Formals → Type 0
+FormalsKeep K (Listed names taken) = Unit {0}
+FormalsKeep K (Departs t) = K t
+FormalsKeep K Ends = Unit {0}
 
 -- what holds of a value that is made of another
 mapped_keeps : {A B : Type 0} (P : A → Type 0) (Q : B → Type 0) (f : A → B) → ((x : A) → P x → Q (f x)) → (o : Option A) → IfSome o P → IfSome (option_map f o) Q
@@ -85,26 +90,54 @@ module _ (K : Token → Type 0) where
       All-map (PartKeeps K) (part_by (formal_number 0 formals)) body (All-weaker K (λ t. PartKeeps K (part_by (formal_number 0 formals) t)) (part_keeps (formal_number 0 formals)) body all)
 
   -- a definition
-  by_rule : (rule : Option ℕ) (t : Token) (rest : Option Defining) → IfSome rest (DefiningKeeps K) →
+  by_rule : (rule : Option ℕ) (t : Token) (rest : Option Defining) → K t → IfSome rest (DefiningKeeps K) →
       IfSome (elim rule as (λ _. Option Defining) [ None ↦ rest | Some r ↦ Some (BreaksAt r t) ]) (DefiningKeeps K)
-  by_rule None t rest k = k
-  by_rule (Some r) t rest k = tt
+  by_rule None t rest kt k = k
+  by_rule (Some r) t rest kt k = kt
 
-  barred_keeps : (body : List Token) → IfSome (first_barred body) (DefiningKeeps K)
-  barred_keeps [] = tt
-  barred_keeps (t ∷ ts) = by_rule (barred t) t (first_barred ts) (barred_keeps ts)
+  barred_keeps : (body : List Token) → All K body → IfSome (first_barred body) (DefiningKeeps K)
+  barred_keeps [] all = tt
+  barred_keeps (t ∷ ts) all = by_rule (barred t) t (first_barred ts) (All-head K t ts all) (barred_keeps ts (All-tail K t ts all))
 
   unless_keeps : (b : Option Defining) (d : Defining) → IfSome b (DefiningKeeps K) → DefiningKeeps K d → DefiningKeeps K (unless_barred b d)
   unless_keeps None d p q = q
   unless_keeps (Some b) d p q = p
 
   of_body_keeps : (name : List ℕ) (arity : Option ℕ) (formals : List (List ℕ)) (body : List Token) → All K body → DefiningKeeps K (of_body name arity formals body)
-  of_body_keeps name arity formals body all = unless_keeps (first_barred body) _ (barred_keeps body) (parts_keep formals body all)
+  of_body_keeps name arity formals body all = unless_keeps (first_barred body) _ (barred_keeps body all) (parts_keep formals body all)
 
-  formals_keep : (name : List ℕ) (ts : List Token) (formals : Formals) → All K ts → DefiningKeeps K (with_formals name ts formals)
-  formals_keep name ts (Listed names taken) all = of_body_keeps name _ names (drop taken ts) (All-drop K taken ts all)
-  formals_keep name ts (Departs t) all = tt
-  formals_keep name ts Ends all = tt
+  -- the list of formals
+  one_longer_keeps : (formals : Formals) → FormalsKeep K formals → FormalsKeep K (one_longer formals)
+  one_longer_keeps (Listed names taken) k = tt
+  one_longer_keeps (Departs t) k = k
+  one_longer_keeps Ends k = tt
+
+  with_formal_keeps : (name : List ℕ) (formals : Formals) → FormalsKeep K formals → FormalsKeep K (with_formal name formals)
+  with_formal_keeps name (Listed names taken) k = tt
+  with_formal_keeps name (Departs t) k = k
+  with_formal_keeps name Ends k = tt
+
+  by_mark : (b : Bool) (x y : Formals) → FormalsKeep K x → FormalsKeep K y → FormalsKeep K (elim b as (λ _. Formals) [ true ↦ x | false ↦ y ])
+  by_mark true x y p q = p
+  by_mark false x y p q = q
+
+  from_keeps : (wanted : Bool) (ts : List Token) → All K ts → FormalsKeep K (formals_from wanted ts)
+  from_keeps true [] all = tt
+  from_keeps false [] all = tt
+  from_keeps true (t ∷ ts) all =
+      by_mark (is_name t) _ (Departs t) (with_formal_keeps t.text (formals_from false ts) (from_keeps false ts (All-tail K t ts all))) (All-head K t ts all)
+  from_keeps false (t ∷ ts) all =
+      by_mark (is t (codes ",")) _ _ (one_longer_keeps (formals_from true ts) (from_keeps true ts (All-tail K t ts all)))
+      (by_mark (is t (codes ")")) (Listed [] 1) (Departs t) tt (All-head K t ts all))
+
+  formals_of_keeps : (ts : List Token) → All K ts → FormalsKeep K (formals_of ts)
+  formals_of_keeps [] all = tt
+  formals_of_keeps (t ∷ ts) all = by_mark (is t (codes ")")) (Listed [] 1) _ tt (from_keeps true (t ∷ ts) all)
+
+  formals_keep : (name : List ℕ) (ts : List Token) (formals : Formals) → All K ts → FormalsKeep K formals → DefiningKeeps K (with_formals name ts formals)
+  formals_keep name ts (Listed names taken) all k = of_body_keeps name _ names (drop taken ts) (All-drop K taken ts all)
+  formals_keep name ts (Departs t) all k = k
+  formals_keep name ts Ends all k = tt
 
   by_choice : (b : Bool) (x y : Defining) → DefiningKeeps K x → DefiningKeeps K y → DefiningKeeps K (cond {A = Defining} b x y)
   by_choice true x y p q = p
@@ -113,7 +146,7 @@ module _ (K : Token → Type 0) where
   behind_name_keeps : (name : Token) (ts : List Token) → All K ts → DefiningKeeps K (behind_name name ts)
   behind_name_keeps name ts all =
       by_choice (has_formals name ts) _ _
-      (formals_keep name.text (drop 1 ts) (formals_of (drop 1 ts)) (All-drop K 1 ts all))
+      (formals_keep name.text (drop 1 ts) (formals_of (drop 1 ts)) (All-drop K 1 ts all) (formals_of_keeps (drop 1 ts) (All-drop K 1 ts all)))
       (of_body_keeps name.text None [] ts all)
 
   pub defining_keeps : (line : List Token) → All K line → DefiningKeeps K (defining line)
@@ -126,54 +159,59 @@ module _ (K : Token → Type 0) where
   argument_keeps (a ∷ as') zero all = All-head (All K) a as' all
   argument_keeps (a ∷ as') (suc i) all = argument_keeps as' i (All-tail (All K) a as' all)
 
-module _ (K : Token → Type 0) (steady : Steady K) where
-  replaced_keeps : (place : Place) (arguments : List (List Token)) (part : Part) → All (All K) arguments → PartKeeps K part → All (ItemKeeps K) (replaced place arguments part)
-  replaced_keeps place arguments (Plain t) all k = All-cons (ItemKeeps K) (Raw (moved place t)) [] (steady.moves place t k) (All-nil (ItemKeeps K))
-  replaced_keeps place arguments (Formal i) all k =
-      All-map (ItemKeeps K) (λ t. Kept (moved place t)) (slice_index_or arguments i []) (All-weaker K (λ t. K (moved place t)) (steady.moves place) (slice_index_or arguments i []) (argument_keeps K arguments i all))
-  replaced_keeps place arguments Join all k = All-nil (ItemKeeps K)
+-- where moving to the place of the use gives tokens of which it holds
+module _ (A K : Token → Type 0) (place : Place) (moves : (t : Token) → A t → K (moved place t)) (lexed : (text : List ℕ) → All A (tokens_of 0 text)) where
+  replaced_keeps : (arguments : List (List Token)) (part : Part) → All (All A) arguments → PartKeeps A part → All (ItemKeeps K) (replaced place arguments part)
+  replaced_keeps arguments (Plain t) all k = All-cons (ItemKeeps K) (Raw (moved place t)) [] (moves t k) (All-nil (ItemKeeps K))
+  replaced_keeps arguments (Formal i) all k =
+      All-map (ItemKeeps K) (λ t. Kept (moved place t)) (slice_index_or arguments i []) (All-weaker A (λ t. K (moved place t)) moves (slice_index_or arguments i []) (argument_keeps A arguments i all))
+  replaced_keeps arguments Join all k = All-nil (ItemKeeps K)
 
   -- a paste
-  only_keeps : (place : Place) (ts : List Token) → All K ts → IfSome (only_token place ts) (ItemKeeps K)
-  only_keeps place [] all = tt
-  only_keeps place (t ∷ []) all = steady.moves place t (All-head K t [] all)
-  only_keeps place (t ∷ u ∷ ts) all = tt
+  only_keeps : (ts : List Token) → All A ts → IfSome (only_token place ts) (ItemKeeps K)
+  only_keeps [] all = tt
+  only_keeps (t ∷ []) all = moves t (All-head A t [] all)
+  only_keeps (t ∷ u ∷ ts) all = tt
 
-  pasted_keeps : (place : Place) (text : List ℕ) → IfSome (pasted place text) (ItemKeeps K)
-  pasted_keeps place text = only_keeps place (tokens_of 0 text) (steady.lexed 0 text)
+  pasted_keeps : (text : List ℕ) → IfSome (pasted place text) (ItemKeeps K)
+  pasted_keeps text = only_keeps (tokens_of 0 text) (lexed text)
 
-  joined_keeps : (place : Place) (xs ys : List Coming) → All (ItemKeeps K) xs → All (ItemKeeps K) ys → IfSome (joined place xs ys) (All (ItemKeeps K))
-  joined_keeps place xs [] all more = all
-  joined_keeps place [] (y ∷ ys) all more = more
-  joined_keeps place (x ∷ []) (y ∷ ys) all more =
-      mapped_keeps (ItemKeeps K) (All (ItemKeeps K)) (λ t. t ∷ ys) (λ t k. All-cons (ItemKeeps K) t ys k (All-tail (ItemKeeps K) y ys more)) (pasted place (text_of x ++ text_of y)) (pasted_keeps place (text_of x ++ text_of y))
-  joined_keeps place (x ∷ z ∷ zs) (y ∷ ys) all more =
+  joined_keeps : (xs ys : List Coming) → All (ItemKeeps K) xs → All (ItemKeeps K) ys → IfSome (joined place xs ys) (All (ItemKeeps K))
+  joined_keeps xs [] all more = all
+  joined_keeps [] (y ∷ ys) all more = more
+  joined_keeps (x ∷ []) (y ∷ ys) all more =
+      mapped_keeps (ItemKeeps K) (All (ItemKeeps K)) (λ t. t ∷ ys) (λ t k. All-cons (ItemKeeps K) t ys k (All-tail (ItemKeeps K) y ys more)) (pasted place (text_of x ++ text_of y)) (pasted_keeps (text_of x ++ text_of y))
+  joined_keeps (x ∷ z ∷ zs) (y ∷ ys) all more =
       mapped_keeps (All (ItemKeeps K)) (All (ItemKeeps K)) (λ rest. x ∷ rest) (λ rest k. All-cons (ItemKeeps K) x rest (All-head (ItemKeeps K) x (z ∷ zs) all) k) (joined place (z ∷ zs) (y ∷ ys))
-      (joined_keeps place (z ∷ zs) (y ∷ ys) (All-tail (ItemKeeps K) x (z ∷ zs) all) more)
+      (joined_keeps (z ∷ zs) (y ∷ ys) (All-tail (ItemKeeps K) x (z ∷ zs) all) more)
 
   -- a body that is placed in part
   record PlacingKeeps (p : Placing) : Type 0 where
     complete : All (ItemKeeps K) p.complete
     chain : All (ItemKeeps K) p.chain
 
-  with_items_keep : (place : Place) (p : Placing) (items : List Coming) (pasting : Bool) → PlacingKeeps p → All (ItemKeeps K) items →
+  with_items_keep : (p : Placing) (items : List Coming) (pasting : Bool) → PlacingKeeps p → All (ItemKeeps K) items →
       IfSome (cond {A = Option Placing} pasting (option_map (λ chain. record { complete = p.complete; chain = chain; pasting = false }) (joined place p.chain items)) (Some (record { complete = p.complete ++ p.chain; chain = items; pasting = false }))) PlacingKeeps
-  with_items_keep place p items true k all =
-      mapped_keeps (All (ItemKeeps K)) PlacingKeeps (λ chain. record { complete = p.complete; chain = chain; pasting = false }) (λ chain c. record { complete = k.complete; chain = c }) (joined place p.chain items) (joined_keeps place p.chain items k.chain all)
-  with_items_keep place p items false k all = record { complete = All-append (ItemKeeps K) p.complete p.chain k.complete k.chain; chain = all }
+  with_items_keep p items true k all =
+      mapped_keeps (All (ItemKeeps K)) PlacingKeeps (λ chain. record { complete = p.complete; chain = chain; pasting = false }) (λ chain c. record { complete = k.complete; chain = c }) (joined place p.chain items) (joined_keeps p.chain items k.chain all)
+  with_items_keep p items false k all = record { complete = All-append (ItemKeeps K) p.complete p.chain k.complete k.chain; chain = all }
 
-  with_part_keeps : (place : Place) (arguments : List (List Token)) (p : Placing) (part : Part) → All (All K) arguments → PlacingKeeps p → PartKeeps K part → IfSome (with_part place arguments p part) PlacingKeeps
-  with_part_keeps place arguments p Join all k body = record { complete = k.complete; chain = k.chain }
-  with_part_keeps place arguments p (Plain t) all k body = with_items_keep place p (replaced place arguments (Plain t)) p.pasting k (replaced_keeps place arguments (Plain t) all body)
-  with_part_keeps place arguments p (Formal i) all k body = with_items_keep place p (replaced place arguments (Formal i)) p.pasting k (replaced_keeps place arguments (Formal i) all body)
+  with_part_keeps : (arguments : List (List Token)) (p : Placing) (part : Part) → All (All A) arguments → PlacingKeeps p → PartKeeps A part → IfSome (with_part place arguments p part) PlacingKeeps
+  with_part_keeps arguments p Join all k body = record { complete = k.complete; chain = k.chain }
+  with_part_keeps arguments p (Plain t) all k body = with_items_keep p (replaced place arguments (Plain t)) p.pasting k (replaced_keeps arguments (Plain t) all body)
+  with_part_keeps arguments p (Formal i) all k body = with_items_keep p (replaced place arguments (Formal i)) p.pasting k (replaced_keeps arguments (Formal i) all body)
 
-  with_parts_keep : (place : Place) (arguments : List (List Token)) (parts : List Part) (p : Placing) → All (All K) arguments → PlacingKeeps p → All (PartKeeps K) parts → IfSome (with_parts place arguments parts p) PlacingKeeps
-  with_parts_keep place arguments [] p all k body = k
-  with_parts_keep place arguments (part ∷ parts) p all k body =
-      then_keeps PlacingKeeps PlacingKeeps (with_parts place arguments parts) (λ q l. with_parts_keep place arguments parts q all l (All-tail (PartKeeps K) part parts body)) (with_part place arguments p part)
-      (with_part_keeps place arguments p part all k (All-head (PartKeeps K) part parts body))
+  with_parts_keep : (arguments : List (List Token)) (parts : List Part) (p : Placing) → All (All A) arguments → PlacingKeeps p → All (PartKeeps A) parts → IfSome (with_parts place arguments parts p) PlacingKeeps
+  with_parts_keep arguments [] p all k body = k
+  with_parts_keep arguments (part ∷ parts) p all k body =
+      then_keeps PlacingKeeps PlacingKeeps (with_parts place arguments parts) (λ q l. with_parts_keep arguments parts q all l (All-tail (PartKeeps A) part parts body)) (with_part place arguments p part)
+      (with_part_keeps arguments p part all k (All-head (PartKeeps A) part parts body))
 
-  pub placed_keeps : (place : Place) (arguments : List (List Token)) (parts : List Part) → All (All K) arguments → All (PartKeeps K) parts → IfSome (placed place arguments parts) (All (ItemKeeps K))
-  placed_keeps place arguments parts all body =
+  pub placed_at_keeps : (arguments : List (List Token)) (parts : List Part) → All (All A) arguments → All (PartKeeps A) parts → IfSome (placed place arguments parts) (All (ItemKeeps K))
+  placed_at_keeps arguments parts all body =
       mapped_keeps PlacingKeeps (All (ItemKeeps K)) (λ (p : Placing). p.complete ++ p.chain) (λ p k. All-append (ItemKeeps K) p.complete p.chain k.complete k.chain) (with_parts place arguments parts (record { complete = []; chain = []; pasting = false }))
-      (with_parts_keep place arguments parts (record { complete = []; chain = []; pasting = false }) all (record { complete = All-nil (ItemKeeps K); chain = All-nil (ItemKeeps K) }) body)
+      (with_parts_keep arguments parts (record { complete = []; chain = []; pasting = false }) all (record { complete = All-nil (ItemKeeps K); chain = All-nil (ItemKeeps K) }) body)
+
+pub placed_keeps : (K : Token → Type 0) → Steady K → (place : Place) (arguments : List (List Token)) (parts : List Part) → All (All K) arguments → All (PartKeeps K) parts →
+    IfSome (placed place arguments parts) (All (ItemKeeps K))
+placed_keeps K steady place = placed_at_keeps K K place (steady.moves place) (steady.lexed 0)

@@ -45,6 +45,20 @@ module _ (K : Token → Type 0) where
   pub next_keeps : (coming : List Coming) → All (ItemKeeps K) coming → All (ItemKeeps K) (drop 1 (behind_lines coming))
   next_keeps coming all = All-drop (ItemKeeps K) 1 (behind_lines coming) (lines_keep coming all)
 
+  -- the token of a file behind newlines
+  raw_token_keeps : (item : Coming) → ItemKeeps K item → IfSome (raw_token item) K
+  raw_token_keeps (Raw t) k = k
+  raw_token_keeps (Kept t) k = tt
+  raw_token_keeps FileEnd k = tt
+  raw_token_keeps (UseEnd name) k = tt
+
+  first_keeps : (coming : List Coming) → All (ItemKeeps K) coming → IfSome (first_by raw_token coming) K
+  first_keeps [] all = tt
+  first_keeps (item ∷ coming) all = raw_token_keeps item (All-head (ItemKeeps K) item coming all)
+
+  pub next_raw_keeps : (coming : List Coming) → All (ItemKeeps K) coming → IfSome (first_by raw_token (behind_lines coming)) K
+  next_raw_keeps coming all = first_keeps (behind_lines coming) (lines_keep coming all)
+
   -- behind the logical line
   pub behind_line_keeps : (coming : List Coming) → All (ItemKeeps K) coming → All (ItemKeeps K) (behind_line coming)
   behind_line_keeps [] all = all

@@ -13,5 +13,11 @@ pub mod KeptBodies
 pub mod KeptStates
 pub mod KeptSteps
 pub mod Kept
+pub mod Through
+pub mod PlacedTokens
+pub mod PlacedStates
+pub mod PlacedBranches
+pub mod PlacedSteps
+pub mod Placed
 pub mod Reaching
 pub mod Outcomes

@@ -1,0 +1,81 @@
+-- The places of an expansion's tokens are those of loaded files: behind a directive of a conditional.
+use Rattle.std.proofs.Common.{ℕ, Bool, true, false, List, [], ◌∷◌, length, Option, Some, None, All}
+use Rattle.std.proofs.lemmas.List.Elements.{All-cons, All-head, All-tail}
+use Rattle.sv_source.specs.declared.token.Token.{Token}
+use Rattle.sv_macro.specs.declared.words.Condition.{Condition}
+use Rattle.sv_macro.specs.declared.words.Condition.TheVariants.{Ifdef, Ifndef, Elsif, Else, Endif}
+use Rattle.sv_preproc.specs.States.{State, next_name, behind_next}
+use Rattle.sv_preproc.specs.Branches as branches
+use Rattle.sv_preproc.specs.declared.state.Branch.{Branch}
+use Rattle.sv_preproc.specs.declared.state.Branch.TheVariants.{Waiting, Taken, Over}
+use Rattle.sv_preproc.specs.declared.state.Conditional.{Conditional}
+use Rattle.sv_preproc.specs.declared.state.OpenFile.{OpenFile}
+use Rattle.sv_preproc.proofs.PlacedStates.{In, FirstIn, FileIn, Placed, Tells, by_test, with_files, behind_next_placed}
+
+module _ (count : ℕ) where
+  -- conditionals: the files behind the innermost are those of the state, and the conditionals behind the innermost its own
+  conditionals_placed : (s : State) (file : OpenFile) (files : List OpenFile) (cs : List Conditional) → Placed s → All (FileIn (length s.names)) files →
+      All (FirstIn (length s.names)) cs → Placed (branches.with_conditionals s file files cs)
+  conditionals_placed s file files cs i all firsts = with_files s _ (All-cons (FileIn (length s.names)) _ files firsts all) i
+
+  begins_placed : (s : State) (file : OpenFile) (files : List OpenFile) (t : Token) (b : Branch) → Placed s → All (FileIn (length s.names)) files →
+      FileIn (length s.names) file → In (length s.names) t → Tells count (branches.conditional_begins s file files t b)
+  begins_placed s file files t b i all f k = conditionals_placed s file files _ i all (All-cons (FirstIn (length s.names)) _ file.conditionals k f)
+
+  if_named_placed : (s : State) (file : OpenFile) (files : List OpenFile) (t : Token) (wanted : Bool) (name : Option (List ℕ)) → Placed s → All (FileIn (length s.names)) files →
+      FileIn (length s.names) file → In (length s.names) t → Tells count (branches.if_named s file files t wanted name)
+  if_named_placed s file files t wanted None i all f k = k
+  if_named_placed s file files t wanted (Some name) i all f k = begins_placed s file files t _ i all f k
+
+  if_placed : (s : State) (file : OpenFile) (files : List OpenFile) (t : Token) (wanted : Bool) → Placed s → All (FileIn (length s.names)) files →
+      FileIn (length s.names) file → In (length s.names) t → Tells count (branches.if_begins s file files t wanted)
+  if_placed s file files t wanted i all f k = by_test count (branches.skips_in file.conditionals) _ _ (begins_placed s file files t Over i all f k)
+      (if_named_placed (behind_next s) file files t wanted (next_name s) (behind_next_placed s i) all f k)
+
+  branch_placed : (s : State) (file : OpenFile) (files : List OpenFile) (c : Conditional) (cs : List Conditional) (b : Branch) (last : Bool) → Placed s → All (FileIn (length s.names)) files →
+      FirstIn (length s.names) c → All (FirstIn (length s.names)) cs → Tells count (branches.branch_begins s file files c cs b last)
+  branch_placed s file files c cs b last i all f firsts = conditionals_placed s file files _ i all (All-cons (FirstIn (length s.names)) _ cs f firsts)
+
+  elsif_named_placed : (s : State) (file : OpenFile) (files : List OpenFile) (c : Conditional) (cs : List Conditional) (t : Token) (name : Option (List ℕ)) → Placed s → All (FileIn (length s.names)) files →
+      FirstIn (length s.names) c → All (FirstIn (length s.names)) cs → In (length s.names) t → Tells count (branches.elsif_named s file files c cs t name)
+  elsif_named_placed s file files c cs t None i all f firsts k = k
+  elsif_named_placed s file files c cs t (Some name) i all f firsts k = branch_placed s file files c cs _ false i all f firsts
+
+  elsif_placed : (s : State) (file : OpenFile) (files : List OpenFile) (c : Conditional) (cs : List Conditional) (t : Token) (b : Branch) → Placed s → All (FileIn (length s.names)) files →
+      FirstIn (length s.names) c → All (FirstIn (length s.names)) cs → In (length s.names) t → Tells count (branches.elsif_in s file files c cs t b)
+  elsif_placed s file files c cs t Waiting i all f firsts k = elsif_named_placed (behind_next s) file files c cs t (next_name s) (behind_next_placed s i) all f firsts k
+  elsif_placed s file files c cs t Taken i all f firsts k = branch_placed s file files c cs Over false i all f firsts
+  elsif_placed s file files c cs t Over i all f firsts k = branch_placed s file files c cs Over false i all f firsts
+
+  conditional_placed : (s : State) (file : OpenFile) (files : List OpenFile) (c : Conditional) (cs : List Conditional) (t : Token) (word : Condition) → Placed s → All (FileIn (length s.names)) files →
+      FirstIn (length s.names) c → All (FirstIn (length s.names)) cs → In (length s.names) t → Tells count (branches.in_conditional s file files c cs t word)
+  conditional_placed s file files c cs t Elsif i all f firsts k = by_test count c.last _ _ k (elsif_placed s file files c cs t c.branch i all f firsts k)
+  conditional_placed s file files c cs t Else i all f firsts k = by_test count c.last _ _ k (branch_placed s file files c cs _ true i all f firsts)
+  conditional_placed s file files c cs t Endif i all f firsts k = conditionals_placed s file files cs i all firsts
+  conditional_placed s file files c cs t Ifdef i all f firsts k = conditionals_placed s file files cs i all firsts
+  conditional_placed s file files c cs t Ifndef i all f firsts k = conditionals_placed s file files cs i all firsts
+
+  behind_first_placed : (s : State) (file : OpenFile) (files : List OpenFile) (c : Conditional) (cs : List Conditional) (t : Token) (word : Condition) → Placed s → All (FileIn (length s.names)) files →
+      All (FirstIn (length s.names)) (c ∷ cs) → In (length s.names) t → Tells count (branches.in_conditional s file files c cs t word)
+  behind_first_placed s file files c cs t word i all firsts k =
+      conditional_placed s file files c cs t word i all (All-head (FirstIn (length s.names)) c cs firsts) (All-tail (FirstIn (length s.names)) c cs firsts) k
+
+  branching_placed : (s : State) (file : OpenFile) (files : List OpenFile) (cs : List Conditional) (t : Token) (word : Condition) → Placed s → All (FileIn (length s.names)) files →
+      FileIn (length s.names) file → All (FirstIn (length s.names)) cs → In (length s.names) t → Tells count (branches.branching s file files cs t word)
+  branching_placed s file files cs t Ifdef i all f firsts k = if_placed s file files t true i all f k
+  branching_placed s file files cs t Ifndef i all f firsts k = if_placed s file files t false i all f k
+  branching_placed s file files [] t Elsif i all f firsts k = k
+  branching_placed s file files [] t Else i all f firsts k = k
+  branching_placed s file files [] t Endif i all f firsts k = k
+  branching_placed s file files (c ∷ cs) t Elsif i all f firsts k = behind_first_placed s file files c cs t Elsif i all firsts k
+  branching_placed s file files (c ∷ cs) t Else i all f firsts k = behind_first_placed s file files c cs t Else i all firsts k
+  branching_placed s file files (c ∷ cs) t Endif i all f firsts k = behind_first_placed s file files c cs t Endif i all firsts k
+
+  in_files_placed : (s : State) (files : List OpenFile) (t : Token) (word : Condition) → Placed s → All (FileIn (length s.names)) files → In (length s.names) t → Tells count (branches.branching_in s files t word)
+  in_files_placed s [] t word i all k = k
+  in_files_placed s (file ∷ files) t word i all k =
+      let f = All-head (FileIn (length s.names)) file files all in
+      branching_placed s file files file.conditionals t word i (All-tail (FileIn (length s.names)) file files all) f f k
+
+  pub branches_placed : (s : State) (t : Token) (word : Condition) → Placed s → In (length s.names) t → Tells count (branches.branches s t word)
+  branches_placed s t word i k = in_files_placed s s.files t word i i.opens k
