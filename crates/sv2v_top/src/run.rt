@@ -73,6 +73,7 @@ fn translated(alloc: Global, top: &[u8], expanded: Expanded) -> Result<Text, Sto
 
 /// The translation of the files that are asked for.
 fn expand_and_translate<F: Files>(alloc: Global, asked: &Asked, files: &mut F) -> Result<Text, Stop>
+    requires some { 1 ≤ length asked.now.settings.files }
     requires few { length asked.now.settings.files ≤ 2 ^ 30 }
     requires bodies { BodiesAreSimple asked.now.settings.defines }
     ensures gives { AskedGives asked.now (F.contents files.old) (F.faults files.old) (F.faults files.new) result }
