@@ -124,6 +124,8 @@ module _ (request : Asked) (contents : Contents) where
       go (one-text tokens other_tokens last other_last names others x y)
     where
       go : OneText tokens other_tokens last other_last names others → Same names others r s
-      go (one_text e f g) =
-          (g, one-break request.top other_tokens other_last r s
-          (subst (λ (at : Place). Breaks request.top other_tokens at r) f (subst (λ (ts : List Token). Breaks request.top ts last r) e b)) d)
+      go (one_text e f g) = (
+        g,
+        one-break request.top other_tokens other_last r s
+            (subst (λ (at : Place). Breaks request.top other_tokens at r) f (subst (λ (ts : List Token). Breaks request.top ts last r) e b)) d,
+      )

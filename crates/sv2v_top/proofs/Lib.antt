@@ -13,6 +13,10 @@ pub mod SourceNames
 pub mod Built
 pub mod Correct
 pub mod Fit
+pub mod Spots
+pub mod Places
+pub mod Requests
+pub mod Listed
 pub mod Runs
 pub mod Causes
 pub mod Promises

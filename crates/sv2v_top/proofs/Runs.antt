@@ -1,5 +1,5 @@
 -- From the tokens of an expansion to the request, and to the sinks.
-use Rattle.std.proofs.Common.{◌≡◌, refl, sym, subst, ℕ, List, Option, Result, Ok, Err}
+use Rattle.std.proofs.Common.{◌≡◌, ◌≤◌, refl, sym, ap, subst, ℕ, length, List, Option, Result, Ok, Err}
 use Rattle.sv_source.specs.Faults.{NotRaised}
 use Rattle.sv_source.specs.Loading.{Contents}
 use Rattle.sv_source.specs.declared.token.Place.{Place}
@@ -14,17 +14,25 @@ use Rattle.sv2v_top.specs.declared.run.Stop.{Stop}
 use Rattle.sv2v_top.specs.declared.run.Stop.TheVariants as S
 use Rattle.sv2v_top.specs.declared.status.Status.TheVariants.{SinkFault}
 use Rattle.sv2v_top.specs.Endings.{Says, said, unsaid}
-use Rattle.sv2v_top.specs.Headline.{ExpandsTo, file_of, TokensGive, AskedGives, in_tokens}
+use Rattle.sv2v_top.specs.Headline.{ExpandsTo, file_of, TokensGive, AskedGives, Cause, in_tokens}
 use Rattle.sv2v_top.specs.Translation.{Breaks}
+use Rattle.sv2v_top.proofs.Listed.{cause-listed}
 
-pub from-tokens : (request : Asked) (told : Option Contents) (before now : ℕ) (tokens : List Token) (last : Place) (names : List (List ℕ)) (result : Result Text Stop)
+-- a refusal that has a cause, in the file of its place
+pub from-cause : (request : Asked) → 1 ≤ length request.settings.files → (told : Option Contents) (before now : ℕ) (names : List (List ℕ)) (r : Refusal) (stop : Stop)
+    → stop ≡ S.Refused (file_of names r.place) r → Cause request told names r → NotRaised before now → AskedGives request told before now (Err stop)
+from-cause request some told before now names r stop is cause calm =
+    subst (λ (s : Stop). AskedGives request told before now (Err s)) (sym is)
+    (record { names = names; is_path = refl; listed = cause-listed request told names r some cause; cause = cause }, calm)
+
+pub from-tokens : (request : Asked) → 1 ≤ length request.settings.files → (told : Option Contents) (before now : ℕ) (tokens : List Token) (last : Place) (names : List (List ℕ)) (result : Result Text Stop)
     → ExpandsTo request told tokens last names → NotRaised before now → TokensGive request.top tokens last names result → AskedGives request told before now result
-from-tokens request told before now tokens last names (Ok text) x calm g = record { tokens = tokens; last = last; names = names; expansion = x; translates = g }
-from-tokens request told before now tokens last names (Err S.Usage) x calm g = g
-from-tokens request told before now tokens last names (Err S.Memory) x calm g = tt
-from-tokens request told before now tokens last names (Err (S.FileFault path)) x calm g = absurd g
-from-tokens request told before now tokens last names (Err (S.Refused path refusal)) x calm g =
-    (record { names = names; is_path = g.0; cause = in_tokens tokens last x g.1 }, calm)
+from-tokens request some told before now tokens last names (Ok text) x calm g = record { tokens = tokens; last = last; names = names; expansion = x; translates = g }
+from-tokens request some told before now tokens last names (Err S.Usage) x calm g = g
+from-tokens request some told before now tokens last names (Err S.Memory) x calm g = tt
+from-tokens request some told before now tokens last names (Err (S.FileFault path)) x calm g = absurd g
+from-tokens request some told before now tokens last names (Err (S.Refused path refusal)) x calm g =
+    from-cause request some told before now names refusal (S.Refused path refusal) (ap (λ (p : List ℕ). S.Refused p refusal) g.0) (in_tokens tokens last x g.1) calm
 
 -- a refusal of the tokens, in the file of its place
 pub refused-gives : (top : List ℕ) (mine tokens : List Token) (at last : Place) (names : List (List ℕ)) (r : Refusal) (stop : Stop)

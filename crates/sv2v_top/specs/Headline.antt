@@ -1,5 +1,5 @@
 -- What a run of the translator answers.
-use Rattle.std.specs.Prelude.{◌≡◌, ◌++◌, ℕ, List, [], ◌∷◌, slice_index_or, Option, Some, None, Result, Ok, Err}
+use Rattle.std.specs.Prelude.{◌≡◌, ◌<◌, ◌++◌, ℕ, List, [], ◌∷◌, length, slice_index_or, Option, Some, None, Result, Ok, Err}
 use Rattle.sv_source.specs.Faults.{Rose, NotRaised}
 use Rattle.sv_source.specs.Loading.{Contents}
 use Rattle.sv_source.specs.declared.text.Text.{Text}
@@ -39,6 +39,8 @@ pub data Cause (request : Asked) (told : Option Contents) (names : List (List �
 pub record IsRefused (request : Asked) (told : Option Contents) (path : List ℕ) (r : Refusal) : Type 0 where
   pub names : List (List ℕ)
   pub is_path : path ≡ file_of names r.place
+  -- its place is in a file that was loaded or looked for
+  pub listed : r.place.file < length names
   pub cause : Cause request told names r
 
 -- a load failed, and the count of faults rose; where the contents are told, the expansion looks for a file at this path

@@ -50,10 +50,7 @@ fn file_of(alloc: Global, names: &FileNames, place: Place) -> Result<Text, Alloc
 fn refused(alloc: Global, refusal: Refusal, names: &FileNames) -> Result<Stop, AllocError>
     ensures { IfOk result (λ stop. stop ≡ Refused (file_of names.now refusal.place) refusal) }
 {
-    Ok(Stop::Refused(
-        file_of(alloc, names, refusal.place)?,
-        refusal,
-    ))
+    Ok(Stop::Refused(file_of(alloc, names, refusal.place)?, refusal))
 }
 
 /// The translation of the tokens of an expansion.
@@ -75,11 +72,8 @@ fn translated(alloc: Global, top: &[u8], expanded: Expanded) -> Result<Text, Sto
 }
 
 /// The translation of the files that are asked for.
-fn expand_and_translate<F: Files>(
-    alloc: Global,
-    asked: &Asked,
-    files: &mut F,
-) -> Result<Text, Stop>
+fn expand_and_translate<F: Files>(alloc: Global, asked: &Asked, files: &mut F) -> Result<Text, Stop>
+    requires some { 1 ≤ length asked.now.settings.files }
     requires few { length asked.now.settings.files ≤ 2 ^ 30 }
     requires bodies { BodiesAreSimple asked.now.settings.defines }
     ensures gives { AskedGives asked.now (F.contents files.old) (F.faults files.old) (F.faults files.new) result }

@@ -104,9 +104,7 @@ pub fn read_source(alloc: Global, tokens: &[Token], last: Place) -> Result<Modul
         Err(ParseFail::Memory) => Err(Fail::Memory),
         Err(ParseFail::NoText { at }) => {
             let rule = failing_rule(tokens, at);
-            Err(Fail::Refused(syntax_refusal(
-                alloc, rule, tokens, last, at,
-            )?))
+            Err(Fail::Refused(syntax_refusal(alloc, rule, tokens, last, at)?))
         }
         Err(ParseFail::Deep { at }) => Err(Fail::Refused(syntax_refusal(
             alloc, 303, tokens, last, at,
