@@ -26,7 +26,10 @@ fn files_are_expanded(rt: HostRuntime) -> Result<(), Fail> {
         ),
         (
             &["--top=m", "-D", "X", "p.sv"],
-            &[("p.sv", "`ifndef X\nbad\n`elsif Y\nbad\n`else\nmodule m; endmodule\n`endif\n")],
+            &[(
+                "p.sv",
+                "`ifndef X\nbad\n`elsif Y\nbad\n`else\nmodule m; endmodule\n`endif\n",
+            )],
             EMPTY,
         ),
         (
@@ -104,7 +107,10 @@ fn files_are_expanded(rt: HostRuntime) -> Result<(), Fail> {
         ),
         (
             &["p.sv", "--top=m", "q.sv"],
-            &[("p.sv", "module m(input logic a,\n"), ("q.sv", "output logic y); assign y = a; endmodule\n")],
+            &[
+                ("p.sv", "module m(input logic a,\n"),
+                ("q.sv", "output logic y); assign y = a; endmodule\n"),
+            ],
             COPY,
         ),
         (
@@ -148,11 +154,22 @@ fn breaks_are_refused(rt: HostRuntime) -> Result<(), Fail> {
     let cases: [Case; 27] = [
         (
             &["--top=m", "p.sv"],
-            &[("p.sv", "`define M(a, b) a\nmodule m(input logic `M(q));\nendmodule\n")],
+            &[(
+                "p.sv",
+                "`define M(a, b) a\nmodule m(input logic `M(q));\nendmodule\n",
+            )],
             "p.sv:2:22: E203 `M\n",
         ),
-        (&["--top=m", "p.sv"], &[("p.sv", "`else\n")], "p.sv:1:1: E205 `else\n"),
-        (&["--top=m", "p.sv"], &[("p.sv", "/*")], "p.sv:1:1: E208 /*\n"),
+        (
+            &["--top=m", "p.sv"],
+            &[("p.sv", "`else\n")],
+            "p.sv:1:1: E205 `else\n",
+        ),
+        (
+            &["--top=m", "p.sv"],
+            &[("p.sv", "/*")],
+            "p.sv:1:1: E208 /*\n",
+        ),
         (
             &["--top=m", "a.sv"],
             &[("a.sv", "`include \"a.sv\"\n")],
@@ -160,7 +177,10 @@ fn breaks_are_refused(rt: HostRuntime) -> Result<(), Fail> {
         ),
         (
             &["--top=m", "p.sv"],
-            &[("p.sv", "`define A `A\nmodule m(input logic `A); endmodule\n")],
+            &[(
+                "p.sv",
+                "`define A `A\nmodule m(input logic `A); endmodule\n",
+            )],
             "p.sv:2:22: E204 `A\n",
         ),
         (
@@ -168,7 +188,11 @@ fn breaks_are_refused(rt: HostRuntime) -> Result<(), Fail> {
             &[("p.sv", "`include \"no.svh\"\n")],
             "p.sv:1:10: E101 no.svh\n",
         ),
-        (&["--top=m", "p.sv"], &[("p.sv", "`ifdef X\n")], "p.sv:1:1: E205 `ifdef\n"),
+        (
+            &["--top=m", "p.sv"],
+            &[("p.sv", "`ifdef X\n")],
+            "p.sv:1:1: E205 `ifdef\n",
+        ),
         (
             &["--top=m", "p.sv", "q.sv"],
             &[("p.sv", "module m; endmodule\n")],
@@ -211,7 +235,10 @@ fn breaks_are_refused(rt: HostRuntime) -> Result<(), Fail> {
         // the rules of reading stand at the files of their tokens
         (
             &["--top=m", "p.sv"],
-            &[("p.sv", "module m;\n`include \"a.svh\"\nendmodule\n"), ("a.svh", "wire w;\n")],
+            &[
+                ("p.sv", "module m;\n`include \"a.svh\"\nendmodule\n"),
+                ("a.svh", "wire w;\n"),
+            ],
             "a.svh:1:1: E302 wire\n",
         ),
         (
@@ -221,34 +248,70 @@ fn breaks_are_refused(rt: HostRuntime) -> Result<(), Fail> {
         ),
         (
             &["--top=m", "p.sv"],
-            &[("p.sv", "module m;\n`include \"a.svh\"\n"), ("a.svh", "\n\n\n")],
+            &[
+                ("p.sv", "module m;\n`include \"a.svh\"\n"),
+                ("a.svh", "\n\n\n"),
+            ],
             "p.sv:3:1: E302 <end>\n",
         ),
         (
             &["--top=m", "p.sv"],
-            &[("p.sv", "`define Y y +\nmodule m(output logic y);\n  assign `Y y; endmodule\n")],
+            &[(
+                "p.sv",
+                "`define Y y +\nmodule m(output logic y);\n  assign `Y y; endmodule\n",
+            )],
             "p.sv:3:10: E302 +\n",
         ),
-        (&["--top=m", "p.sv"], &[("p.sv", "module m \\x ;\n")], "p.sv:1:10: E301 \\\n"),
-        (&["--top=m", "p.sv"], &[("p.sv", "module m; \"x\n")], "p.sv:1:11: E301 \"\n"),
-        (&["--top=m", "p.sv"], &[("p.sv", "`\n")], "p.sv:1:1: E301 `\n"),
-        (&["--top=m", "p.sv"], &[("p.sv", "module m;\0\n")], "p.sv:1:10: E301 \0\n"),
-        (&["--top=m", "p.sv"], &[("p.sv", "module m; \u{7f}")], "p.sv:1:11: E301 \u{7f}\n"),
+        (
+            &["--top=m", "p.sv"],
+            &[("p.sv", "module m \\x ;\n")],
+            "p.sv:1:10: E301 \\\n",
+        ),
+        (
+            &["--top=m", "p.sv"],
+            &[("p.sv", "module m; \"x\n")],
+            "p.sv:1:11: E301 \"\n",
+        ),
+        (
+            &["--top=m", "p.sv"],
+            &[("p.sv", "`\n")],
+            "p.sv:1:1: E301 `\n",
+        ),
+        (
+            &["--top=m", "p.sv"],
+            &[("p.sv", "module m;\0\n")],
+            "p.sv:1:10: E301 \0\n",
+        ),
+        (
+            &["--top=m", "p.sv"],
+            &[("p.sv", "module m; \u{7f}")],
+            "p.sv:1:11: E301 \u{7f}\n",
+        ),
         // a byte where no token begins breaks nothing where it isn't the failing token
-        (&["--top=m", "p.sv"], &[("p.sv", "module 1 \\")], "p.sv:1:8: E302 1\n"),
+        (
+            &["--top=m", "p.sv"],
+            &[("p.sv", "module 1 \\")],
+            "p.sv:1:8: E302 1\n",
+        ),
         // later rules too
         (
             &["--top=m", "p.sv"],
             &[
                 ("p.sv", "`include \"a.svh\"\n"),
-                ("a.svh", "`define V q\nmodule m(output logic y);\n assign y =\n `V; endmodule\n"),
+                (
+                    "a.svh",
+                    "`define V q\nmodule m(output logic y);\n assign y =\n `V; endmodule\n",
+                ),
             ],
             "a.svh:4:2: E401 q\n",
         ),
         (
             &["--top=m", "p.sv"],
             &[
-                ("p.sv", "module m(output logic y);\n`include \"a.svh\"\n`include \"a.svh\"\nendmodule\n"),
+                (
+                    "p.sv",
+                    "module m(output logic y);\n`include \"a.svh\"\n`include \"a.svh\"\nendmodule\n",
+                ),
                 ("a.svh", "assign y = 1'b0;\n"),
             ],
             "a.svh:1:8: E601 y\n",
@@ -299,7 +362,10 @@ fn a_fault_names_its_file(rt: HostRuntime) -> Result<(), Fail> {
         &rt,
         rt.alloc(),
         &["--top=m", "inc/p.sv"],
-        &[("inc/p.sv", "`include \"a.svh\"\n"), ("inc/a.svh", "module m; endmodule\n")],
+        &[
+            ("inc/p.sv", "`include \"a.svh\"\n"),
+            ("inc/a.svh", "module m; endmodule\n"),
+        ],
         failing,
         want,
     )
