@@ -95,7 +95,7 @@ fn texts_are_refused(rt: HostRuntime) -> Result<(), Fail> {
         ("`ifdef A\n`ifndef B\n`endif", "p.sv:1:1: E205 `ifdef\n"),
         ("`ifdef A\n  `ifndef B", "p.sv:2:3: E205 `ifndef\n"),
         ("`define A 1 /* x", "p.sv:1:13: E208 /* x\n"),
-        ("`ifdef A\n x /* y\n`endif", "p.sv:2:4: E208 /* y\n`endif\n"),
+        ("`ifdef A\n x /* y\n`endif", "p.sv:2:4: E208 /* y\n"),
         ("`define M(a) a\n`M(1", "p.sv:2:1: E208 `M\n"),
         ("`define M(a) a\n`M((1)", "p.sv:2:1: E208 `M\n"),
         ("`define M(a) a\n`M([1)", "p.sv:2:1: E208 `M\n"),
