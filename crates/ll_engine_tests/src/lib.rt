@@ -69,39 +69,41 @@ mod tests {
         }
     }
 
+    /// Tables, and whether they are of the class.
+    const TABLES: &[(&str, &str)] = &[
+        ("", "unfit 0"),
+        ("S=", "fit"),
+        ("S=x", "fit"),
+        // two alternatives that begin with one symbol
+        ("S=x S=xy", "unfit 0"),
+        ("S=A A=x A=?Bx B=y", "unfit 1"),
+        ("S=A A=x A=?Bz B=y", "fit"),
+        // two alternatives that can be empty
+        ("S=xA A= A=?B B=y", "unfit 1"),
+        // a repeated part that can be empty
+        ("S=*A A=?B B=y", "unfit 0"),
+        ("S=x+A A=*B B=y", "unfit 0"),
+        ("S=x?A A=*B B=y", "fit"),
+        // left recursion, also behind a part that can be empty
+        ("S=A A=Ax A=y", "unfit 1"),
+        ("S=A A=?BSz A=w B=y", "unfit 0"),
+        ("S=A A=xSz A=w", "fit"),
+        // a head with no finite text, and one with no row
+        ("S=?A A=xA", "unfit 1"),
+        ("S=x A=y?B", "unfit 1"),
+        // a part whose symbol comes behind it
+        ("S=?Ax A=x", "unfit 0"),
+        ("S=Ax A=?B?C B=x C=y", "unfit 0"),
+        ("S=Ax A=y?B B=x", "unfit 1"),
+        ("S=?A?Ay A=x", "fit"),
+        // the `else` that belongs to the nearest condition
+        ("S=xS?E S=y E=zS", "fit"),
+        ("S=xS*Ez S=y E=zS", "unfit 0"),
+    ];
+
     #[test]
     fn the_first_row_that_breaks_the_class(rt: HostRuntime) -> Result<(), Fail> {
-        let cases = [
-            ("", "unfit 0"),
-            ("S=", "fit"),
-            ("S=x", "fit"),
-            // two alternatives that begin with one symbol
-            ("S=x S=xy", "unfit 0"),
-            ("S=A A=x A=?Bx B=y", "unfit 1"),
-            ("S=A A=x A=?Bz B=y", "fit"),
-            // two alternatives that can be empty
-            ("S=xA A= A=?B B=y", "unfit 1"),
-            // a repeated part that can be empty
-            ("S=*A A=?B B=y", "unfit 0"),
-            ("S=x+A A=*B B=y", "unfit 0"),
-            ("S=x?A A=*B B=y", "fit"),
-            // left recursion, also behind a part that can be empty
-            ("S=A A=Ax A=y", "unfit 1"),
-            ("S=A A=?BSz A=w B=y", "unfit 0"),
-            ("S=A A=xSz A=w", "fit"),
-            // a head with no finite text, and one with no row
-            ("S=?A A=xA", "unfit 1"),
-            ("S=x A=y?B", "unfit 1"),
-            // a part whose symbol comes behind it
-            ("S=?Ax A=x", "unfit 0"),
-            ("S=Ax A=?B?C B=x C=y", "unfit 0"),
-            ("S=Ax A=y?B B=x", "unfit 1"),
-            ("S=?A?Ay A=x", "fit"),
-            // the `else` that belongs to the nearest condition
-            ("S=xS?E S=y E=zS", "fit"),
-            ("S=xS*Ez S=y E=zS", "unfit 0"),
-        ];
-        for (text, wanted) in &cases {
+        for (text, wanted) in TABLES {
             assert_eq!(rt; verdict(rt.alloc(), text)?.as_str(), *wanted, "{text}");
         }
         Ok(())
@@ -148,6 +150,39 @@ mod tests {
     /// an `l` behind it or not; `b` and `e` are brackets. Nesting counts sums, negations and turns of a chain.
     const SUMS: &str = "S=E E=!N+T T=pN N=!mN N=P P=bEe P=x?L L=l";
 
+    /// Texts, the most nesting, and their trees.
+    const SUMS_READ: &[(&str, u32, &str)] = &[
+        ("x", 1, "r0( r1( r4( r6( 0 ) ) ) ) "),
+        ("xl", 1, "r0( r1( r4( r6( 0 r7( 1 ) ) ) ) ) "),
+        ("mx", 2, "r0( r1( r3( 0 r4( r6( 1 ) ) ) ) ) "),
+        (
+            "xpxpx",
+            3,
+            "r0( r1( r4( r6( 0 ) ) r2( 1 r4( r6( 2 ) ) ) r2( 3 r4( r6( 4 ) ) ) ) ) ",
+        ),
+        ("bxe", 2, "r0( r1( r4( r5( 0 r1( r4( r6( 1 ) ) ) 2 ) ) ) ) "),
+        // the end, a symbol that cannot come, and a first symbol that cannot
+        ("", 1, "no text at 0"),
+        ("p", 1, "no text at 0"),
+        ("xx", 1, "no text at 1"),
+        ("xp", 9, "no text at 2"),
+        ("bx", 9, "no text at 2"),
+        ("bxlle", 9, "no text at 3"),
+        ("x~", 9, "no text at 1"),
+        // nesting passes the limit at the name, at the second turn, and nowhere behind the bracket
+        ("x", 0, "deep at 0"),
+        ("xpxpx", 2, "deep at 3"),
+        (
+            "bxepx",
+            2,
+            "r0( r1( r4( r5( 0 r1( r4( r6( 1 ) ) ) 2 ) ) r2( 3 r4( r6( 4 ) ) ) ) ) ",
+        ),
+        // a symbol that cannot come is no text, also where nesting would pass the limit there
+        ("bbp", 2, "no text at 2"),
+        ("bbmp", 2, "deep at 2"),
+        ("bbmp", 4, "no text at 3"),
+    ];
+
     #[test]
     fn sums_and_their_trees(rt: HostRuntime) -> Result<(), Fail> {
         let table = table(rt.alloc(), SUMS)?;
@@ -155,38 +190,7 @@ mod tests {
         let Ok(reader) = Ll1::new(rt.alloc(), table) else {
             return Err(Fail::from("the table isn't fit"));
         };
-        let cases = [
-            ("x", 1, "r0( r1( r4( r6( 0 ) ) ) ) "),
-            ("xl", 1, "r0( r1( r4( r6( 0 r7( 1 ) ) ) ) ) "),
-            ("mx", 2, "r0( r1( r3( 0 r4( r6( 1 ) ) ) ) ) "),
-            (
-                "xpxpx",
-                3,
-                "r0( r1( r4( r6( 0 ) ) r2( 1 r4( r6( 2 ) ) ) r2( 3 r4( r6( 4 ) ) ) ) ) ",
-            ),
-            ("bxe", 2, "r0( r1( r4( r5( 0 r1( r4( r6( 1 ) ) ) 2 ) ) ) ) "),
-            // the end, a symbol that cannot come, and a first symbol that cannot
-            ("", 1, "no text at 0"),
-            ("p", 1, "no text at 0"),
-            ("xx", 1, "no text at 1"),
-            ("xp", 9, "no text at 2"),
-            ("bx", 9, "no text at 2"),
-            ("bxlle", 9, "no text at 3"),
-            ("x~", 9, "no text at 1"),
-            // nesting passes the limit at the name, at the second turn, and nowhere behind the bracket
-            ("x", 0, "deep at 0"),
-            ("xpxpx", 2, "deep at 3"),
-            (
-                "bxepx",
-                2,
-                "r0( r1( r4( r5( 0 r1( r4( r6( 1 ) ) ) 2 ) ) r2( 3 r4( r6( 4 ) ) ) ) ) ",
-            ),
-            // a symbol that cannot come is no text, also where nesting would pass the limit there
-            ("bbp", 2, "no text at 2"),
-            ("bbmp", 2, "deep at 2"),
-            ("bbmp", 4, "no text at 3"),
-        ];
-        for (text, limit, wanted) in &cases {
+        for (text, limit, wanted) in SUMS_READ {
             assert_eq!(rt;
                 answer(rt.alloc(), &reader, text, *limit)?.as_str(),
                 *wanted,

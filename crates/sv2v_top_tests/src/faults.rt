@@ -11,6 +11,30 @@ const AND_TEXT: &str =
 
 const USAGE: &str = "usage: sv2v [-I DIR] [-D NAME[=TEXT]] --top=NAME FILE...\n";
 
+/// Words that are not of the form.
+const OTHER_WORDS: &[&[&str]] = &[
+    &[],
+    &["m.sv"],
+    &["--top=m"],
+    &["--top=m", "--top=m"],
+    &["--top=m", "--top=m", "m.sv"],
+    &["--top", "m", "m.sv"],
+    &["--top=m", "m.sv", "-I"],
+    &["--top=m", "m.sv", "-I", ""],
+    &["--top=m", "m.sv", "-D"],
+    &["--top=m", "m.sv", "-D1"],
+    &["--top=m", "m.sv", "-Dmodule"],
+    &["--top=m", "m.sv", "-DX=/*"],
+    &["--top=m", "m.sv", "-DX=`define"],
+    &["--top=m", "m.sv", "--names=plain"],
+    &["--top=", "m.sv"],
+    &["--top=1m", "m.sv"],
+    &["--top=module", "m.sv"],
+    &["--top=m n", "m.sv"],
+    &["--top=m", "-m.sv"],
+    &["--top=m", ""],
+];
+
 #[test]
 fn other_words_are_refused(rt: HostRuntime) -> Result<(), Fail> {
     let want = Want {
@@ -18,29 +42,7 @@ fn other_words_are_refused(rt: HostRuntime) -> Result<(), Fail> {
         out: "",
         err: USAGE,
     };
-    let lists: [&[&str]; 20] = [
-        &[],
-        &["m.sv"],
-        &["--top=m"],
-        &["--top=m", "--top=m"],
-        &["--top=m", "--top=m", "m.sv"],
-        &["--top", "m", "m.sv"],
-        &["--top=m", "m.sv", "-I"],
-        &["--top=m", "m.sv", "-I", ""],
-        &["--top=m", "m.sv", "-D"],
-        &["--top=m", "m.sv", "-D1"],
-        &["--top=m", "m.sv", "-Dmodule"],
-        &["--top=m", "m.sv", "-DX=/*"],
-        &["--top=m", "m.sv", "-DX=`define"],
-        &["--top=m", "m.sv", "--names=plain"],
-        &["--top=", "m.sv"],
-        &["--top=1m", "m.sv"],
-        &["--top=module", "m.sv"],
-        &["--top=m n", "m.sv"],
-        &["--top=m", "-m.sv"],
-        &["--top=m", ""],
-    ];
-    for words in lists {
+    for words in OTHER_WORDS {
         check(
             &rt,
             rt.alloc(),

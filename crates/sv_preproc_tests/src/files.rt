@@ -18,66 +18,68 @@ fn check(rt: &impl Abort, alloc: Global, case: Case, want: &str) -> Result<(), F
     Ok(())
 }
 
+/// Files by their paths, and what the first expands to.
+const INCLUDED: &[(&[(&str, &str)], &str)] = &[
+    (&[("p.sv", "a `include \"q\" b"), ("q", "1")], "a 1 b <end>"),
+    (
+        &[
+            ("p.sv", "`include \"d/q\""),
+            ("d/q", "1 `include \"r\""),
+            ("d/r", "2"),
+            ("r", "3"),
+        ],
+        "1 2 <end>",
+    ),
+    (
+        &[("p.sv", "`include \"q\""), ("i/q", "1"), ("j/q", "2")],
+        "1 <end>",
+    ),
+    (&[("p.sv", "`include \"q\""), ("j/q", "2")], "2 <end>"),
+    (
+        &[("p.sv", "`include \"/q\""), ("/q", "1"), ("i//q", "2")],
+        "1 <end>",
+    ),
+    (&[("p.sv", "`include\n\"q\""), ("q", "1")], "1 <end>"),
+    (
+        &[("p.sv", "`include \"q\" `A"), ("q", "`define A x")],
+        "x <end>",
+    ),
+    (&[("p.sv", "`ifdef A\n`include \"q\"\n`endif")], "<end>"),
+    (
+        &[("p.sv", "`define A \"q\"\n`include `A"), ("q", "1")],
+        "p.sv:2:1: E201 `include\n",
+    ),
+    (
+        &[("p.sv", "`define M(a) a\n`M(`include \"q\")"), ("q", "1")],
+        "p.sv:2:4: E201 `include\n",
+    ),
+    (
+        &[("p.sv", "`include \"q\"\n`endif"), ("q", "`ifdef A")],
+        "q:1:1: E205 `ifdef\n",
+    ),
+    (
+        &[("p.sv", "`ifndef A\n`include \"q\""), ("q", "`endif")],
+        "q:1:1: E205 `endif\n",
+    ),
+    (
+        &[("p.sv", "`include \"q\" )"), ("q", "`define M(a) a\n`M(1")],
+        "q:2:1: E208 `M\n",
+    ),
+    (&[("p.sv", "\n`include \"no\"")], "p.sv:2:10: E101 no\n"),
+    (
+        &[("p.sv", "`include \"q\""), ("q", " `include \"no\"")],
+        "q:1:11: E101 no\n",
+    ),
+    (&[], "p.sv:1:1: E101 p.sv\n"),
+    (
+        &[("p.sv", "`include \"p.sv\"")],
+        "p.sv:1:1: E206 `include\n",
+    ),
+];
+
 #[test]
 fn files_are_included(rt: HostRuntime) -> Result<(), Fail> {
-    let cases: [(&[(&str, &str)], &str); 17] = [
-        (&[("p.sv", "a `include \"q\" b"), ("q", "1")], "a 1 b <end>"),
-        (
-            &[
-                ("p.sv", "`include \"d/q\""),
-                ("d/q", "1 `include \"r\""),
-                ("d/r", "2"),
-                ("r", "3"),
-            ],
-            "1 2 <end>",
-        ),
-        (
-            &[("p.sv", "`include \"q\""), ("i/q", "1"), ("j/q", "2")],
-            "1 <end>",
-        ),
-        (&[("p.sv", "`include \"q\""), ("j/q", "2")], "2 <end>"),
-        (
-            &[("p.sv", "`include \"/q\""), ("/q", "1"), ("i//q", "2")],
-            "1 <end>",
-        ),
-        (&[("p.sv", "`include\n\"q\""), ("q", "1")], "1 <end>"),
-        (
-            &[("p.sv", "`include \"q\" `A"), ("q", "`define A x")],
-            "x <end>",
-        ),
-        (&[("p.sv", "`ifdef A\n`include \"q\"\n`endif")], "<end>"),
-        (
-            &[("p.sv", "`define A \"q\"\n`include `A"), ("q", "1")],
-            "p.sv:2:1: E201 `include\n",
-        ),
-        (
-            &[("p.sv", "`define M(a) a\n`M(`include \"q\")"), ("q", "1")],
-            "p.sv:2:4: E201 `include\n",
-        ),
-        (
-            &[("p.sv", "`include \"q\"\n`endif"), ("q", "`ifdef A")],
-            "q:1:1: E205 `ifdef\n",
-        ),
-        (
-            &[("p.sv", "`ifndef A\n`include \"q\""), ("q", "`endif")],
-            "q:1:1: E205 `endif\n",
-        ),
-        (
-            &[("p.sv", "`include \"q\" )"), ("q", "`define M(a) a\n`M(1")],
-            "q:2:1: E208 `M\n",
-        ),
-        (&[("p.sv", "\n`include \"no\"")], "p.sv:2:10: E101 no\n"),
-        (
-            &[("p.sv", "`include \"q\""), ("q", " `include \"no\"")],
-            "q:1:11: E101 no\n",
-        ),
-        (&[], "p.sv:1:1: E101 p.sv\n"),
-        (
-            &[("p.sv", "`include \"p.sv\"")],
-            "p.sv:1:1: E206 `include\n",
-        ),
-    ];
-    for (held, want) in cases {
+    for &(held, want) in INCLUDED {
         let case = Case {
             dirs: &["i/", "j"],
             held,
@@ -105,16 +107,18 @@ fn files_follow_one_another(rt: HostRuntime) -> Result<(), Fail> {
     check(&rt, rt.alloc(), Case { paths: &[], ..NONE }, "<end>")
 }
 
+/// Texts, and what they expand to.
+const DEFINED: &[(&str, &str)] = &[
+    ("`A `B", "1 2 3 <end>"),
+    ("`ifdef C\n1\n`endif", "1 <end>"),
+    ("`C", "<end>"),
+    ("`define A 4\n`A", "4 <end>"),
+    ("`undef A\n`A", "p.sv:2:1: E202 `A\n"),
+];
+
 #[test]
 fn macros_come_from_the_command_line(rt: HostRuntime) -> Result<(), Fail> {
-    let cases = [
-        ("`A `B", "1 2 3 <end>"),
-        ("`ifdef C\n1\n`endif", "1 <end>"),
-        ("`C", "<end>"),
-        ("`define A 4\n`A", "4 <end>"),
-        ("`undef A\n`A", "p.sv:2:1: E202 `A\n"),
-    ];
-    for (source, want) in cases {
+    for &(source, want) in DEFINED {
         let case = Case {
             defines: &[("A", "0"), ("B", "2 3"), ("A", "1"), ("C", "")],
             held: &[("p.sv", source)],
@@ -125,15 +129,17 @@ fn macros_come_from_the_command_line(rt: HostRuntime) -> Result<(), Fail> {
     Ok(())
 }
 
+/// The loads that fail, and what is answered.
+const FAILING: &[(&[u64], &str)] = &[
+    (&[1], "fault a.sv"),
+    (&[2], "fault b.svh"),
+    (&[3], "fault i/b.svh"),
+    (&[4], "1 <end>"),
+];
+
 #[test]
 fn loads_fail(rt: HostRuntime) -> Result<(), Fail> {
-    let cases: [(&[u64], &str); 4] = [
-        (&[1], "fault a.sv"),
-        (&[2], "fault b.svh"),
-        (&[3], "fault i/b.svh"),
-        (&[4], "1 <end>"),
-    ];
-    for (fail, want) in cases {
+    for &(fail, want) in FAILING {
         let case = Case {
             paths: &["a.sv"],
             dirs: &["i"],

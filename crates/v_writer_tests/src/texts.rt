@@ -86,33 +86,35 @@ module e;
 endmodule
 ";
 
+/// The words of trees, and their texts.
+const CASES: &[(&str, &str)] = &[
+    ("", ""),
+    ("m M k M", "module m;\nendmodule\nmodule k;\nendmodule\n"),
+    (
+        "m clk y clk I y V sv2v_t R sv2v_t '0 N { sv2v_t $ . ; ? clk $ . { y '1 . = } { y '0 . = } : } S M",
+        PROCESSES,
+    ),
+    (
+        "n a b c d #3 a I #127 b O c O #65535 d V e W #0 f W #9 g R g '01xz10xz01 N M",
+        DECLARATIONS,
+    ),
+    (
+        "edges clk + { q d $ . < } T clk + reset - reset $ ~ p '00 . < ! p q $ . < ! : ! T M",
+        EDGES,
+    ),
+    (
+        "nested { a $ . { b $ . x c $ . = ! ? } d $ . ; ; : ! : } S ; S { } S M",
+        NESTED,
+    ),
+    (
+        "e x a $ b $ & ( c $ ~ ( | D y a $ '1x . ( ^ D z x $ ~ ( ~ D M",
+        EXPRESSIONS,
+    ),
+];
+
 #[test]
 fn texts_of_small_designs(rt: HostRuntime) -> Result<(), Fail> {
-    let cases = [
-        ("", ""),
-        ("m M k M", "module m;\nendmodule\nmodule k;\nendmodule\n"),
-        (
-            "m clk y clk I y V sv2v_t R sv2v_t '0 N { sv2v_t $ . ; ? clk $ . { y '1 . = } { y '0 . = } : } S M",
-            PROCESSES,
-        ),
-        (
-            "n a b c d #3 a I #127 b O c O #65535 d V e W #0 f W #9 g R g '01xz10xz01 N M",
-            DECLARATIONS,
-        ),
-        (
-            "edges clk + { q d $ . < } T clk + reset - reset $ ~ p '00 . < ! p q $ . < ! : ! T M",
-            EDGES,
-        ),
-        (
-            "nested { a $ . { b $ . x c $ . = ! ? } d $ . ; ; : ! : } S ; S { } S M",
-            NESTED,
-        ),
-        (
-            "e x a $ b $ & ( c $ ~ ( | D y a $ '1x . ( ^ D z x $ ~ ( ~ D M",
-            EXPRESSIONS,
-        ),
-    ];
-    for (words, wanted) in &cases {
+    for (words, wanted) in CASES {
         let found = written(rt.alloc(), words)?;
         assert!(rt; found.is(wanted.as_bytes()), "{words}");
     }
