@@ -22,7 +22,7 @@ const OTHER_WORDS: &[&[&str]] = &[
     &["--top=m", "m.sv", "-I"],
     &["--top=m", "m.sv", "-I", ""],
     &["--top=m", "m.sv", "-D"],
-    &["--top=m", "m.sv", "-D1"],
+    &["--top=m", "m.sv", "-D1X"],
     &["--top=m", "m.sv", "-Dmodule"],
     &["--top=m", "m.sv", "-DX=/*"],
     &["--top=m", "m.sv", "-DX=`define"],
