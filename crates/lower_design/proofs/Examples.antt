@@ -12,31 +12,31 @@ use Rattle.b4_core.specs.declared.operators.BinOp.TheVariants.{Xor}
 use Rattle.b4_core.specs.declared.operators.UnOp.TheVariants.{Not}
 use Rattle.row_machine.specs.Valuation.{Place, Valuation}
 use Rattle.row_machine.specs.Steps.{begun}
-use Rattle.sv_types.specs.declared.design.SignalKind.{SignalKind}
-use Rattle.sv_types.specs.declared.design.SignalKind.TheVariants.{InputNet, OutputVar, Variable}
-use Rattle.sv_types.specs.declared.design.Signal.{Signal}
-use Rattle.sv_types.specs.declared.design.Primary.TheVariants as P
-use Rattle.sv_types.specs.declared.design.Operand.{Operand}
-use Rattle.sv_types.specs.declared.design.Expr.{Expr}
-use Rattle.sv_types.specs.declared.design.Expr.TheVariants.{Single, Binary}
-use Rattle.sv_types.specs.declared.design.EdgeOn.{EdgeOn}
-use Rattle.sv_types.specs.declared.design.ProcessKind.TheVariants.{Continuous, Comb, Edges}
-use Rattle.sv_types.specs.declared.design.Process.{Process}
-use Rattle.sv_types.specs.declared.design.Stmt.{Stmt}
-use Rattle.sv_types.specs.declared.design.Stmt.TheVariants as S
-use Rattle.sv_types.specs.Statements.{Doing, sequence, choice, assignment, stmt_doing, doing}
-use Rattle.sv_types.specs.Machine.{edge_process}
-use Rattle.v_tree.specs.Names.{Name}
-use Rattle.v_tree.specs.declared.tree.VPrim.TheVariants.{Name as PrimName}
-use Rattle.v_tree.specs.declared.tree.VExpr.{VExpr}
-use Rattle.v_tree.specs.declared.tree.VExpr.TheVariants as E
-use Rattle.v_tree.specs.declared.tree.VBranch.{VBranch}
-use Rattle.v_tree.specs.declared.tree.VBranch.TheVariants.{Statement, Empty}
-use Rattle.v_tree.specs.declared.tree.VStmt.{VStmt}
-use Rattle.v_tree.specs.declared.tree.VStmt.TheVariants as V
-use Rattle.v_tree.specs.declared.tree.VSensitivity.TheVariants as On
-use Rattle.v_tree.specs.declared.tree.VItem.{VItem}
-use Rattle.v_tree.specs.declared.tree.VItem.TheVariants as I
+use Rattle.sv_core.specs.declared.design.SignalKind.{SignalKind}
+use Rattle.sv_core.specs.declared.design.SignalKind.TheVariants.{InputNet, OutputVar, Variable}
+use Rattle.sv_core.specs.declared.design.Signal.{Signal}
+use Rattle.sv_core.specs.declared.design.Primary.TheVariants as P
+use Rattle.sv_core.specs.declared.design.Operand.{Operand}
+use Rattle.sv_core.specs.declared.design.Expr.{Expr}
+use Rattle.sv_core.specs.declared.design.Expr.TheVariants.{Single, Binary}
+use Rattle.sv_core.specs.declared.design.EdgeOn.{EdgeOn}
+use Rattle.sv_core.specs.declared.design.ProcessKind.TheVariants.{Continuous, Comb, Edges}
+use Rattle.sv_core.specs.declared.design.Process.{Process}
+use Rattle.sv_core.specs.declared.design.Stmt.{Stmt}
+use Rattle.sv_core.specs.declared.design.Stmt.TheVariants as S
+use Rattle.sv_core.specs.Statements.{Doing, sequence, choice, assignment, stmt_doing, doing}
+use Rattle.sv_core.specs.Machine.{edge_process}
+use Rattle.v_core.specs.Names.{Name}
+use Rattle.v_core.specs.declared.tree.VPrim.TheVariants.{Name as PrimName}
+use Rattle.v_core.specs.declared.tree.VExpr.{VExpr}
+use Rattle.v_core.specs.declared.tree.VExpr.TheVariants as E
+use Rattle.v_core.specs.declared.tree.VBranch.{VBranch}
+use Rattle.v_core.specs.declared.tree.VBranch.TheVariants.{Statement, Empty}
+use Rattle.v_core.specs.declared.tree.VStmt.{VStmt}
+use Rattle.v_core.specs.declared.tree.VStmt.TheVariants as V
+use Rattle.v_core.specs.declared.tree.VSensitivity.TheVariants as On
+use Rattle.v_core.specs.declared.tree.VItem.{VItem}
+use Rattle.v_core.specs.declared.tree.VItem.TheVariants as I
 use Rattle.lower_design.specs.Lowered.{branch, driver_in, drives_in, item_by, declarations, trigger_items, lowered_level, lowered_stmt, lowered_items, reads_trigger, triggered}
 use Rattle.lower_design.proofs.Levels.{block-level, either-level, assign-level, assign-out, lines-assign, lines-block, lines-if}
 

@@ -13,25 +13,25 @@ use Rattle.row_machine.specs.Steps.{begun, is_edge}
 use Rattle.row_machine.specs.Translation.{Translates}
 use Rattle.row_machine.proofs.Basics.{member-any, any-member, member-has}
 use Rattle.row_machine.proofs.Members.{member-map}
-use Rattle.sv_types.specs.declared.design.SignalKind.{SignalKind}
-use Rattle.sv_types.specs.declared.design.SignalKind.TheVariants.{InputNet, OutputVar, Variable}
-use Rattle.sv_types.specs.declared.design.Signal.{Signal}
-use Rattle.sv_types.specs.declared.design.Expr.{Expr}
-use Rattle.sv_types.specs.declared.design.EdgeOn.{EdgeOn}
-use Rattle.sv_types.specs.declared.design.ProcessKind.{ProcessKind}
-use Rattle.sv_types.specs.declared.design.ProcessKind.TheVariants.{Continuous, Comb, Edges}
-use Rattle.sv_types.specs.declared.design.Process.{Process}
-use Rattle.sv_types.specs.declared.design.Stmt.{Stmt, Stmt-F, out-Stmt}
-use Rattle.sv_types.specs.declared.design.Stmt.TheVariants as S
-use Rattle.sv_types.specs.declared.design.Design.{Design}
-use Rattle.sv_types.specs.Statements as SD
-use Rattle.sv_types.specs.Statements.{width_of, width_or_zero, doing, stmt_doing, expr_signals}
-use Rattle.sv_types.specs.Machine as Source
-use Rattle.sv_types.specs.Machine.{comb_process, edge_process}
-use Rattle.v_tree.specs.Signals as T
-use Rattle.v_tree.specs.Signals.{InitialValue, number_of, width_named, places_named, signals, processes, initials}
-use Rattle.v_tree.specs.Machine as Target
-use Rattle.v_tree.specs.Machine.{places_of_names, given, is_written}
+use Rattle.sv_core.specs.declared.design.SignalKind.{SignalKind}
+use Rattle.sv_core.specs.declared.design.SignalKind.TheVariants.{InputNet, OutputVar, Variable}
+use Rattle.sv_core.specs.declared.design.Signal.{Signal}
+use Rattle.sv_core.specs.declared.design.Expr.{Expr}
+use Rattle.sv_core.specs.declared.design.EdgeOn.{EdgeOn}
+use Rattle.sv_core.specs.declared.design.ProcessKind.{ProcessKind}
+use Rattle.sv_core.specs.declared.design.ProcessKind.TheVariants.{Continuous, Comb, Edges}
+use Rattle.sv_core.specs.declared.design.Process.{Process}
+use Rattle.sv_core.specs.declared.design.Stmt.{Stmt, Stmt-F, out-Stmt}
+use Rattle.sv_core.specs.declared.design.Stmt.TheVariants as S
+use Rattle.sv_core.specs.declared.design.Design.{Design}
+use Rattle.sv_core.specs.Statements as SD
+use Rattle.sv_core.specs.Statements.{width_of, width_or_zero, doing, stmt_doing, expr_signals}
+use Rattle.sv_core.specs.Machine as Source
+use Rattle.sv_core.specs.Machine.{comb_process, edge_process}
+use Rattle.v_core.specs.Signals as T
+use Rattle.v_core.specs.Signals.{InitialValue, number_of, width_named, places_named, signals, processes, initials}
+use Rattle.v_core.specs.Machine as Target
+use Rattle.v_core.specs.Machine.{places_of_names, given, is_written}
 use Rattle.lower_design.specs.Translatable.{Translatable, KindFits, targets_by, targets_of}
 use Rattle.lower_design.specs.Shape.{name_of, trigger}
 use Rattle.lower_design.specs.Lowered.{lowered_expr, is_driven, drives, drives_in, drives_by, is_triggered, lowered}

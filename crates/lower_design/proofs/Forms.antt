@@ -6,26 +6,26 @@ use Rattle.b4_core.specs.declared.operators.BinOp.TheVariants.{And, Or, Xor, Xno
 use Rattle.b4_core.specs.declared.operators.UnOp.TheVariants.{Not}
 use Rattle.row_machine.specs.Valuation.{Member}
 use Rattle.row_machine.proofs.Members.{member-front, member-back}
-use Rattle.sv_types.specs.declared.design.Signal.{Signal}
-use Rattle.sv_types.specs.declared.design.Primary.{Primary}
-use Rattle.sv_types.specs.declared.design.Primary.TheVariants as P
-use Rattle.sv_types.specs.declared.design.Operand.{Operand}
-use Rattle.sv_types.specs.declared.design.Expr.{Expr}
-use Rattle.sv_types.specs.declared.design.Expr.TheVariants.{Single, Binary}
-use Rattle.sv_types.specs.declared.design.Stmt.{Stmt}
-use Rattle.sv_types.specs.declared.design.Stmt.TheVariants as S
-use Rattle.sv_types.specs.Statements.{Doing, sequence, choice, assignment, idle, stmt_doing, doing, primary_signals, expr_signals}
-use Rattle.v_tree.specs.Names.{Name}
-use Rattle.v_tree.specs.Reserved.{reserved_words}
-use Rattle.v_tree.specs.Tokens.{is_simple}
-use Rattle.v_tree.specs.Grammatical.{is_binary, Form, prim_form, expr_form, form, all_fit, deepest, branch_form, stmt_form, if_form, form_of_branch}
-use Rattle.v_tree.specs.declared.tree.VPrim.{VPrim, fold-VPrim}
-use Rattle.v_tree.specs.declared.tree.VPrim.TheVariants as V
-use Rattle.v_tree.specs.declared.tree.VExpr.{VExpr-F}
-use Rattle.v_tree.specs.declared.tree.VExpr.TheVariants as E
-use Rattle.v_tree.specs.declared.tree.VBranch.TheVariants.{Statement, Empty}
-use Rattle.v_tree.specs.declared.tree.VStmt.{VStmt, VStmt-F, fold-VStmt}
-use Rattle.v_tree.specs.declared.tree.VStmt.TheVariants as T
+use Rattle.sv_core.specs.declared.design.Signal.{Signal}
+use Rattle.sv_core.specs.declared.design.Primary.{Primary}
+use Rattle.sv_core.specs.declared.design.Primary.TheVariants as P
+use Rattle.sv_core.specs.declared.design.Operand.{Operand}
+use Rattle.sv_core.specs.declared.design.Expr.{Expr}
+use Rattle.sv_core.specs.declared.design.Expr.TheVariants.{Single, Binary}
+use Rattle.sv_core.specs.declared.design.Stmt.{Stmt}
+use Rattle.sv_core.specs.declared.design.Stmt.TheVariants as S
+use Rattle.sv_core.specs.Statements.{Doing, sequence, choice, assignment, idle, stmt_doing, doing, primary_signals, expr_signals}
+use Rattle.v_core.specs.Names.{Name}
+use Rattle.v_core.specs.Reserved.{reserved_words}
+use Rattle.v_core.specs.Tokens.{is_simple}
+use Rattle.v_core.specs.Grammatical.{is_binary, Form, prim_form, expr_form, form, all_fit, deepest, branch_form, stmt_form, if_form, form_of_branch}
+use Rattle.v_core.specs.declared.tree.VPrim.{VPrim, fold-VPrim}
+use Rattle.v_core.specs.declared.tree.VPrim.TheVariants as V
+use Rattle.v_core.specs.declared.tree.VExpr.{VExpr-F}
+use Rattle.v_core.specs.declared.tree.VExpr.TheVariants as E
+use Rattle.v_core.specs.declared.tree.VBranch.TheVariants.{Statement, Empty}
+use Rattle.v_core.specs.declared.tree.VStmt.{VStmt, VStmt-F, fold-VStmt}
+use Rattle.v_core.specs.declared.tree.VStmt.TheVariants as T
 use Rattle.lower_design.specs.Translatable.{PrimaryFits, OperatorFits, ExprFits, Inside, all_exprs, inside, stmt_inside}
 use Rattle.lower_design.specs.Translatable as Source
 use Rattle.lower_design.specs.Shape.{name_of, trigger}

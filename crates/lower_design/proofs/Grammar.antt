@@ -4,24 +4,24 @@ use Rattle.std.specs.List.{list_all}
 use Rattle.std.proofs.lemmas.Bool.{le-leb, and_parts}
 use Rattle.row_machine.specs.Valuation.{Member}
 use Rattle.row_machine.proofs.Members.{map-member, filter-member}
-use Rattle.sv_types.specs.declared.design.SignalKind.{SignalKind}
-use Rattle.sv_types.specs.declared.design.SignalKind.TheVariants.{InputNet, OutputVar, Variable}
-use Rattle.sv_types.specs.declared.design.Signal.{Signal}
-use Rattle.sv_types.specs.declared.design.Expr.{Expr}
-use Rattle.sv_types.specs.declared.design.EdgeOn.{EdgeOn}
-use Rattle.sv_types.specs.declared.design.ProcessKind.{ProcessKind}
-use Rattle.sv_types.specs.declared.design.ProcessKind.TheVariants.{Continuous, Comb, Edges}
-use Rattle.sv_types.specs.declared.design.Process.{Process}
-use Rattle.sv_types.specs.declared.design.Stmt.TheVariants as S
-use Rattle.sv_types.specs.declared.design.Design.{Design}
-use Rattle.sv_types.specs.Statements as SD
-use Rattle.sv_types.specs.Statements.{doing, stmt_doing, expr_signals}
-use Rattle.v_tree.specs.Tokens.{is_simple}
-use Rattle.v_tree.specs.Reading.{nesting_limit}
-use Rattle.v_tree.specs.Grammatical.{Form, form, form_of_branch, is_branch, has_some, is_item, is_of_grammar}
-use Rattle.v_tree.specs.declared.tree.VEdge.{VEdge}
-use Rattle.v_tree.specs.declared.tree.VItem.TheVariants as I
-use Rattle.v_tree.specs.declared.tree.VBranch.{VBranch}
+use Rattle.sv_core.specs.declared.design.SignalKind.{SignalKind}
+use Rattle.sv_core.specs.declared.design.SignalKind.TheVariants.{InputNet, OutputVar, Variable}
+use Rattle.sv_core.specs.declared.design.Signal.{Signal}
+use Rattle.sv_core.specs.declared.design.Expr.{Expr}
+use Rattle.sv_core.specs.declared.design.EdgeOn.{EdgeOn}
+use Rattle.sv_core.specs.declared.design.ProcessKind.{ProcessKind}
+use Rattle.sv_core.specs.declared.design.ProcessKind.TheVariants.{Continuous, Comb, Edges}
+use Rattle.sv_core.specs.declared.design.Process.{Process}
+use Rattle.sv_core.specs.declared.design.Stmt.TheVariants as S
+use Rattle.sv_core.specs.declared.design.Design.{Design}
+use Rattle.sv_core.specs.Statements as SD
+use Rattle.sv_core.specs.Statements.{doing, stmt_doing, expr_signals}
+use Rattle.v_core.specs.Tokens.{is_simple}
+use Rattle.v_core.specs.Reading.{nesting_limit}
+use Rattle.v_core.specs.Grammatical.{Form, form, form_of_branch, is_branch, has_some, is_item, is_of_grammar}
+use Rattle.v_core.specs.declared.tree.VEdge.{VEdge}
+use Rattle.v_core.specs.declared.tree.VItem.TheVariants as I
+use Rattle.v_core.specs.declared.tree.VBranch.{VBranch}
 use Rattle.lower_design.specs.Translatable.{Translatable, KindFits, EdgeFits, path_of, inside, stmt_inside, Inside}
 use Rattle.lower_design.specs.Shape.{name_of, path_or_nothing, is_port}
 use Rattle.lower_design.specs.Lowered.{lowered_expr, driver_in, item_by, lowered_process, lowered_edge, declaration_of, declarations, trigger_items, is_driven, lowered_items, lowered}

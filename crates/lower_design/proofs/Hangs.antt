@@ -8,14 +8,14 @@ use Rattle.row_machine.specs.Valuation.{Member, Valuation, Place, has, changed}
 use Rattle.row_machine.specs.Places.{places_of, assigned}
 use Rattle.row_machine.specs.Steps.{Progress, later_or, is_one}
 use Rattle.row_machine.proofs.Members.{member-front, member-back}
-use Rattle.sv_types.specs.declared.design.Signal.{Signal}
-use Rattle.sv_types.specs.declared.design.Primary.{Primary}
-use Rattle.sv_types.specs.declared.design.Primary.TheVariants as P
-use Rattle.sv_types.specs.declared.design.Expr.{Expr}
-use Rattle.sv_types.specs.declared.design.Expr.TheVariants.{Single, Binary}
-use Rattle.sv_types.specs.declared.design.Stmt.{Stmt}
-use Rattle.sv_types.specs.Value.{primary_value, inverted_if, width_alone, value_at}
-use Rattle.sv_types.specs.Statements.{Doing, idle, sequence, choice, assignment, stmt_doing, doing, width_of, held_at, changes_of, is_true, primary_signals, expr_signals}
+use Rattle.sv_core.specs.declared.design.Signal.{Signal}
+use Rattle.sv_core.specs.declared.design.Primary.{Primary}
+use Rattle.sv_core.specs.declared.design.Primary.TheVariants as P
+use Rattle.sv_core.specs.declared.design.Expr.{Expr}
+use Rattle.sv_core.specs.declared.design.Expr.TheVariants.{Single, Binary}
+use Rattle.sv_core.specs.declared.design.Stmt.{Stmt}
+use Rattle.sv_core.specs.Value.{primary_value, inverted_if, width_alone, value_at}
+use Rattle.sv_core.specs.Statements.{Doing, idle, sequence, choice, assignment, stmt_doing, doing, width_of, held_at, changes_of, is_true, primary_signals, expr_signals}
 use Rattle.lower_design.proofs.Induction.{Steps, by_statement}
 use Rattle.lower_design.proofs.Levels.{block-level, alone-level, either-level, assign-level}
 use Rattle.lower_design.proofs.Places.{vectors-same, assigned-within}

@@ -1,9 +1,9 @@
 -- Induction over statements.
 use Rattle.std.proofs.Common.{ℕ, Bool, List, map, Some, None, subst, sym}
 use Rattle.row_machine.specs.Valuation.{Member}
-use Rattle.sv_types.specs.declared.design.Expr.{Expr}
-use Rattle.sv_types.specs.declared.design.Stmt.{Stmt, Stmt-F, ind-Stmt, roll-Stmt, map-Stmt}
-use Rattle.sv_types.specs.declared.design.Stmt.TheVariants.{Block, If, Assign, rolls-Block, rolls-If, rolls-Assign}
+use Rattle.sv_core.specs.declared.design.Expr.{Expr}
+use Rattle.sv_core.specs.declared.design.Stmt.{Stmt, Stmt-F, ind-Stmt, roll-Stmt, map-Stmt}
+use Rattle.sv_core.specs.declared.design.Stmt.TheVariants.{Block, If, Assign, rolls-Block, rolls-If, rolls-Assign}
 use Rattle.row_machine.proofs.Members.{map-member}
 
 -- what is to be shown of each kind of statement, where it holds of the statements inside

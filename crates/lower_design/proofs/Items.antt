@@ -6,20 +6,20 @@ use Rattle.std.proofs.lemmas.Bool.{false≢true, eqb-true}
 use Rattle.b4_core.specs.declared.bit.Bit4.TheVariants.{Zero}
 use Rattle.row_machine.specs.Valuation.{Member}
 use Rattle.row_machine.proofs.Members.{append-member, map-member}
-use Rattle.sv_types.specs.declared.design.SignalKind.{SignalKind}
-use Rattle.sv_types.specs.declared.design.SignalKind.TheVariants.{InputNet, OutputVar, Variable}
-use Rattle.sv_types.specs.declared.design.Signal.{Signal}
-use Rattle.sv_types.specs.declared.design.ProcessKind.{ProcessKind}
-use Rattle.sv_types.specs.declared.design.ProcessKind.TheVariants.{Continuous, Comb, Edges}
-use Rattle.sv_types.specs.declared.design.Process.{Process}
-use Rattle.sv_types.specs.declared.design.Stmt.{Stmt, Stmt-F, out-Stmt}
-use Rattle.sv_types.specs.declared.design.Design.{Design}
-use Rattle.sv_types.specs.Statements.{width_of, width_or_zero}
-use Rattle.v_tree.specs.Names.{Name, distinct}
-use Rattle.v_tree.specs.Signals as T
-use Rattle.v_tree.specs.Signals.{Kind, input_net, net, variable, InitialValue, bits_of_range, declare, signals, processes, initials, items_of, number_of, width_named}
-use Rattle.v_tree.specs.declared.tree.VBranch.TheVariants.{Empty}
-use Rattle.v_tree.specs.declared.tree.VItem.{VItem}
+use Rattle.sv_core.specs.declared.design.SignalKind.{SignalKind}
+use Rattle.sv_core.specs.declared.design.SignalKind.TheVariants.{InputNet, OutputVar, Variable}
+use Rattle.sv_core.specs.declared.design.Signal.{Signal}
+use Rattle.sv_core.specs.declared.design.ProcessKind.{ProcessKind}
+use Rattle.sv_core.specs.declared.design.ProcessKind.TheVariants.{Continuous, Comb, Edges}
+use Rattle.sv_core.specs.declared.design.Process.{Process}
+use Rattle.sv_core.specs.declared.design.Stmt.{Stmt, Stmt-F, out-Stmt}
+use Rattle.sv_core.specs.declared.design.Design.{Design}
+use Rattle.sv_core.specs.Statements.{width_of, width_or_zero}
+use Rattle.v_core.specs.Names.{Name, distinct}
+use Rattle.v_core.specs.Signals as T
+use Rattle.v_core.specs.Signals.{Kind, input_net, net, variable, InitialValue, bits_of_range, declare, signals, processes, initials, items_of, number_of, width_named}
+use Rattle.v_core.specs.declared.tree.VBranch.TheVariants.{Empty}
+use Rattle.v_core.specs.declared.tree.VItem.{VItem}
 use Rattle.lower_design.specs.Translatable.{Translatable, is_helper_name, path_of}
 use Rattle.lower_design.specs.Shape.{name_of, path_or_nothing, trigger, is_port}
 use Rattle.lower_design.specs.Lowered.{range_of, branch, lowered_expr, lowered_stmt, triggered, lowered_edge, driver_in, item_by, lowered_process, is_driven, declaration_of, declarations, is_triggered, trigger_items, lowered_items, lowered}

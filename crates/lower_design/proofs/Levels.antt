@@ -1,20 +1,20 @@
 -- One level of a statement at a time: what a fold over statements gives for each variant.
 use Rattle.std.proofs.Common.{◌≡◌, ◌⊎◌, ℕ, Bool, List, [], ◌∷◌, map, Option, Some, None, refl, sym, ap, ◌∙◌, inl, inr}
-use Rattle.sv_types.specs.declared.design.Expr.{Expr}
-use Rattle.sv_types.specs.declared.design.Stmt.{Stmt, Stmt-F, fold-Stmt, fold-roll-Stmt, out-Stmt, out-roll-Stmt}
-use Rattle.sv_types.specs.declared.design.Stmt.TheVariants.{Block, If, Assign, rolls-Block, rolls-If, rolls-Assign}
-use Rattle.v_tree.specs.Names.{Name}
+use Rattle.sv_core.specs.declared.design.Expr.{Expr}
+use Rattle.sv_core.specs.declared.design.Stmt.{Stmt, Stmt-F, fold-Stmt, fold-roll-Stmt, out-Stmt, out-roll-Stmt}
+use Rattle.sv_core.specs.declared.design.Stmt.TheVariants.{Block, If, Assign, rolls-Block, rolls-If, rolls-Assign}
+use Rattle.v_core.specs.Names.{Name}
 use Rattle.b4_core.specs.declared.bit.Bit4.{Bit4}
 use Rattle.b4_core.specs.declared.operators.BinOp.{BinOp}
 use Rattle.b4_core.specs.declared.operators.UnOp.{UnOp}
-use Rattle.v_tree.specs.declared.tree.VPrim.{VPrim, fold-VPrim, VPrim-F, fold-roll-VPrim}
-use Rattle.v_tree.specs.declared.tree.VPrim.TheVariants as P
-use Rattle.v_tree.specs.declared.tree.VExpr.{VExpr, VExpr-F, fold-VExpr, fold-roll-VExpr}
-use Rattle.v_tree.specs.declared.tree.VExpr.TheVariants as E
-use Rattle.v_tree.specs.declared.tree.VBranch.{VBranch, VBranch-F, fold-VBranch, fold-roll-VBranch}
-use Rattle.v_tree.specs.declared.tree.VBranch.TheVariants.{Statement, Empty, rolls-Statement, rolls-Empty}
-use Rattle.v_tree.specs.declared.tree.VStmt.{VStmt, VStmt-F, fold-VStmt, fold-roll-VStmt, roll-VStmt, out-VStmt, out-roll-VStmt, roll-out-VStmt}
-use Rattle.v_tree.specs.declared.tree.VStmt.TheVariants as V
+use Rattle.v_core.specs.declared.tree.VPrim.{VPrim, fold-VPrim, VPrim-F, fold-roll-VPrim}
+use Rattle.v_core.specs.declared.tree.VPrim.TheVariants as P
+use Rattle.v_core.specs.declared.tree.VExpr.{VExpr, VExpr-F, fold-VExpr, fold-roll-VExpr}
+use Rattle.v_core.specs.declared.tree.VExpr.TheVariants as E
+use Rattle.v_core.specs.declared.tree.VBranch.{VBranch, VBranch-F, fold-VBranch, fold-roll-VBranch}
+use Rattle.v_core.specs.declared.tree.VBranch.TheVariants.{Statement, Empty, rolls-Statement, rolls-Empty}
+use Rattle.v_core.specs.declared.tree.VStmt.{VStmt, VStmt-F, fold-VStmt, fold-roll-VStmt, roll-VStmt, out-VStmt, out-roll-VStmt, roll-out-VStmt}
+use Rattle.v_core.specs.declared.tree.VStmt.TheVariants as V
 use Rattle.lower_design.specs.Lowered.{lines, lines_of}
 
 module _ (A : Type 0) (step : Stmt-F A → A) where

@@ -10,24 +10,24 @@ use Rattle.row_machine.specs.Machine as M
 use Rattle.row_machine.specs.Places.{places_of, without}
 use Rattle.row_machine.specs.Steps.{begun, later_or, is_edge}
 use Rattle.row_machine.proofs.Basics.{is_place-true}
-use Rattle.sv_types.specs.declared.design.Signal.{Signal}
-use Rattle.sv_types.specs.declared.design.Expr.{Expr}
-use Rattle.sv_types.specs.declared.design.EdgeOn.{EdgeOn}
-use Rattle.sv_types.specs.declared.design.Stmt.{Stmt}
-use Rattle.sv_types.specs.declared.design.Stmt.TheVariants as S
-use Rattle.sv_types.specs.Numbers.{holds, each_once}
-use Rattle.sv_types.specs.Statements as SD
-use Rattle.sv_types.specs.Statements.{width_of, doing, stmt_doing, expr_signals}
-use Rattle.sv_types.specs.Machine as Source
-use Rattle.sv_types.specs.Machine.{places_of_signals, comb_process, edge_process}
-use Rattle.v_tree.specs.Names.{Name, among, once}
-use Rattle.v_tree.specs.Value.{meaning}
-use Rattle.v_tree.specs.Signals as T
-use Rattle.v_tree.specs.Signals.{InitialValue, number_of, width_named, places_named, signals, processes, initials, items_of}
-use Rattle.v_tree.specs.Statements.{doing_of}
-use Rattle.v_tree.specs.Statements as TD
-use Rattle.v_tree.specs.Machine as Target
-use Rattle.v_tree.specs.Machine.{places_of_names, given, is_written}
+use Rattle.sv_core.specs.declared.design.Signal.{Signal}
+use Rattle.sv_core.specs.declared.design.Expr.{Expr}
+use Rattle.sv_core.specs.declared.design.EdgeOn.{EdgeOn}
+use Rattle.sv_core.specs.declared.design.Stmt.{Stmt}
+use Rattle.sv_core.specs.declared.design.Stmt.TheVariants as S
+use Rattle.sv_core.specs.Numbers.{holds, each_once}
+use Rattle.sv_core.specs.Statements as SD
+use Rattle.sv_core.specs.Statements.{width_of, doing, stmt_doing, expr_signals}
+use Rattle.sv_core.specs.Machine as Source
+use Rattle.sv_core.specs.Machine.{places_of_signals, comb_process, edge_process}
+use Rattle.v_core.specs.Names.{Name, among, once}
+use Rattle.v_core.specs.Value.{meaning}
+use Rattle.v_core.specs.Signals as T
+use Rattle.v_core.specs.Signals.{InitialValue, number_of, width_named, places_named, signals, processes, initials, items_of}
+use Rattle.v_core.specs.Statements.{doing_of}
+use Rattle.v_core.specs.Statements as TD
+use Rattle.v_core.specs.Machine as Target
+use Rattle.v_core.specs.Machine.{places_of_names, given, is_written}
 use Rattle.lower_design.specs.Shape.{name_of, trigger}
 use Rattle.lower_design.specs.Lowered.{branch, lowered_expr, lowered_stmt, triggered, lowered_edge}
 use Rattle.lower_design.proofs.Names.{true_or_false, same_bytes, differ_bytes, pick_true, pick_false}

@@ -5,21 +5,21 @@ use Rattle.b4_core.specs.declared.operators.BinOp.{BinOp}
 use Rattle.b4_core.specs.declared.operators.UnOp.{UnOp}
 use Rattle.b4_core.specs.declared.operators.UnOp.TheVariants.{Not}
 use Rattle.b4_core.specs.Binary.{binary_value}
-use Rattle.sv_types.specs.declared.design.Signal.{Signal}
-use Rattle.sv_types.specs.declared.design.Primary.{Primary}
-use Rattle.sv_types.specs.declared.design.Primary.TheVariants as P
-use Rattle.sv_types.specs.declared.design.Expr.{Expr}
-use Rattle.sv_types.specs.declared.design.Expr.TheVariants as D
-use Rattle.v_tree.specs.declared.tree.VPrim.{VPrim, fold-VPrim, VPrim-F}
-use Rattle.v_tree.specs.declared.tree.VPrim.TheVariants.{Number, Name, Paren}
-use Rattle.v_tree.specs.declared.tree.VExpr.{VExpr, VExpr-F}
-use Rattle.v_tree.specs.declared.tree.VExpr.TheVariants.{Prim, Unary, Binary}
-use Rattle.sv_types.specs.Value.{primary_width, primary_value, inverted_if, operand_value}
-use Rattle.sv_types.specs.Statements.{primary_signals}
+use Rattle.sv_core.specs.declared.design.Signal.{Signal}
+use Rattle.sv_core.specs.declared.design.Primary.{Primary}
+use Rattle.sv_core.specs.declared.design.Primary.TheVariants as P
+use Rattle.sv_core.specs.declared.design.Expr.{Expr}
+use Rattle.sv_core.specs.declared.design.Expr.TheVariants as D
+use Rattle.v_core.specs.declared.tree.VPrim.{VPrim, fold-VPrim, VPrim-F}
+use Rattle.v_core.specs.declared.tree.VPrim.TheVariants.{Number, Name, Paren}
+use Rattle.v_core.specs.declared.tree.VExpr.{VExpr, VExpr-F}
+use Rattle.v_core.specs.declared.tree.VExpr.TheVariants.{Prim, Unary, Binary}
+use Rattle.sv_core.specs.Value.{primary_width, primary_value, inverted_if, operand_value}
+use Rattle.sv_core.specs.Statements.{primary_signals}
 use Rattle.lower_design.specs.Shape.{name_of}
 use Rattle.lower_design.specs.Lowered.{parenthesized, alone, lowered_primary, lowered_operand, lowered_expr}
 use Rattle.lower_design.proofs.Levels.{number-level, name-level, paren-level, prim-level, unary-level, binary-level}
-use Rattle.v_tree.specs.Value.{Meaning, meaning, expr_meaning, prim_meaning}
+use Rattle.v_core.specs.Value.{Meaning, meaning, expr_meaning, prim_meaning}
 
 abbrev pub prim_means : VPrim → Meaning
 prim_means = fold-VPrim Meaning Meaning expr_meaning prim_meaning

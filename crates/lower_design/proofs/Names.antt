@@ -5,8 +5,8 @@ use Rattle.std.specs.Str.{bytes_eq}
 use Rattle.std.proofs.lemmas.Slice.Eq.{bytes_eq-Decides}
 use Rattle.std.proofs.lemmas.Bool.{or_cases, or_left, or_right, and_parts, false≢true}
 use Rattle.row_machine.specs.Valuation.{Member}
-use Rattle.v_tree.specs.Names.{Name, among, distinct}
-use Rattle.v_tree.specs.Signals.{Signal, number_of, width_named}
+use Rattle.v_core.specs.Names.{Name, among, distinct}
+use Rattle.v_core.specs.Signals.{Signal, number_of, width_named}
 
 pub same_bytes : (a : Name) → bytes_eq a a ≡ true
 same_bytes a = (bytes_eq-Decides a a).1 refl

@@ -4,12 +4,12 @@ use Rattle.row_machine.specs.Valuation.{Place, Valuation, has}
 use Rattle.row_machine.specs.Places.{places_of, vector_at}
 use Rattle.row_machine.specs.Agreement.{lifted, TracesAgree as MachinesAgree}
 use Rattle.row_machine.specs.Translation.{Translates}
-use Rattle.sv_types.specs.declared.design.Design.{Design}
-use Rattle.sv_types.specs.Machine as Source
-use Rattle.sv_types.specs.Statements.{width_or_zero}
-use Rattle.v_tree.specs.declared.tree.VDesign.{VDesign}
-use Rattle.v_tree.specs.Signals.{number_of, width_named, held_named, signals}
-use Rattle.v_tree.specs.Machine as Target
+use Rattle.sv_core.specs.declared.design.Design.{Design}
+use Rattle.sv_core.specs.Machine as Source
+use Rattle.sv_core.specs.Statements.{width_or_zero}
+use Rattle.v_core.specs.declared.tree.VDesign.{VDesign}
+use Rattle.v_core.specs.Signals.{number_of, width_named, held_named, signals}
+use Rattle.v_core.specs.Machine as Target
 use Rattle.lower_design.specs.Translatable.{Translatable}
 use Rattle.lower_design.specs.Agreement.{Agree, TracesAgree}
 use Rattle.lower_design.specs.Shape.{path_or_nothing}

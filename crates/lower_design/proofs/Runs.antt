@@ -7,28 +7,28 @@ use Rattle.row_machine.specs.Valuation.{Member, Valuation}
 use Rattle.row_machine.specs.Places.{vector_at, assigned}
 use Rattle.row_machine.specs.Steps.{Progress, assign_now, assign_later, is_one}
 use Rattle.row_machine.proofs.Members.{member-front, member-back}
-use Rattle.sv_types.specs.declared.design.Signal.{Signal}
-use Rattle.sv_types.specs.declared.design.Primary.{Primary}
-use Rattle.sv_types.specs.declared.design.Primary.TheVariants as P
-use Rattle.sv_types.specs.declared.design.Expr.{Expr}
-use Rattle.sv_types.specs.declared.design.Expr.TheVariants.{Single, Binary}
-use Rattle.sv_types.specs.declared.design.Stmt.{Stmt}
-use Rattle.sv_types.specs.declared.design.Stmt.TheVariants as S
-use Rattle.sv_types.specs.Value.{primary_width, primary_value, inverted_if, width_alone, value_at}
-use Rattle.sv_types.specs.Statements as Source
-use Rattle.sv_types.specs.Statements.{width_of, held_at, primary_signals, expr_signals}
-use Rattle.v_tree.specs.Names.{Name}
-use Rattle.v_tree.specs.Value.{Meaning, meaning}
-use Rattle.v_tree.specs.Signals as T
-use Rattle.v_tree.specs.Signals.{number_of, width_named, held_named}
-use Rattle.v_tree.specs.Statements as Target
-use Rattle.v_tree.specs.Statements.{doing_of}
-use Rattle.v_tree.specs.declared.tree.VExpr.{VExpr}
-use Rattle.v_tree.specs.declared.tree.VExpr.TheVariants.{Prim}
-use Rattle.v_tree.specs.declared.tree.VPrim.TheVariants.{Name as PrimName}
-use Rattle.v_tree.specs.declared.tree.VBranch.TheVariants.{Empty}
-use Rattle.v_tree.specs.declared.tree.VStmt.{VStmt}
-use Rattle.v_tree.specs.declared.tree.VStmt.TheVariants as V
+use Rattle.sv_core.specs.declared.design.Signal.{Signal}
+use Rattle.sv_core.specs.declared.design.Primary.{Primary}
+use Rattle.sv_core.specs.declared.design.Primary.TheVariants as P
+use Rattle.sv_core.specs.declared.design.Expr.{Expr}
+use Rattle.sv_core.specs.declared.design.Expr.TheVariants.{Single, Binary}
+use Rattle.sv_core.specs.declared.design.Stmt.{Stmt}
+use Rattle.sv_core.specs.declared.design.Stmt.TheVariants as S
+use Rattle.sv_core.specs.Value.{primary_width, primary_value, inverted_if, width_alone, value_at}
+use Rattle.sv_core.specs.Statements as Source
+use Rattle.sv_core.specs.Statements.{width_of, held_at, primary_signals, expr_signals}
+use Rattle.v_core.specs.Names.{Name}
+use Rattle.v_core.specs.Value.{Meaning, meaning}
+use Rattle.v_core.specs.Signals as T
+use Rattle.v_core.specs.Signals.{number_of, width_named, held_named}
+use Rattle.v_core.specs.Statements as Target
+use Rattle.v_core.specs.Statements.{doing_of}
+use Rattle.v_core.specs.declared.tree.VExpr.{VExpr}
+use Rattle.v_core.specs.declared.tree.VExpr.TheVariants.{Prim}
+use Rattle.v_core.specs.declared.tree.VPrim.TheVariants.{Name as PrimName}
+use Rattle.v_core.specs.declared.tree.VBranch.TheVariants.{Empty}
+use Rattle.v_core.specs.declared.tree.VStmt.{VStmt}
+use Rattle.v_core.specs.declared.tree.VStmt.TheVariants as V
 use Rattle.lower_design.specs.Shape.{name_of, trigger}
 use Rattle.lower_design.specs.Lowered.{lines, branch, lowered_expr, lowered_level, lowered_stmt, reads_trigger, triggered}
 use Rattle.lower_design.proofs.Induction.{Steps, by_statement}

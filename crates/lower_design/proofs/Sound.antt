@@ -8,17 +8,17 @@ use Rattle.row_machine.specs.Places.{places_of}
 use Rattle.row_machine.specs.Steps.{begun}
 use Rattle.row_machine.proofs.Basics.{followed_bit}
 use Rattle.row_machine.proofs.Laws as Laws
-use Rattle.sv_types.specs.declared.design.Signal.{Signal}
-use Rattle.sv_types.specs.declared.design.EdgeOn.{EdgeOn}
-use Rattle.sv_types.specs.declared.design.ProcessKind.{ProcessKind}
-use Rattle.sv_types.specs.declared.design.ProcessKind.TheVariants.{Continuous, Comb, Edges}
-use Rattle.sv_types.specs.declared.design.Process.{Process}
-use Rattle.sv_types.specs.declared.design.Stmt.{Stmt}
-use Rattle.sv_types.specs.declared.design.Design.{Design}
-use Rattle.sv_types.specs.Numbers.{holds, each_once}
-use Rattle.sv_types.specs.Statements.{width_of, doing}
-use Rattle.sv_types.specs.Machine as Source
-use Rattle.sv_types.specs.Machine.{places_of_signals, comb_process, combs_of, edge_process, edges_of}
+use Rattle.sv_core.specs.declared.design.Signal.{Signal}
+use Rattle.sv_core.specs.declared.design.EdgeOn.{EdgeOn}
+use Rattle.sv_core.specs.declared.design.ProcessKind.{ProcessKind}
+use Rattle.sv_core.specs.declared.design.ProcessKind.TheVariants.{Continuous, Comb, Edges}
+use Rattle.sv_core.specs.declared.design.Process.{Process}
+use Rattle.sv_core.specs.declared.design.Stmt.{Stmt}
+use Rattle.sv_core.specs.declared.design.Design.{Design}
+use Rattle.sv_core.specs.Numbers.{holds, each_once}
+use Rattle.sv_core.specs.Statements.{width_of, doing}
+use Rattle.sv_core.specs.Machine as Source
+use Rattle.sv_core.specs.Machine.{places_of_signals, comb_process, combs_of, edge_process, edges_of}
 use Rattle.lower_design.specs.Translatable.{Translatable, OneDriver, targets_by, targets_of, is_comb}
 use Rattle.lower_design.proofs.Names.{true_or_false}
 use Rattle.lower_design.proofs.Places.{has-append, has-signal, has-without, has-without-only}

@@ -6,23 +6,23 @@ use Rattle.std.proofs.lemmas.List.Sums.{sum_by-cons}
 use Rattle.row_machine.specs.Valuation.{Member}
 use Rattle.row_machine.proofs.Basics.{member-any}
 use Rattle.row_machine.proofs.Members.{append-member, member-front, member-back, member-map, map-member}
-use Rattle.sv_types.specs.declared.design.SignalKind.{SignalKind}
-use Rattle.sv_types.specs.declared.design.SignalKind.TheVariants.{InputNet, OutputVar, Variable}
-use Rattle.sv_types.specs.declared.design.Signal.{Signal}
-use Rattle.sv_types.specs.declared.design.Expr.{Expr}
-use Rattle.sv_types.specs.declared.design.EdgeOn.{EdgeOn}
-use Rattle.sv_types.specs.declared.design.ProcessKind.{ProcessKind}
-use Rattle.sv_types.specs.declared.design.ProcessKind.TheVariants.{Continuous, Comb, Edges}
-use Rattle.sv_types.specs.declared.design.Process.{Process}
-use Rattle.sv_types.specs.declared.design.Stmt.TheVariants as S
-use Rattle.sv_types.specs.declared.design.Design.{Design}
-use Rattle.sv_types.specs.Statements as SD
-use Rattle.sv_types.specs.Statements.{doing, stmt_doing, expr_signals}
-use Rattle.v_tree.specs.Names.{Name, distinct}
-use Rattle.v_tree.specs.Signals as T
-use Rattle.v_tree.specs.Signals.{Kind, net, variable, InitialValue, signals, processes, initials, items_of}
-use Rattle.v_tree.specs.Statements.{doing_of}
-use Rattle.v_tree.specs.Reading.{name_of as signal_name, declared_names, declared_ports, edge_names, process_names, AreOfKind, KeepsRules, InitialFits, WellFormedModule, WellFormed, FitsTop}
+use Rattle.sv_core.specs.declared.design.SignalKind.{SignalKind}
+use Rattle.sv_core.specs.declared.design.SignalKind.TheVariants.{InputNet, OutputVar, Variable}
+use Rattle.sv_core.specs.declared.design.Signal.{Signal}
+use Rattle.sv_core.specs.declared.design.Expr.{Expr}
+use Rattle.sv_core.specs.declared.design.EdgeOn.{EdgeOn}
+use Rattle.sv_core.specs.declared.design.ProcessKind.{ProcessKind}
+use Rattle.sv_core.specs.declared.design.ProcessKind.TheVariants.{Continuous, Comb, Edges}
+use Rattle.sv_core.specs.declared.design.Process.{Process}
+use Rattle.sv_core.specs.declared.design.Stmt.TheVariants as S
+use Rattle.sv_core.specs.declared.design.Design.{Design}
+use Rattle.sv_core.specs.Statements as SD
+use Rattle.sv_core.specs.Statements.{doing, stmt_doing, expr_signals}
+use Rattle.v_core.specs.Names.{Name, distinct}
+use Rattle.v_core.specs.Signals as T
+use Rattle.v_core.specs.Signals.{Kind, net, variable, InitialValue, signals, processes, initials, items_of}
+use Rattle.v_core.specs.Statements.{doing_of}
+use Rattle.v_core.specs.Reading.{name_of as signal_name, declared_names, declared_ports, edge_names, process_names, AreOfKind, KeepsRules, InitialFits, WellFormedModule, WellFormed, FitsTop}
 use Rattle.lower_design.specs.Translatable.{Translatable, KindFits, OneDriver, is_input, path_of, targets_by, targets_of}
 use Rattle.lower_design.specs.Shape.{name_of, path_or_nothing, trigger, is_port}
 use Rattle.lower_design.specs.Lowered.{branch, triggered, lowered_stmt, lowered_expr, lowered_edge, is_driven, drives, drives_in, drives_by, is_triggered, lowered_items, lowered_module, lowered}

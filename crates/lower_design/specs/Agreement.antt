@@ -3,10 +3,10 @@ use Rattle.std.specs.Prelude.{◌≡◌, ℕ, List, slice_get, Some}
 use Rattle.std.specs.List.{AllZip}
 use Rattle.row_machine.specs.Valuation.{Valuation}
 use Rattle.row_machine.specs.Places.{vector_at}
-use Rattle.sv_types.specs.declared.design.Signal.{Signal}
-use Rattle.sv_types.specs.declared.design.Design.{Design}
-use Rattle.v_tree.specs.declared.tree.VDesign.{VDesign}
-use Rattle.v_tree.specs.Signals.{signals, items_of, held_named}
+use Rattle.sv_core.specs.declared.design.Signal.{Signal}
+use Rattle.sv_core.specs.declared.design.Design.{Design}
+use Rattle.v_core.specs.declared.tree.VDesign.{VDesign}
+use Rattle.v_core.specs.Signals.{signals, items_of, held_named}
 
 -- Two valuations agree if each signal of the source holds what the signal of its printed name holds in the target.
 abbrev pub Agree : Design → VDesign → Valuation → Valuation → Type 0

@@ -5,34 +5,34 @@ use Rattle.std.specs.Option.{option_map}
 use Rattle.b4_core.specs.declared.bit.Bit4.TheVariants.{Zero}
 use Rattle.b4_core.specs.declared.operators.UnOp.TheVariants.{Not}
 use Rattle.row_machine.specs.Valuation.{Member}
-use Rattle.sv_types.specs.declared.design.SignalKind.{SignalKind}
-use Rattle.sv_types.specs.declared.design.SignalKind.TheVariants.{InputNet, OutputVar, Variable}
-use Rattle.sv_types.specs.declared.design.Signal.{Signal}
-use Rattle.sv_types.specs.declared.design.Primary.{Primary}
-use Rattle.sv_types.specs.declared.design.Primary.TheVariants as P
-use Rattle.sv_types.specs.declared.design.Operand.{Operand}
-use Rattle.sv_types.specs.declared.design.Expr.{Expr}
-use Rattle.sv_types.specs.declared.design.Expr.TheVariants as E
-use Rattle.sv_types.specs.declared.design.Stmt.{Stmt, Stmt-F, fold-Stmt, out-Stmt}
-use Rattle.sv_types.specs.declared.design.EdgeOn.{EdgeOn}
-use Rattle.sv_types.specs.declared.design.ProcessKind.{ProcessKind}
-use Rattle.sv_types.specs.declared.design.ProcessKind.TheVariants.{Continuous, Comb, Edges}
-use Rattle.sv_types.specs.declared.design.Process.{Process}
-use Rattle.sv_types.specs.declared.design.Design.{Design}
-use Rattle.v_tree.specs.declared.tree.VPrim.{VPrim}
-use Rattle.v_tree.specs.declared.tree.VPrim.TheVariants.{Number, Name, Paren}
-use Rattle.v_tree.specs.declared.tree.VExpr.{VExpr}
-use Rattle.v_tree.specs.declared.tree.VExpr.TheVariants.{Prim, Unary, Binary}
-use Rattle.v_tree.specs.declared.tree.VBranch.{VBranch}
-use Rattle.v_tree.specs.declared.tree.VBranch.TheVariants.{Statement, Empty}
-use Rattle.v_tree.specs.declared.tree.VStmt.{VStmt, VStmt-F, out-VStmt}
-use Rattle.v_tree.specs.declared.tree.VStmt.TheVariants.{Block, If, Assign}
-use Rattle.v_tree.specs.declared.tree.VEdge.{VEdge}
-use Rattle.v_tree.specs.declared.tree.VSensitivity.TheVariants.{Star, Edges as OnEdges}
-use Rattle.v_tree.specs.declared.tree.VItem.{VItem}
-use Rattle.v_tree.specs.declared.tree.VItem.TheVariants as I
-use Rattle.v_tree.specs.declared.tree.VModule.{VModule}
-use Rattle.v_tree.specs.declared.tree.VDesign.{VDesign}
+use Rattle.sv_core.specs.declared.design.SignalKind.{SignalKind}
+use Rattle.sv_core.specs.declared.design.SignalKind.TheVariants.{InputNet, OutputVar, Variable}
+use Rattle.sv_core.specs.declared.design.Signal.{Signal}
+use Rattle.sv_core.specs.declared.design.Primary.{Primary}
+use Rattle.sv_core.specs.declared.design.Primary.TheVariants as P
+use Rattle.sv_core.specs.declared.design.Operand.{Operand}
+use Rattle.sv_core.specs.declared.design.Expr.{Expr}
+use Rattle.sv_core.specs.declared.design.Expr.TheVariants as E
+use Rattle.sv_core.specs.declared.design.Stmt.{Stmt, Stmt-F, fold-Stmt, out-Stmt}
+use Rattle.sv_core.specs.declared.design.EdgeOn.{EdgeOn}
+use Rattle.sv_core.specs.declared.design.ProcessKind.{ProcessKind}
+use Rattle.sv_core.specs.declared.design.ProcessKind.TheVariants.{Continuous, Comb, Edges}
+use Rattle.sv_core.specs.declared.design.Process.{Process}
+use Rattle.sv_core.specs.declared.design.Design.{Design}
+use Rattle.v_core.specs.declared.tree.VPrim.{VPrim}
+use Rattle.v_core.specs.declared.tree.VPrim.TheVariants.{Number, Name, Paren}
+use Rattle.v_core.specs.declared.tree.VExpr.{VExpr}
+use Rattle.v_core.specs.declared.tree.VExpr.TheVariants.{Prim, Unary, Binary}
+use Rattle.v_core.specs.declared.tree.VBranch.{VBranch}
+use Rattle.v_core.specs.declared.tree.VBranch.TheVariants.{Statement, Empty}
+use Rattle.v_core.specs.declared.tree.VStmt.{VStmt, VStmt-F, out-VStmt}
+use Rattle.v_core.specs.declared.tree.VStmt.TheVariants.{Block, If, Assign}
+use Rattle.v_core.specs.declared.tree.VEdge.{VEdge}
+use Rattle.v_core.specs.declared.tree.VSensitivity.TheVariants.{Star, Edges as OnEdges}
+use Rattle.v_core.specs.declared.tree.VItem.{VItem}
+use Rattle.v_core.specs.declared.tree.VItem.TheVariants as I
+use Rattle.v_core.specs.declared.tree.VModule.{VModule}
+use Rattle.v_core.specs.declared.tree.VDesign.{VDesign}
 use Rattle.lower_design.specs.Translatable.{path_of, KindFits}
 use Rattle.lower_design.specs.Shape.{name_of, trigger, is_port}
 

@@ -5,12 +5,12 @@ use Rattle.row_machine.specs.Machine.{Started}
 use Rattle.row_machine.specs.Settle.{Settled}
 use Rattle.row_machine.specs.Trace.{HasTrace, OneTrace}
 use Rattle.row_machine.specs.Rounds.{Reaches}
-use Rattle.sv_types.specs.declared.design.Design.{Design}
-use Rattle.sv_types.specs.Machine as Source
-use Rattle.v_tree.specs.declared.tree.VDesign.{VDesign}
-use Rattle.v_tree.specs.Grammatical.{is_of_grammar}
-use Rattle.v_tree.specs.Machine as Target
-use Rattle.v_tree.specs.Reading.{WellFormed, FitsTop}
+use Rattle.sv_core.specs.declared.design.Design.{Design}
+use Rattle.sv_core.specs.Machine as Source
+use Rattle.v_core.specs.declared.tree.VDesign.{VDesign}
+use Rattle.v_core.specs.Grammatical.{is_of_grammar}
+use Rattle.v_core.specs.Machine as Target
+use Rattle.v_core.specs.Reading.{WellFormed, FitsTop}
 use Rattle.lower_design.specs.Agreement.{TracesAgree}
 use Rattle.lower_design.specs.Shape.{Shape}
 

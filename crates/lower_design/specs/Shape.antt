@@ -2,24 +2,24 @@
 use Rattle.std.specs.Prelude.{◌≡◌, ◌⊎◌, ℕ, Bool, true, false, List, [], ◌∷◌, ◌++◌, map, filter, codes, slice_get, Option, Some, None}
 use Rattle.std.specs.List.{AllZip}
 use Rattle.row_machine.specs.Valuation.{Member}
-use Rattle.sv_types.specs.declared.design.SignalKind.{SignalKind}
-use Rattle.sv_types.specs.declared.design.SignalKind.TheVariants.{InputNet, OutputVar, Variable}
-use Rattle.sv_types.specs.declared.design.Signal.{Signal}
-use Rattle.sv_types.specs.declared.design.EdgeOn.{EdgeOn}
-use Rattle.sv_types.specs.declared.design.ProcessKind.{ProcessKind}
-use Rattle.sv_types.specs.declared.design.ProcessKind.TheVariants.{Continuous, Comb, Edges}
-use Rattle.sv_types.specs.declared.design.Process.{Process as SourceProcess}
-use Rattle.sv_types.specs.declared.design.Stmt.{Stmt}
-use Rattle.sv_types.specs.declared.design.Design.{Design}
-use Rattle.sv_types.specs.Statements.{doing}
-use Rattle.v_tree.specs.Names.{Name}
-use Rattle.v_tree.specs.Value.{meaning}
-use Rattle.v_tree.specs.Signals.{Kind, input_net, Process, assign, star, on_edges, InitialValue, signals, processes, initials}
-use Rattle.v_tree.specs.Signals as Target
-use Rattle.v_tree.specs.Statements.{doing_of}
-use Rattle.v_tree.specs.declared.tree.VEdge.{VEdge}
-use Rattle.v_tree.specs.declared.tree.VModule.{VModule}
-use Rattle.v_tree.specs.declared.tree.VDesign.{VDesign}
+use Rattle.sv_core.specs.declared.design.SignalKind.{SignalKind}
+use Rattle.sv_core.specs.declared.design.SignalKind.TheVariants.{InputNet, OutputVar, Variable}
+use Rattle.sv_core.specs.declared.design.Signal.{Signal}
+use Rattle.sv_core.specs.declared.design.EdgeOn.{EdgeOn}
+use Rattle.sv_core.specs.declared.design.ProcessKind.{ProcessKind}
+use Rattle.sv_core.specs.declared.design.ProcessKind.TheVariants.{Continuous, Comb, Edges}
+use Rattle.sv_core.specs.declared.design.Process.{Process as SourceProcess}
+use Rattle.sv_core.specs.declared.design.Stmt.{Stmt}
+use Rattle.sv_core.specs.declared.design.Design.{Design}
+use Rattle.sv_core.specs.Statements.{doing}
+use Rattle.v_core.specs.Names.{Name}
+use Rattle.v_core.specs.Value.{meaning}
+use Rattle.v_core.specs.Signals.{Kind, input_net, Process, assign, star, on_edges, InitialValue, signals, processes, initials}
+use Rattle.v_core.specs.Signals as Target
+use Rattle.v_core.specs.Statements.{doing_of}
+use Rattle.v_core.specs.declared.tree.VEdge.{VEdge}
+use Rattle.v_core.specs.declared.tree.VModule.{VModule}
+use Rattle.v_core.specs.declared.tree.VDesign.{VDesign}
 use Rattle.lower_design.specs.Translatable.{is_helper_name, path_of}
 
 -- the printed name of a signal: its path inside its module

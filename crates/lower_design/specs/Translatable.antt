@@ -4,23 +4,23 @@ use Rattle.std.specs.Str.{bytes_eq}
 use Rattle.b4_core.specs.declared.operators.BinOp.{BinOp}
 use Rattle.b4_core.specs.declared.operators.BinOp.TheVariants.{And, Or, Xor, Xnor, Add, Sub, Mul, Div, Rem}
 use Rattle.row_machine.specs.Valuation.{Member}
-use Rattle.sv_types.specs.declared.design.SignalKind.{SignalKind}
-use Rattle.sv_types.specs.declared.design.SignalKind.TheVariants.{InputNet, OutputVar, Variable}
-use Rattle.sv_types.specs.declared.design.Signal.{Signal}
-use Rattle.sv_types.specs.declared.design.Primary.{Primary}
-use Rattle.sv_types.specs.declared.design.Primary.TheVariants as P
-use Rattle.sv_types.specs.declared.design.Expr.{Expr}
-use Rattle.sv_types.specs.declared.design.Expr.TheVariants.{Single, Binary}
-use Rattle.sv_types.specs.declared.design.EdgeOn.{EdgeOn}
-use Rattle.sv_types.specs.declared.design.ProcessKind.{ProcessKind}
-use Rattle.sv_types.specs.declared.design.ProcessKind.TheVariants.{Continuous, Comb, Edges}
-use Rattle.sv_types.specs.declared.design.Process.{Process}
-use Rattle.sv_types.specs.declared.design.Stmt.{Stmt, Stmt-F, fold-Stmt}
-use Rattle.sv_types.specs.declared.design.Stmt.TheVariants.{Assign}
-use Rattle.sv_types.specs.declared.design.Design.{Design}
-use Rattle.sv_types.specs.Statements.{doing}
-use Rattle.v_tree.specs.Names.{Name, distinct}
-use Rattle.v_tree.specs.Tokens.{is_simple}
+use Rattle.sv_core.specs.declared.design.SignalKind.{SignalKind}
+use Rattle.sv_core.specs.declared.design.SignalKind.TheVariants.{InputNet, OutputVar, Variable}
+use Rattle.sv_core.specs.declared.design.Signal.{Signal}
+use Rattle.sv_core.specs.declared.design.Primary.{Primary}
+use Rattle.sv_core.specs.declared.design.Primary.TheVariants as P
+use Rattle.sv_core.specs.declared.design.Expr.{Expr}
+use Rattle.sv_core.specs.declared.design.Expr.TheVariants.{Single, Binary}
+use Rattle.sv_core.specs.declared.design.EdgeOn.{EdgeOn}
+use Rattle.sv_core.specs.declared.design.ProcessKind.{ProcessKind}
+use Rattle.sv_core.specs.declared.design.ProcessKind.TheVariants.{Continuous, Comb, Edges}
+use Rattle.sv_core.specs.declared.design.Process.{Process}
+use Rattle.sv_core.specs.declared.design.Stmt.{Stmt, Stmt-F, fold-Stmt}
+use Rattle.sv_core.specs.declared.design.Stmt.TheVariants.{Assign}
+use Rattle.sv_core.specs.declared.design.Design.{Design}
+use Rattle.sv_core.specs.Statements.{doing}
+use Rattle.v_core.specs.Names.{Name, distinct}
+use Rattle.v_core.specs.Tokens.{is_simple}
 
 -- names that begin so are kept for what the lowering adds
 abbrev pub is_helper_name : Name → Bool

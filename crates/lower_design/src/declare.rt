@@ -2,17 +2,17 @@
 
 ghost use Rattle.std.specs.Prelude.{◌≡◌, ◌<◌, ◌||◌, ℕ, [], ◌∷◌, ◌++◌, map, filter, length, slice_index_or, replicate, false, IfOk};
 ghost use Rattle.std.specs.List.{list_any};
-ghost use Rattle.sv_types.specs.declared.design.Process.{Process as DesignProcess};
-ghost use Rattle.sv_types.specs.declared.design.Signal.{Signal as DesignSignal};
+ghost use Rattle.sv_core.specs.declared.design.Process.{Process as DesignProcess};
+ghost use Rattle.sv_core.specs.declared.design.Signal.{Signal as DesignSignal};
 ghost use Rattle.lower_design.specs.Shape.{is_port};
 ghost use Rattle.lower_design.specs.Lowered.{declaration_of, declarations, drives, is_driven, is_triggered, range_of, trigger_items};
 ghost use Rattle.lower_design.specs.Translatable.{path_of};
 
 use b4_core::{Bit4, Vec4};
 use std::alloc::{AllocError, Global};
+use sv_core::{Process, ProcessKind, Signal, SignalKind, Stmt};
 use sv_source::{Items, Text};
-use sv_types::{Process, ProcessKind, Signal, SignalKind, Stmt};
-use v_tree::{Names, VItem, VItems};
+use v_core::{Names, VItem, VItems};
 
 /// Whether a signal of the kind is a port.
 fn is_port(kind: SignalKind) -> bool

@@ -8,9 +8,9 @@ ghost use Rattle.lower_design.specs.Translatable.{Translatable};
 use crate::declare::{declare, declare_trigger, port_names};
 use crate::process::lower_process;
 use std::alloc::{AllocError, Global};
+use sv_core::{Design, Process, Signal};
 use sv_source::Items;
-use sv_types::{Design, Process, Signal};
-use v_tree::{VDesign, VItems, VModule};
+use v_core::{VDesign, VItems, VModule};
 
 /// Processes in order.
 fn lower_processes(

@@ -2,16 +2,16 @@
 
 ghost use Rattle.std.specs.Prelude.{◌≡◌, [], ◌∷◌, map, IfOk};
 ghost use Rattle.std.specs.Option.{option_map};
-ghost use Rattle.sv_types.specs.declared.design.ProcessKind.TheVariants.{Continuous};
+ghost use Rattle.sv_core.specs.declared.design.ProcessKind.TheVariants.{Continuous};
 ghost use Rattle.lower_design.specs.Shape.{name_of};
 ghost use Rattle.lower_design.specs.Translatable.{KindFits};
 ghost use Rattle.lower_design.specs.Lowered.{alone, branch, driver_of, lines, lowered_edge, lowered_expr, lowered_operand, lowered_primary, lowered_process, lowered_stmt, reads_trigger, triggered};
 
 use b4_core::{UnOp, Vec4};
 use std::alloc::{AllocError, Global};
+use sv_core::{EdgeOn, Expr, Operand, Primary, Process, ProcessKind, Signal, Stmt};
 use sv_source::{Boxed, Items, Text};
-use sv_types::{EdgeOn, Expr, Operand, Primary, Process, ProcessKind, Signal, Stmt};
-use v_tree::{VBranch, VEdge, VEdges, VExpr, VItem, VPrim, VSensitivity, VStmt, VStmts};
+use v_core::{VBranch, VEdge, VEdges, VExpr, VItem, VPrim, VSensitivity, VStmt, VStmts};
 
 /// The printed name of a signal, and no bytes where there is no such signal.
 fn name(alloc: Global, signals: &[Signal], number: u32) -> Result<Text, AllocError>

@@ -8,15 +8,15 @@ use Rattle.std.proofs.lemmas.List.{length-reverse}
 use Rattle.row_machine.specs.Valuation.{Member}
 use Rattle.sv_source.specs.declared.token.Spot.{Spot}
 use Rattle.sv_source.specs.declared.token.Token.{Token}
-use Rattle.sv_types.specs.declared.design.SignalKind.{SignalKind}
-use Rattle.sv_types.specs.declared.design.SignalKind.TheVariants.{InputNet, OutputVar, Variable}
-use Rattle.sv_types.specs.declared.design.Signal.{Signal}
-use Rattle.sv_types.specs.declared.design.Process.{Process}
-use Rattle.sv_types.specs.declared.design.Expr.{Expr as TypedExpr}
-use Rattle.sv_types.specs.Statements.{doing}
+use Rattle.sv_core.specs.declared.design.SignalKind.{SignalKind}
+use Rattle.sv_core.specs.declared.design.SignalKind.TheVariants.{InputNet, OutputVar, Variable}
+use Rattle.sv_core.specs.declared.design.Signal.{Signal}
+use Rattle.sv_core.specs.declared.design.Process.{Process}
+use Rattle.sv_core.specs.declared.design.Expr.{Expr as TypedExpr}
+use Rattle.sv_core.specs.Statements.{doing}
 use Rattle.lower_design.specs.Translatable.{is_helper_name, path_of, is_input, IsVariable, IsSignal, PrimaryFits, ExprFits, inside, targets_of, KindFits, is_comb, Translatable}
-use Rattle.v_tree.specs.Names.{among, distinct, position}
-use Rattle.v_tree.specs.Tokens.{is_simple}
+use Rattle.v_core.specs.Names.{among, distinct, position}
+use Rattle.v_core.specs.Tokens.{is_simple}
 use Rattle.sv2v_top.specs.declared.uses.Use.{Use}
 use Rattle.sv2v_top.specs.declared.uses.Literal.{Literal}
 use Rattle.sv2v_top.specs.declared.sv_tree.Direction.{Direction}

@@ -12,7 +12,7 @@ use Rattle.sv_preproc.proofs.Outcomes.{comes-expands}
 use Rattle.ll_engine.proofs.Laws.{one_answer}
 use Rattle.command_line.specs.declared.words.Asked.{Asked}
 use Rattle.sv2v_top.specs.declared.sv_tree.Module.{Module}
-use Rattle.sv_types.specs.declared.design.Design.{Design}
+use Rattle.sv_core.specs.declared.design.Design.{Design}
 use Rattle.sv2v_top.specs.source.Grammar.{source_rows, symbol_of}
 use Rattle.sv2v_top.specs.source.Building.{module_of, nesting_limit}
 use Rattle.sv2v_top.specs.source.Reading.{ReadsAs, SyntaxBreak, fails, nests, failing_rule, refusal_at}

@@ -7,11 +7,11 @@ use Rattle.std.specs.Option.{is_some, option_or}
 use Rattle.std.proofs.lemmas.Bool.Decides.{same_from_decides}
 use Rattle.std.proofs.lemmas.Slice.Eq.{bytes_eq-Decides}
 use Rattle.sv_source.specs.declared.token.Spot.{Spot}
-use Rattle.sv_types.specs.declared.design.SignalKind.{SignalKind}
-use Rattle.sv_types.specs.declared.design.SignalKind.TheVariants.{InputNet, OutputVar, Variable}
-use Rattle.sv_types.specs.declared.design.Signal.{Signal}
+use Rattle.sv_core.specs.declared.design.SignalKind.{SignalKind}
+use Rattle.sv_core.specs.declared.design.SignalKind.TheVariants.{InputNet, OutputVar, Variable}
+use Rattle.sv_core.specs.declared.design.Signal.{Signal}
 use Rattle.lower_design.specs.Translatable.{is_helper_name}
-use Rattle.v_tree.specs.Names.{among}
+use Rattle.v_core.specs.Names.{among}
 use Rattle.sv2v_top.specs.declared.uses.Use.{Use}
 use Rattle.sv2v_top.specs.declared.uses.Role.{Role}
 use Rattle.sv2v_top.specs.declared.uses.Role.TheVariants.{Target, Read, Clock}

@@ -10,7 +10,7 @@ use Rattle.sv_source.specs.declared.refusal.Fail.{Fail}
 use Rattle.sv_source.specs.declared.refusal.Fail.TheVariants.{Memory, Refused}
 use Rattle.sv_macro.specs.Tokens.{is_name_kind}
 use Rattle.lower_design.specs.Translatable.{Translatable}
-use Rattle.v_tree.specs.Tokens.{is_simple}
+use Rattle.v_core.specs.Tokens.{is_simple}
 use Rattle.sv2v_top.specs.declared.sv_tree.Module.{Module}
 use Rattle.sv2v_top.specs.source.Elaboration.{design_of}
 use Rattle.sv2v_top.specs.source.Answers.{refusal_of}

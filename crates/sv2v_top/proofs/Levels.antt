@@ -1,7 +1,7 @@
 -- One level of a statement at a time.
 use Rattle.std.proofs.Common.{◌≡◌, ℕ, Bool, List, [], ◌∷◌, map, Option, Some, None, sym, ap, ◌∙◌, append_assoc}
-use Rattle.sv_types.specs.declared.design.Stmt.{Stmt as Typed}
-use Rattle.sv_types.specs.declared.design.Stmt.TheVariants as D
+use Rattle.sv_core.specs.declared.design.Stmt.{Stmt as Typed}
+use Rattle.sv_core.specs.declared.design.Stmt.TheVariants as D
 use Rattle.sv2v_top.specs.declared.sv_tree.Expr.{Expr}
 use Rattle.sv2v_top.specs.declared.sv_tree.Assign.{Assign}
 use Rattle.sv2v_top.specs.declared.sv_tree.Stmt.{Stmt, Stmt-F, fold-Stmt, fold-roll-Stmt}

@@ -2,9 +2,9 @@
 use Rattle.std.proofs.Common.{◌≡◌, ℕ, suc, max, Bool, true, false, cond, List, [], ◌∷◌, ◌++◌, map, flat_map, Some, None, refl, sym, ap, subst, ◌∙◌, inl, inr, append_assoc}
 use Rattle.row_machine.specs.Valuation.{Member}
 use Rattle.sv_source.specs.declared.token.Spot.{Spot}
-use Rattle.sv_types.specs.declared.design.Stmt.{Stmt as Typed}
-use Rattle.sv_types.specs.Statements.{Doing, idle, primary_signals, expr_signals, stmt_doing, doing}
-use Rattle.sv_types.specs.Statements as Meaning
+use Rattle.sv_core.specs.declared.design.Stmt.{Stmt as Typed}
+use Rattle.sv_core.specs.Statements.{Doing, idle, primary_signals, expr_signals, stmt_doing, doing}
+use Rattle.sv_core.specs.Statements as Meaning
 use Rattle.lower_design.proofs.Levels.{block-level, alone-level, either-level, assign-level}
 use Rattle.lower_design.specs.Translatable.{Inside, all_exprs, deepest, stmt_inside, inside}
 use Rattle.sv2v_top.specs.declared.uses.Use.{Use}
@@ -20,7 +20,7 @@ use Rattle.sv2v_top.specs.declared.sv_tree.Stmt.{Stmt, Stmt-F, ind-Stmt, roll-St
 use Rattle.sv2v_top.specs.declared.sv_tree.Stmt.TheVariants.{Block, If, rolls-Block, rolls-If, rolls-Assign}
 use Rattle.sv2v_top.specs.declared.sv_tree.Stmt.TheVariants as T
 use Rattle.sv2v_top.specs.source.Statements.{primary_uses, expr_uses, expr_literals, Parts, none, sequence, choice, assignment, parts, if_target, targets_in, if_read, reads_in}
-use Rattle.v_tree.specs.Names.{position}
+use Rattle.v_core.specs.Names.{position}
 use Rattle.sv2v_top.specs.source.Elaboration.{primary_of, expr_of, assign_of, stmt_of}
 use Rattle.sv2v_top.proofs.Names.{append-nil, member-unmap}
 use Rattle.sv2v_top.proofs.Checks.{map-append}

@@ -8,12 +8,12 @@ use Rattle.sv_source.specs.declared.refusal.Refusal.{Refusal}
 use Rattle.sv_source.specs.declared.refusal.Fail.{Fail}
 use Rattle.sv_source.specs.declared.refusal.Fail.TheVariants.{Memory, Refused}
 use Rattle.sv2v_top.specs.declared.sv_tree.Module.{Module}
-use Rattle.sv_types.specs.declared.design.Design.{Design}
-use Rattle.v_tree.specs.declared.tree.VDesign.{VDesign}
+use Rattle.sv_core.specs.declared.design.Design.{Design}
+use Rattle.v_core.specs.declared.tree.VDesign.{VDesign}
 use Rattle.sv2v_top.specs.source.Reading.{ReadsAs, SyntaxBreak}
 use Rattle.sv2v_top.specs.source.Elaboration.{design_of}
 use Rattle.sv2v_top.specs.source.Answers.{refusal_of}
-use Rattle.v_tree.specs.Reading.{VReads}
+use Rattle.v_core.specs.Reading.{VReads}
 use Rattle.lower_design.specs.Lowering.{Lowers}
 
 -- the tokens are accepted, and elaborate to this design

@@ -8,10 +8,10 @@ use crate::literals::bits;
 use crate::package_scope::Names;
 use crate::sv_tree;
 use std::alloc::{AllocError, Global};
-use sv_source::{Boxed, Items, Text};
-use sv_types::{
+use sv_core::{
     EdgeList, EdgeOn, Expr, Operand, Primary, Process, ProcessKind, Processes, Stmt, Stmts,
 };
+use sv_source::{Boxed, Items, Text};
 
 /// The signal that a name stands for, or the bits of a literal.
 fn primary(alloc: Global, names: &Names, primary: &sv_tree::Primary) -> Result<Primary, AllocError>

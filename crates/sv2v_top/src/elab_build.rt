@@ -12,7 +12,7 @@ ghost use Rattle.sv2v_top.specs.source.Rules.{inputs, first_is_directed, header_
 ghost use Rattle.sv2v_top.specs.source.Lookup.{Numbers};
 ghost use Rattle.sv2v_top.specs.source.Answers.{stage_refusal, ElaborationGives};
 ghost use Rattle.lower_design.specs.Translatable.{is_helper_name};
-ghost use Rattle.sv_types.specs.declared.design.Signal.{Signal as DesignSignal};
+ghost use Rattle.sv_core.specs.declared.design.Signal.{Signal as DesignSignal};
 
 use crate::design::processes;
 use crate::package_scope::Names;
@@ -21,8 +21,8 @@ use names::signal_table;
 use rules::{Tables, comb_table, items_are_built, items_fit, process_break};
 use signals::{fits_in_bits, input_table, module_ranges_are_plain, signals};
 use std::alloc::{AllocError, Global};
+use sv_core::{Design, Signal};
 use sv_source::{Fail, Place, Refusal, Text};
-use sv_types::{Design, Signal};
 
 /// Whether a name begins as those of helpers do.
 fn is_helper(name: &Text) -> bool

@@ -9,7 +9,7 @@ use crate::sv_build::read_source;
 use lower_design::lower;
 use std::alloc::Global;
 use sv_source::{Fail, Place, Text, Token};
-use v_writer::write_text;
+use v_core_writer::write_text;
 
 /// The translation of source tokens, which end before a place, by the top's name. Where they are refused, their first
 /// break.

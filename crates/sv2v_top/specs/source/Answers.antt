@@ -6,11 +6,11 @@ use Rattle.sv_source.specs.declared.refusal.Refusal.{Refusal}
 use Rattle.sv_source.specs.declared.refusal.Fail.{Fail}
 use Rattle.sv_source.specs.declared.refusal.Fail.TheVariants.{Memory, Refused}
 use Rattle.sv2v_top.specs.declared.uses.Use.{Use}
-use Rattle.v_tree.specs.Names.{among}
+use Rattle.v_core.specs.Names.{among}
 use Rattle.sv2v_top.specs.source.Statements.{targets}
 use Rattle.sv2v_top.specs.declared.sv_tree.Item.{Item}
 use Rattle.sv2v_top.specs.declared.sv_tree.Module.{Module}
-use Rattle.sv_types.specs.declared.design.Design.{Design}
+use Rattle.sv_core.specs.declared.design.Design.{Design}
 use Rattle.sv2v_top.specs.source.Names.{first_undeclared, signal_names}
 use Rattle.sv2v_top.specs.source.Lookup.{Numbers}
 use Rattle.sv2v_top.specs.declared.package_scope.Names.{Names}

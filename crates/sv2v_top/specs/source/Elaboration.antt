@@ -10,21 +10,21 @@ use Rattle.sv2v_top.specs.declared.sv_tree.Stmt as SourceStmt
 use Rattle.sv2v_top.specs.declared.sv_tree.Item.{Item}
 use Rattle.sv2v_top.specs.declared.sv_tree.Item.TheVariants as I
 use Rattle.sv2v_top.specs.declared.sv_tree.Module.{Module}
-use Rattle.sv_types.specs.declared.design.Primary.{Primary}
-use Rattle.sv_types.specs.declared.design.Primary.TheVariants as P
-use Rattle.sv_types.specs.declared.design.Operand.{Operand}
-use Rattle.sv_types.specs.declared.design.Expr.{Expr}
-use Rattle.sv_types.specs.declared.design.Expr.TheVariants as D
-use Rattle.sv_types.specs.declared.design.Stmt.{Stmt}
-use Rattle.sv_types.specs.declared.design.Stmt.TheVariants as T
-use Rattle.sv_types.specs.declared.design.EdgeOn.{EdgeOn}
-use Rattle.sv_types.specs.declared.design.ProcessKind.{ProcessKind}
-use Rattle.sv_types.specs.declared.design.ProcessKind.TheVariants.{Continuous, Comb, Edges}
-use Rattle.sv_types.specs.declared.design.Process.{Process}
-use Rattle.sv_types.specs.declared.design.Design.{Design}
+use Rattle.sv_core.specs.declared.design.Primary.{Primary}
+use Rattle.sv_core.specs.declared.design.Primary.TheVariants as P
+use Rattle.sv_core.specs.declared.design.Operand.{Operand}
+use Rattle.sv_core.specs.declared.design.Expr.{Expr}
+use Rattle.sv_core.specs.declared.design.Expr.TheVariants as D
+use Rattle.sv_core.specs.declared.design.Stmt.{Stmt}
+use Rattle.sv_core.specs.declared.design.Stmt.TheVariants as T
+use Rattle.sv_core.specs.declared.design.EdgeOn.{EdgeOn}
+use Rattle.sv_core.specs.declared.design.ProcessKind.{ProcessKind}
+use Rattle.sv_core.specs.declared.design.ProcessKind.TheVariants.{Continuous, Comb, Edges}
+use Rattle.sv_core.specs.declared.design.Process.{Process}
+use Rattle.sv_core.specs.declared.design.Design.{Design}
 use Rattle.sv2v_top.specs.source.Literals.{literal_bits}
 use Rattle.sv2v_top.specs.source.Names.{declared, signal_names}
-use Rattle.v_tree.specs.Names.{position}
+use Rattle.v_core.specs.Names.{position}
 use Rattle.sv2v_top.specs.source.Rules.{signal_of}
 
 -- a name stands for the signal of that name, by its number

@@ -3,8 +3,8 @@ use Rattle.std.specs.Prelude.{ℕ, Bool, not, ◌||◌, List, [], ◌∷◌, ◌
 use Rattle.std.specs.Option.{option_or}
 use Rattle.std.specs.Str.{bytes_eq}
 use Rattle.sv_source.specs.declared.token.Spot.{Spot}
-use Rattle.sv_types.specs.declared.design.SignalKind.{SignalKind}
-use Rattle.sv_types.specs.declared.design.SignalKind.TheVariants.{InputNet, OutputVar, Variable}
+use Rattle.sv_core.specs.declared.design.SignalKind.{SignalKind}
+use Rattle.sv_core.specs.declared.design.SignalKind.TheVariants.{InputNet, OutputVar, Variable}
 use Rattle.sv2v_top.specs.declared.sv_tree.Direction.{Direction}
 use Rattle.sv2v_top.specs.declared.sv_tree.Direction.TheVariants.{Input, Output}
 use Rattle.sv2v_top.specs.declared.sv_tree.Range.{Range}
@@ -16,7 +16,7 @@ use Rattle.sv2v_top.specs.declared.sv_tree.Item.TheVariants as I
 use Rattle.sv2v_top.specs.declared.sv_tree.Module.{Module}
 use Rattle.sv2v_top.specs.declared.uses.Use.{Use}
 use Rattle.sv2v_top.specs.source.Statements.{item_parts}
-use Rattle.v_tree.specs.Names.{among}
+use Rattle.v_core.specs.Names.{among}
 
 -- a declared signal, with the kind and the dimension that it has
 pub record Declared : Type 0 where

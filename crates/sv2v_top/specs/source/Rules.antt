@@ -6,9 +6,9 @@ use Rattle.std.specs.Option.{option_or}
 use Rattle.std.specs.Str.{bytes_eq}
 use Rattle.sv_source.specs.declared.token.Spot.{Spot}
 use Rattle.sv_source.specs.declared.refusal.Refusal.{Refusal}
-use Rattle.sv_types.specs.declared.design.Signal.{Signal}
-use Rattle.sv_types.specs.declared.design.SignalKind.{SignalKind}
-use Rattle.sv_types.specs.declared.design.SignalKind.TheVariants.{InputNet, OutputVar, Variable}
+use Rattle.sv_core.specs.declared.design.Signal.{Signal}
+use Rattle.sv_core.specs.declared.design.SignalKind.{SignalKind}
+use Rattle.sv_core.specs.declared.design.SignalKind.TheVariants.{InputNet, OutputVar, Variable}
 use Rattle.sv2v_top.specs.declared.sv_tree.Range.{Range}
 use Rattle.sv2v_top.specs.declared.sv_tree.Port.{Port}
 use Rattle.sv2v_top.specs.declared.sv_tree.Item.{Item}
@@ -19,7 +19,7 @@ use Rattle.sv2v_top.specs.source.Names.{Declared, declared, signal_names}
 use Rattle.sv2v_top.specs.declared.uses.Use.{Use}
 use Rattle.sv2v_top.specs.declared.uses.Literal.{Literal}
 use Rattle.sv2v_top.specs.source.Statements.{word_of, item_parts, targets, reads}
-use Rattle.v_tree.specs.Names.{among, distinct, position}
+use Rattle.v_core.specs.Names.{among, distinct, position}
 use Rattle.lower_design.specs.Translatable.{is_helper_name}
 
 -- Names. The first port has a direction, the module is the top, no name is declared twice, and none is a helper's.

@@ -14,7 +14,7 @@ use Rattle.sv2v_top.specs.declared.sv_tree.Assign.{Assign}
 use Rattle.sv2v_top.specs.declared.sv_tree.Stmt.{Stmt, Stmt-F, fold-Stmt}
 use Rattle.sv2v_top.specs.declared.sv_tree.Item.{Item}
 use Rattle.sv2v_top.specs.declared.sv_tree.Item.TheVariants as I
-use Rattle.v_tree.specs.Names.{among}
+use Rattle.v_core.specs.Names.{among}
 
 abbrev pub word_of : Spot → List ℕ
 word_of s = s.word

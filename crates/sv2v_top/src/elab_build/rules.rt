@@ -17,8 +17,8 @@ use crate::package_scope::Names;
 use crate::sv_tree::{Item, Module, Stmt};
 use crate::uses::{Found, Literal, Role, Use, find_in, has_at_most};
 use std::alloc::{AllocError, Global};
+use sv_core::{Signal, SignalKind};
 use sv_source::{Items, Refusal, Spot, Text};
-use sv_types::{Signal, SignalKind};
 
 /// Names in order.
 type Texts = Items<Text>;

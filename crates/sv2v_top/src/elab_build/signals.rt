@@ -2,7 +2,7 @@
 
 ghost use Rattle.std.specs.Prelude.{◌≡◌, ◌≤◌, ◌^◌, ◌++◌, ◌&&◌, map, sum, nat_le, [], List, ℕ, Some, None, true, false, IfOk, OnOk, MatchOption};
 ghost use Rattle.std.specs.List.{list_all};
-ghost use Rattle.sv_types.specs.declared.design.Signal.{Signal as DesignSignal};
+ghost use Rattle.sv_core.specs.declared.design.Signal.{Signal as DesignSignal};
 ghost use Rattle.sv2v_top.specs.declared.sv_tree.Direction.TheVariants.{Input};
 ghost use Rattle.sv2v_top.specs.source.Names.{kind_of, range_after, ports_from, variables, declared, declared_by, declared_variable};
 ghost use Rattle.sv2v_top.specs.source.Rules.{range_holds, range_width, is_plain_range, ranges_hold, ranges_are_plain, signal_of, if_input, input_paths};
@@ -12,8 +12,8 @@ use crate::literals::decimal_up_to;
 use crate::package_scope::Names;
 use crate::sv_tree::{Declaration, Direction, Item, Module, Port, Range};
 use std::alloc::{AllocError, Global};
+use sv_core::{Signal, SignalKind, Signals};
 use sv_source::Items;
-use sv_types::{Signal, SignalKind, Signals};
 
 /// The greatest bound of a range.
 const BOUND_LIMIT: u32 = (1 << 31) - 1;

@@ -1,6 +1,6 @@
 use Rattle.std.proofs.Common.{◌≡◌, drop}
 use Rattle.std.specs.List.{list_any}
-use Rattle.sv_types.specs.declared.design.Process.{Process}
+use Rattle.sv_core.specs.declared.design.Process.{Process}
 use Rattle.lower_design.specs.Lowered.{is_triggered}
 use Rattle.lower_design.proofs.declare.needs_trigger.Given as goal
 

@@ -1,5 +1,5 @@
 use Rattle.std.proofs.Common.{◌≡◌, ◌++◌, map, filter, drop}
-use Rattle.sv_types.specs.declared.design.Signal.{Signal}
+use Rattle.sv_core.specs.declared.design.Signal.{Signal}
 use Rattle.lower_design.specs.Shape.{is_port}
 use Rattle.lower_design.specs.Translatable.{path_of}
 use Rattle.lower_design.proofs.declare.port_names.Given as goal

@@ -1,6 +1,6 @@
 use Rattle.std.proofs.Common.{◌≡◌, true, false, List, map, Option, None, sym, ap, subst, ◌∙◌, arith}
 use Rattle.std.specs.Prelude.{MatchOption}
-use Rattle.sv_types.specs.declared.design.Signal.{Signal}
+use Rattle.sv_core.specs.declared.design.Signal.{Signal}
 use Rattle.sv2v_top.specs.source.Names.{declared, signal_names, first_undeclared}
 use Rattle.sv2v_top.specs.source.Lookup.{Numbers}
 use Rattle.sv2v_top.specs.source.Rules.{input_paths, signal_of, ranges_hold, elaborates}

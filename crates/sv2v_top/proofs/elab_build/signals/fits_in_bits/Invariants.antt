@@ -1,5 +1,5 @@
 use Rattle.std.proofs.Common.{◌≡◌, ◌+◌, ◌≤◌, ◌^◌, map, drop, sum}
-use Rattle.sv_types.specs.declared.design.Signal.{Signal}
+use Rattle.sv_core.specs.declared.design.Signal.{Signal}
 use Rattle.sv2v_top.proofs.elab_build.signals.fits_in_bits.Given as goal
 
 abbrev pub invariant-loop-signal : goal.invariant-loop-signal
