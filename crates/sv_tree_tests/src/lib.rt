@@ -74,6 +74,12 @@ mod tests {
                 assign y = '{1, a: 2, default: 3} == '{default: 0, b: 1} || '{2 {1, 2}}; assign y = logic [3:0]'(x) + int + bit signed'{a};
                 assign y = signed'(a) + unsigned'(b) + $bits(int) + $clog2(p::t) + $signed(a) + $unsigned(a[1]);
                 assign y = f() + p::f(a, b)'(c) + a.b[1].c[3:0][1-:2] + p::t'(d) + t[1:0]'{a}; endmodule",
+        "task static t(input int a, output logic [3:0] b, c, inout p::s d); b = a; return; endtask : t
+                package p; task u; ; endtask task automatic v(); endtask endpackage function void f(output x); endfunction
+                module m; task w(a); endtask always_comb begin t(a, b + 1); p::u(); p::q r; f(); x.y = 1; end
+                always_comb v(1); always_comb p::w(); always_latch if (g) q = d; endmodule",
+        "module m; assign y = {<<{a}} + {>> 4 {a, b}} + {<<byte{{<<{c}}}}; assign {<< p::t {a, {>>{b}}}} = c;
+                always_comb begin {>>int unsigned{x}} = y; {<<W{x, y[1]}} <= z; x = {<<(N + 1){y}}; end endmodule",
     ];
 
     #[test]
@@ -169,6 +175,21 @@ mod tests {
         ("module m; assign y = '{}; endmodule", "no text at 8"),
         ("module m; always_comb x; endmodule", "no text at 5"),
         ("module m; always_comb a + b; endmodule", "no text at 5"),
+        // a task has no type, calls and streams are closed
+        ("task int t; endtask", "no text at 1"),
+        ("task t; wire w; endtask", "no text at 3"),
+        ("module m; always_comb t(a; endmodule", "no text at 7"),
+        ("module m; always_comb p::t = 1; endmodule", "no text at 7"),
+        (
+            "module m; always_comb begin t() = 1; end endmodule",
+            "no text at 8",
+        ),
+        ("module m; assign y = {<<{a}; endmodule", "no text at 11"),
+        ("module m; assign y = {<<<{a}}; endmodule", "no text at 7"),
+        (
+            "module m; assign {<<{a + b}} = y; endmodule",
+            "no text at 8",
+        ),
         // declarations of wires are no items of a block
         (
             "module m; always_comb begin wire a; end endmodule",
@@ -200,6 +221,8 @@ mod tests {
         ("module m; assign y = ~ ~ a; endmodule", 2, "deep at 7"),
         ("module m; assign y = ~ ~ a; endmodule", 3, "reads"),
         ("module m; assign {{a}} = b; endmodule", 1, "deep at 5"),
+        ("module m; assign {<<{{a}}} = b; endmodule", 2, "reads"),
+        ("module m; assign {<<{{a}}} = b; endmodule", 1, "deep at 7"),
         (
             "module m; always_comb begin a = b; end endmodule",
             3,
