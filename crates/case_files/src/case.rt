@@ -74,6 +74,7 @@ impl Case {
         match key {
             "word" => self.add_word(alloc, rest),
             "words" => self.add_words(alloc, rest),
+            "more" => self.add_line(rest),
             "file" => self.add_file(alloc, rest),
             "byte" => self.add_numbers(rest),
             "repeat" => self.add_often(rest),
@@ -94,6 +95,18 @@ impl Case {
             self.words.push(String::from_str(alloc, word)?)?;
         }
         Ok(true)
+    }
+
+    /// Adds a newline and this text to the last word.
+    fn add_line(&mut self, rest: &str) -> Result<bool, AllocError> {
+        match self.words.last_mut() {
+            Some(word) => {
+                word.push('\n')?;
+                word.push_str(rest)?;
+                Ok(true)
+            }
+            None => Ok(false),
+        }
     }
 
     fn add_file(&mut self, alloc: Global, path: &str) -> Result<bool, AllocError> {

@@ -6,6 +6,7 @@
 //! |---|---|
 //! | `words A B ..` | words, with one space between |
 //! | `word A` | one word, the rest of the line, spaces and all |
+//! | `more TEXT` | a newline and this text, at the end of the last word |
 //! | `file PATH` | a file, whose text is in the lines behind it |
 //! | `\|TEXT` | a line of the last file, with its newline |
 //! | `\TEXT` | bytes of the last file, without a newline |
