@@ -31,7 +31,8 @@ fn put_line<E: Sink>(stop: &Stop, err: &mut E) -> Put
 
 /// The status of a stop.
 fn stop_status(stop: &Stop) -> Status
-    ensures { result ≡ status_of stop.now }
+    ensures is { result ≡ status_of stop.now }
+    ensures undone { result ≡ Done → ⊥ }
 {
     match stop {
         Stop::Usage => Status::Usage,
@@ -46,6 +47,7 @@ fn say<E: Sink>(stop: &Stop, err: &mut E) -> Status
     ensures says { Says (record { before = E.written err.old; after = E.written err.new; faults_before = E.faults err.old; faults_after = E.faults err.new }) (line_of stop.now) (status_of stop.now) result }
     ensures later { E.faults err.old ≤ E.faults err.new }
     ensures level { LevelUnless SinkFault result (E.faults err.old) (E.faults err.new) }
+    ensures undone { result ≡ Done → ⊥ }
 {
     match put_line(stop, err) {
         Put::Ok => stop_status(stop),
