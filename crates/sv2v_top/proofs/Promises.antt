@@ -142,7 +142,8 @@ of-run {words = words} {told = told} {before = before} {after = after} {out = ou
 
 -- a count that rose did so in the call, or stands at its last value
 pub no-rise : (before now : ℕ) → Rose before now → NoFault before now → ⊥
-no-rise before now rose calm = (let level = calm.level in let below = calm.below in grind arith)
+no-rise before now (inl rose) calm = absurd (omega (arith, calm.level))
+no-rise before now (inr last) calm = absurd (omega (arith, calm.below, last))
 
 module _ (c : Call) (status : Status) where
   -- a translation of files that are told accepts them

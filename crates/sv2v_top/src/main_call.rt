@@ -1,10 +1,10 @@
 //! The top call: from words, files and sinks to a status.
 
 ghost use Rattle.std.specs.Prelude.{◌≡◌, ◌≤◌, map, string_bytes};
-ghost use Rattle.sv2v_top.specs.Endings.{Says, Writes, Runs, line_of, status_of};
+ghost use Rattle.sv2v_top.specs.Endings.{Says, Writes, Runs, LevelUnless, line_of, status_of};
 ghost use Rattle.sv2v_top.specs.Promises.{call, sink, OnDone, OnRefused, OnUsage, OnMemory, OnFileFault, OnSinkFault, UsageComes, DoneComes, RefusalComes, NeverUnsettled};
 ghost use Rattle.sv_source.specs.Putting.{Gains, PutCause};
-ghost use Rattle.sv2v_top.specs.declared.status.Status.TheVariants.{SinkFault};
+ghost use Rattle.sv2v_top.specs.declared.status.Status.TheVariants.{Done, SinkFault};
 
 use crate::run::{Stop, run};
 use crate::status::Status;
@@ -31,7 +31,8 @@ fn put_line<E: Sink>(stop: &Stop, err: &mut E) -> Put
 
 /// The status of a stop.
 fn stop_status(stop: &Stop) -> Status
-    ensures { result ≡ status_of stop.now }
+    ensures is { result ≡ status_of stop.now }
+    ensures undone { result ≡ Done → ⊥ }
 {
     match stop {
         Stop::Usage => Status::Usage,
@@ -45,6 +46,8 @@ fn stop_status(stop: &Stop) -> Status
 fn say<E: Sink>(stop: &Stop, err: &mut E) -> Status
     ensures says { Says (record { before = E.written err.old; after = E.written err.new; faults_before = E.faults err.old; faults_after = E.faults err.new }) (line_of stop.now) (status_of stop.now) result }
     ensures later { E.faults err.old ≤ E.faults err.new }
+    ensures level { LevelUnless SinkFault result (E.faults err.old) (E.faults err.new) }
+    ensures undone { result ≡ Done → ⊥ }
 {
     match put_line(stop, err) {
         Put::Ok => stop_status(stop),
@@ -57,6 +60,8 @@ fn write_out<O: Sink, E: Sink>(text: &Text, out: &mut O, err: &mut E) -> Status
     ensures writes { Writes (record { before = O.written out.old; after = O.written out.new; faults_before = O.faults out.old; faults_after = O.faults out.new }) (record { before = E.written err.old; after = E.written err.new; faults_before = E.faults err.old; faults_after = E.faults err.new }) text.now result }
     ensures out_later { O.faults out.old ≤ O.faults out.new }
     ensures err_later { E.faults err.old ≤ E.faults err.new }
+    ensures out_level { LevelUnless SinkFault result (O.faults out.old) (O.faults out.new) }
+    ensures err_level { LevelUnless SinkFault result (E.faults err.old) (E.faults err.new) }
 {
     match put_all(out, text.as_bytes()) {
         Put::Ok => Status::Done,
@@ -79,6 +84,9 @@ fn answer<F: Files, O: Sink, E: Sink>(
     ensures files_later { F.faults files.old ≤ F.faults files.new }
     ensures out_later { O.faults out.old ≤ O.faults out.new }
     ensures err_later { E.faults err.old ≤ E.faults err.new }
+    ensures out_level { LevelUnless SinkFault result (O.faults out.old) (O.faults out.new) }
+    ensures err_level { LevelUnless SinkFault result (E.faults err.old) (E.faults err.new) }
+    ensures files_level { result ≡ Done → F.faults files.new ≡ F.faults files.old }
 {
     match run(alloc, words, files) {
         Ok(text) => write_out(&text, out, err),
@@ -121,6 +129,11 @@ pub fn translate_main<F: Files, O: Sink, E: Sink>(
     ensures files_later { F.faults files.old ≤ F.faults files.new }
     ensures out_later { O.faults out.old ≤ O.faults out.new }
     ensures err_later { E.faults err.old ≤ E.faults err.new }
+    // Where it doesn't answer `SinkFault`, the counts of both sinks are as they were.
+    ensures out_level { LevelUnless SinkFault result (O.faults out.old) (O.faults out.new) }
+    ensures err_level { LevelUnless SinkFault result (E.faults err.old) (E.faults err.new) }
+    // Where it answers `Done`, the count of the files is as it was.
+    ensures files_level { result ≡ Done → F.faults files.new ≡ F.faults files.old }
 {
     answer(alloc, words, files, out, err)
 }

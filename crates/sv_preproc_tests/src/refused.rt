@@ -82,6 +82,23 @@ const CASES: &[(&str, &str)] = &[
     ("`define M(a) `M(a)\n`M(1)", "p.sv:2:1: E204 `M\n"),
     ("x `endif", "p.sv:1:3: E205 `endif\n"),
     ("`elsif A", "p.sv:1:1: E205 `elsif\n"),
+    ("`elsif", "p.sv:1:1: E201 `elsif\n"),
+    (
+        "`ifdef A\n`ifdef 1\n`endif\n`endif",
+        "p.sv:2:1: E201 `ifdef\n",
+    ),
+    (
+        "`ifdef A\n`ifndef\n`endif\n`endif",
+        "p.sv:2:1: E201 `ifndef\n",
+    ),
+    (
+        "`ifdef A\n`ifdef B\n`elsif `C\n`endif\n`endif",
+        "p.sv:3:1: E201 `elsif\n",
+    ),
+    ("`ifndef A\n`elsif 1\n`endif", "p.sv:2:1: E201 `elsif\n"),
+    ("`ifdef A\n`else\n`elsif\n`endif", "p.sv:3:1: E201 `elsif\n"),
+    ("`define A(*) b\n", "p.sv:1:10: E203 (*)\n"),
+    ("`define A(* b *) c\n", "p.sv:1:10: E203 (*\n"),
     ("`ifdef A\n`else\n`else\n`endif", "p.sv:3:1: E205 `else\n"),
     (
         "`ifdef A\n`else\n`elsif B\n`endif",
