@@ -1,6 +1,6 @@
 -- A module that is refused nothing elaborates to a design that can be translated.
 use Rattle.std.proofs.Common.{◌≡◌, ◌<◌, ◌≤◌, ◌^◌, ◌+◌, ◌-◌, ℕ, zero, suc, Bool, true, false, not, ◌&&◌, ◌||◌, if◌then◌else◌, List, [], ◌∷◌, ◌++◌, map, flat_map, length, sum, reverse, slice_get, Option, Some, None, refl, sym, ap, subst, ◌∙◌, inl, inr, arith}
-use Rattle.std.specs.List.{list_all}
+use Rattle.std.specs.List.{list_all, AllByRecursion}
 use Rattle.std.specs.Prelude.{nat_le, nat_lt, ◌==◌, ◌*◌}
 use Rattle.std.specs.Str.{bytes_eq}
 use Rattle.std.proofs.lemmas.Bool.{or_left, or_right, and_parts, false≢true, leb-true, ltb-true, eqb-true, eq-eqb}
@@ -8,6 +8,7 @@ use Rattle.std.proofs.lemmas.List.{length-reverse}
 use Rattle.row_machine.specs.Valuation.{Member}
 use Rattle.sv_source.specs.declared.token.Spot.{Spot}
 use Rattle.sv_source.specs.declared.token.Token.{Token}
+use Rattle.sv_source.specs.declared.refusal.Refusal.{Refusal}
 use Rattle.sv_core.specs.declared.design.SignalKind.{SignalKind}
 use Rattle.sv_core.specs.declared.design.SignalKind.TheVariants.{InputNet, OutputVar, Variable}
 use Rattle.sv_core.specs.declared.design.Signal.{Signal}
@@ -19,40 +20,40 @@ use Rattle.v_core.specs.Names.{among, distinct, position}
 use Rattle.v_core.specs.Tokens.{is_simple}
 use Rattle.sv2v_top.specs.declared.uses.Use.{Use}
 use Rattle.sv2v_top.specs.declared.uses.Literal.{Literal}
-use Rattle.sv2v_top.specs.declared.sv_tree.Direction.{Direction}
-use Rattle.sv2v_top.specs.declared.sv_tree.Direction.TheVariants.{Input}
-use Rattle.sv2v_top.specs.declared.sv_tree.Range.{Range}
-use Rattle.sv2v_top.specs.declared.sv_tree.Port.{Port}
-use Rattle.sv2v_top.specs.declared.sv_tree.Primary.{Primary}
-use Rattle.sv2v_top.specs.declared.sv_tree.Primary.TheVariants as P
-use Rattle.sv2v_top.specs.declared.sv_tree.Expr.{Expr}
-use Rattle.sv2v_top.specs.declared.sv_tree.Expr.TheVariants.{Single, Binary}
-use Rattle.sv2v_top.specs.declared.sv_tree.Item.{Item}
-use Rattle.sv2v_top.specs.declared.sv_tree.Item.TheVariants as I
-use Rattle.sv2v_top.specs.declared.sv_tree.Module.{Module}
+use Rattle.built_forms.specs.declared.forms.Direction.{Direction}
+use Rattle.built_forms.specs.declared.forms.Direction.TheVariants.{Input}
+use Rattle.built_forms.specs.declared.forms.Range.{Range}
+use Rattle.built_forms.specs.declared.forms.Port.{Port}
+use Rattle.built_forms.specs.declared.forms.Primary.{Primary}
+use Rattle.built_forms.specs.declared.forms.Primary.TheVariants as P
+use Rattle.built_forms.specs.declared.forms.Expr.{Expr}
+use Rattle.built_forms.specs.declared.forms.Expr.TheVariants.{Single, Binary}
+use Rattle.built_forms.specs.declared.forms.Item.{Item}
+use Rattle.built_forms.specs.declared.forms.Item.TheVariants as I
+use Rattle.built_forms.specs.declared.forms.Module.{Module}
 use Rattle.sv2v_top.specs.source.Literals.{decimal, with_digit, is_digit, are_digits, is_plain_size, is_plain_literal, behind_base, literal_bits, bit_of_digit}
 use Rattle.sv2v_top.specs.source.Names.{Declared, ports_from, direction_after, range_after, declared_by, variables, declared, name_of, signal_names, first_undeclared}
 use Rattle.sv2v_top.specs.source.Statements.{primary_literals, expr_literals, item_parts, word_of, targets, reads}
-use Rattle.sv2v_top.specs.source.Rules.{if_input, inputs, none_among, range_width, range_holds, width_of, signal_of, ranges_hold, total_bits, item_holds, items_hold, elaborates, first_process_break, is_comb_item, target_words, comb_targets, are_plain, clock_is_bit, item_is_built_among, is_built}
+use Rattle.sv2v_top.specs.source.Rules.{if_input, inputs, none_among, range_width, range_holds, width_of, signal_of, ranges_hold, total_bits, item_holds, items_hold, is_top, elaborates, first_process_break, is_comb_item, target_words, comb_targets, are_plain, clock_is_bit, item_is_built_among, is_built}
 use Rattle.sv2v_top.specs.source.Elaboration.{primary_of, expr_of, process_of, processes_of, design_of}
-use Rattle.sv2v_top.specs.source.Answers.{unless_built, refusal_if_elaborates, refusal_or, refusal_of}
+use Rattle.sv2v_top.specs.source.Answers.{unless_built, refusal_if_elaborates, refusal_if_top, refusal_or, refusal_of}
 use Rattle.sv2v_top.proofs.Names.{same_bytes, true_or_false, not_true, among-member, member-at, member-map, member-unmap, member-split, pick_false}
 use Rattle.sv2v_top.proofs.Decimals.{decimal_grows}
 use Rattle.sv2v_top.proofs.Checks.{sum-cons, bits-summed}
-use Rattle.sv2v_top.proofs.Readable.{AllOf, Bitwise, IsName, NamedItem, GoodItem, NamedModule, length-map, map-get}
+use Rattle.sv2v_top.proofs.Readable.{Bitwise, IsName, NameSpot, NamedPort, NamedItem, GoodItem, NamedModule, length-map, map-get}
 use Rattle.sv2v_top.proofs.Parts.{OwnLiterals, own-none, own-assignment, own-literals}
 use Rattle.sv2v_top.proofs.Processes.{all-member, member-parts, parts-member, position-there, position-one, MadeOf, made-of, option-none, NamesThere, target-there, read-there, target-source, read-source, drivers}
 
 -- what elaborates, rule by rule
-pub record Elaborates (m : Module) (top : List ℕ) : Type 0 where
+pub record Elaborates (m : Module) : Type 0 where
   pub names : distinct (signal_names m) ≡ true
   pub own : list_all (λ name. not (is_helper_name name)) (signal_names m) ≡ true
   pub ranges : ranges_hold (declared m) ≡ true
   pub bits : nat_le (total_bits (declared m)) (2 ^ 22) ≡ true
   pub items : items_hold m ≡ true
 
-pub elaborates-parts : (m : Module) (top : List ℕ) → elaborates m top ≡ true → Elaborates m top
-elaborates-parts m top e =
+pub elaborates-parts : (m : Module) → elaborates m ≡ true → Elaborates m
+elaborates-parts m e =
     let front = and_parts _ _ e in
     let head = and_parts _ _ front.0 in
     let helpers = and_parts _ _ head.0 in
@@ -62,7 +63,7 @@ elaborates-parts m top e =
 
 -- nothing is refused, question by question
 pub record Unrefused (m : Module) (top : List ℕ) : Type 0 where
-  pub elaborated : elaborates m top ≡ true
+  pub elaborated : elaborates m ≡ true
   pub processes : first_process_break m ≡ None
   pub built : is_built m ≡ true
 
@@ -80,9 +81,16 @@ unrefused m top e = by_use (first_undeclared m) e
     by_rules true e = (let o = option-none (first_process_break m) (unless_built (is_built m)) e in (refl, o.0, by_built (is_built m) o.1))
     by_rules false e = absurd (some-none _ e)
 
-    by_use : (o : Option Use) → refusal_or o (elaborates m top) (first_process_break m) (is_built m) ≡ None → Unrefused m top
+    behind : Option Refusal
+    behind = refusal_if_elaborates (elaborates m) (first_process_break m) (is_built m)
+
+    by_top : (b : Bool) → refusal_if_top b top behind ≡ None → behind ≡ None
+    by_top true e = e
+    by_top false e = absurd (some-none _ e)
+
+    by_use : (o : Option Use) → refusal_or o (refusal_if_top (is_top m top) top behind) ≡ None → Unrefused m top
     by_use (Some u) e = absurd (some-none _ e)
-    by_use None e = (let r = by_rules (elaborates m top) e in record { elaborated = r.0; processes = r.1; built = r.2 })
+    by_use None e = (let r = by_rules (elaborates m) (by_top (is_top m top) e) in record { elaborated = r.0; processes = r.1; built = r.2 })
 
 -- an input is among the inputs
 pub input-more : (kind : SignalKind) (name : List ℕ) (names : List (List ℕ)) (w : List ℕ) → among names w ≡ true → among (if_input kind name names) w ≡ true
@@ -197,7 +205,7 @@ plain-both (x ∷ xs) ys e =
     let rest = plain-both xs ys ends.1 in
     ((λ i. ends.0 i && rest.0 i), rest.1)
 
-pub expr-fits : (tokens : List Token) (names : List (List ℕ)) (x : Expr) → are_plain (expr_literals x) ≡ true → Bitwise tokens x → ExprFits (expr_of names x)
+pub expr-fits : (tokens : List Token) (names : List (List ℕ)) (x : Expr) → are_plain (expr_literals x) ≡ true → Bitwise x → ExprFits (expr_of names x)
 expr-fits tokens names (Single a) e b = primary-fits names a.primary e
 expr-fits tokens names (Binary op a c) e b =
     let ends = plain-both (primary_literals a.primary) (primary_literals c.primary) e in
@@ -215,27 +223,27 @@ item-literals (I.Logic d) = own-none
 item-literals (I.Comb body) = own-literals body
 item-literals (I.Edge clock body) = own-literals body
 
-pub all-holds : {A : Type 0} (tokens : List Token) (P : A → Type 0) (xs : List A) (x : A) → AllOf tokens P xs → Member xs x → P x
-all-holds tokens P [] x a m = elim m [ ]
-all-holds tokens P (y ∷ ys) x a (inl e) = subst P (sym e) a.0
-all-holds tokens P (y ∷ ys) x a (inr m) = all-holds tokens P ys x a.1 m
+pub all-holds : {A : Type 0} (P : A → Type 0) (xs : List A) (x : A) → AllByRecursion P xs → Member xs x → P x
+all-holds P [] x a m = elim m [ ]
+all-holds P (y ∷ ys) x a (inl e) = subst P (sym e) a.0
+all-holds P (y ∷ ys) x a (inr m) = all-holds P ys x a.1 m
 
 -- what a module declares has the names of its text
 module _ (tokens : List Token) where
   pub port-named : (direction : Direction) (range : Option Range) (ports : List Port) (d : Declared)
-      → AllOf tokens (λ (p : Port). IsName tokens p.name.word) ports → Member (ports_from direction range ports) d → IsName tokens (name_of d)
+      → AllByRecursion (NamedPort (NameSpot tokens)) ports → Member (ports_from direction range ports) d → IsName tokens (name_of d)
   port-named direction range [] d a m = elim m [ ]
   port-named direction range (p ∷ ports) d a (inl e) = subst (λ (x : Declared). IsName tokens (name_of x)) (sym e) a.0
   port-named direction range (p ∷ ports) d a (inr m) = port-named (direction_after direction p.head) (range_after range p.head) ports d a.1 m
 
-  pub declaration-named : (i : Item) (d : Declared) → NamedItem tokens i → Member (declared_by i) d → IsName tokens (name_of d)
+  pub declaration-named : (i : Item) (d : Declared) → NamedItem (NameSpot tokens) i → Member (declared_by i) d → IsName tokens (name_of d)
   declaration-named (I.Assign a) d n m = elim m [ ]
   declaration-named (I.Logic l) d n (inl e) = subst (λ (x : Declared). IsName tokens (name_of x)) (sym e) n
   declaration-named (I.Logic l) d n (inr m) = elim m [ ]
   declaration-named (I.Comb body) d n m = elim m [ ]
   declaration-named (I.Edge clock body) d n m = elim m [ ]
 
-  pub variable-named : (items : List Item) (d : Declared) → AllOf tokens (GoodItem tokens) items → Member (variables items) d → IsName tokens (name_of d)
+  pub variable-named : (items : List Item) (d : Declared) → AllByRecursion (GoodItem (NameSpot tokens)) items → Member (variables items) d → IsName tokens (name_of d)
   variable-named [] d a m = elim m [ ]
   variable-named (i ∷ items) d a m =
       elim (member-split (declared_by i) (variables items) d m) [
@@ -264,8 +272,8 @@ module _ (top : List ℕ) (tokens : List Token) (m : Module) (named : NamedModul
   asked : Unrefused m top
   asked = unrefused m top free
 
-  rules : Elaborates m top
-  rules = elaborates-parts m top asked.elaborated
+  rules : Elaborates m
+  rules = elaborates-parts m asked.elaborated
 
   -- what an item keeps
   record Kept (i : Item) : Type 0 where
@@ -274,7 +282,7 @@ module _ (top : List ℕ) (tokens : List Token) (m : Module) (named : NamedModul
     pub apart : is_comb_item i ≡ true → none_among (comb_targets m.items) (reads i) ≡ true
     pub no_input : none_among (inputs ds) (targets i) ≡ true
     pub clock : clock_is_bit signals names i ≡ true
-    pub good : GoodItem tokens i
+    pub good : GoodItem (NameSpot tokens) i
 
   kept : (i : Item) → Member m.items i → Kept i
   kept i k =
@@ -291,7 +299,7 @@ module _ (top : List ℕ) (tokens : List Token) (m : Module) (named : NamedModul
         apart = λ comb. other (is_comb_item i) _ comb b1.1;
         no_input = b2.1;
         clock = b3.1;
-        good = all-holds tokens (GoodItem tokens) m.items i named.items k;
+        good = all-holds (GoodItem (NameSpot tokens)) m.items i named.items k;
       }
     where
       other : (a b : Bool) → a ≡ true → (not a || b) ≡ true → b ≡ true
@@ -377,7 +385,7 @@ module _ (top : List ℕ) (tokens : List Token) (m : Module) (named : NamedModul
       let f = from-item p k in
       let y = member-unmap (expr_of names) (item_parts f.item).exprs x (subst (λ xs. Member xs x) f.made.exprs e) in
       let plain = plain-one (item_parts f.item).exprs y.0 (sym (ap are_plain (item-literals f.item)) ∙ f.keeps.plain) y.1 in
-      let bitwise = all-holds tokens (Bitwise tokens) (item_parts f.item).exprs y.0 f.keeps.good.good.exprs y.1 in
+      let bitwise = all-holds Bitwise (item_parts f.item).exprs y.0 f.keeps.good.good.exprs y.1 in
       subst ExprFits (sym y.2) (expr-fits tokens names y.0 plain bitwise)
 
   nesting : (p : Process) → Member (processes_of names m.items) p → (inside p.body).depth ≤ 256
@@ -410,8 +418,8 @@ names-few (d ∷ ds) =
     let all = sum-cons (width_of d) (map width_of ds) in
     omega arith
 
-pub elaborated-few : (m : Module) (top : List ℕ) → elaborates m top ≡ true → length (signal_names m) < 2 ^ 32
-elaborated-few m top e =
-    let few = leb-true (total_bits (declared m)) (2 ^ 22) (elaborates-parts m top e).bits in
+pub elaborated-few : (m : Module) → elaborates m ≡ true → length (signal_names m) < 2 ^ 32
+elaborated-few m e =
+    let few = leb-true (total_bits (declared m)) (2 ^ 22) (elaborates-parts m e).bits in
     let names = names-few (declared m) in
     omega arith

@@ -15,12 +15,12 @@ use Rattle.v_core.specs.Names.{among}
 use Rattle.sv2v_top.specs.declared.uses.Use.{Use}
 use Rattle.sv2v_top.specs.declared.uses.Role.{Role}
 use Rattle.sv2v_top.specs.declared.uses.Role.TheVariants.{Target, Read, Clock}
-use Rattle.sv2v_top.specs.declared.sv_tree.Direction.{Direction}
-use Rattle.sv2v_top.specs.declared.sv_tree.Direction.TheVariants.{Input}
-use Rattle.sv2v_top.specs.declared.sv_tree.Module.{Module}
-use Rattle.sv2v_top.specs.declared.sv_tree.Range.{Range}
-use Rattle.sv2v_top.specs.declared.sv_tree.Port.{Port}
-use Rattle.sv2v_top.specs.declared.sv_tree.Item.{Item}
+use Rattle.built_forms.specs.declared.forms.Direction.{Direction}
+use Rattle.built_forms.specs.declared.forms.Direction.TheVariants.{Input}
+use Rattle.built_forms.specs.declared.forms.Module.{Module}
+use Rattle.built_forms.specs.declared.forms.Range.{Range}
+use Rattle.built_forms.specs.declared.forms.Port.{Port}
+use Rattle.built_forms.specs.declared.forms.Item.{Item}
 use Rattle.sv2v_top.specs.declared.package_scope.Names.{Names}
 use Rattle.sv2v_top.specs.source.Names.{Declared, ports_from, direction_after, range_after, variables, declared_by, name_of, port_word, port_names, signal_names, undeclared, undeclared_in}
 use Rattle.sv2v_top.specs.source.Statements.{item_parts, word_of, if_target, targets_in, in_both}

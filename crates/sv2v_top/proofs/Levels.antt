@@ -2,11 +2,11 @@
 use Rattle.std.proofs.Common.{◌≡◌, ℕ, Bool, List, [], ◌∷◌, map, Option, Some, None, sym, ap, ◌∙◌, append_assoc}
 use Rattle.sv_core.specs.declared.design.Stmt.{Stmt as Typed}
 use Rattle.sv_core.specs.declared.design.Stmt.TheVariants as D
-use Rattle.sv2v_top.specs.declared.sv_tree.Expr.{Expr}
-use Rattle.sv2v_top.specs.declared.sv_tree.Assign.{Assign}
-use Rattle.sv2v_top.specs.declared.sv_tree.Stmt.{Stmt, Stmt-F, fold-Stmt, fold-roll-Stmt}
-use Rattle.sv2v_top.specs.declared.sv_tree.Stmt.TheVariants.{Block, If, rolls-Block, rolls-If, rolls-Assign}
-use Rattle.sv2v_top.specs.declared.sv_tree.Stmt.TheVariants as T
+use Rattle.built_forms.specs.declared.forms.Expr.{Expr}
+use Rattle.built_forms.specs.declared.forms.Assign.{Assign}
+use Rattle.built_forms.specs.declared.forms.Stmt.{Stmt, Stmt-F, fold-Stmt, fold-roll-Stmt}
+use Rattle.built_forms.specs.declared.forms.Stmt.TheVariants.{Block, If, rolls-Block, rolls-If, rolls-Assign}
+use Rattle.built_forms.specs.declared.forms.Stmt.TheVariants as T
 use Rattle.sv2v_top.specs.source.Statements.{Parts, none, sequence, choice, one_more, assignment, stmt_parts, parts}
 use Rattle.sv2v_top.specs.source.Elaboration.{expr_of, assign_of, stmt_step, stmt_of}
 

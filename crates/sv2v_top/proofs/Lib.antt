@@ -5,15 +5,12 @@ pub mod Levels
 pub mod Checks
 pub mod Parts
 pub mod Processes
-pub mod Building
-pub mod Spines
 pub mod Readable
 pub mod SimpleNames
 pub mod SourceNames
 pub mod Built
+pub mod Kept
 pub mod Correct
-pub mod Fit
-pub mod Spots
 pub mod Places
 pub mod Requests
 pub mod Listed

@@ -11,14 +11,14 @@ use Rattle.sv2v_top.specs.declared.uses.Use.{Use}
 use Rattle.sv2v_top.specs.declared.uses.Literal.{Literal}
 use Rattle.sv2v_top.specs.declared.uses.Role.{Role}
 use Rattle.sv2v_top.specs.declared.uses.Role.TheVariants.{Target, Read, Clock}
-use Rattle.sv2v_top.specs.declared.sv_tree.Primary.{Primary}
-use Rattle.sv2v_top.specs.declared.sv_tree.Primary.TheVariants as P
-use Rattle.sv2v_top.specs.declared.sv_tree.Expr.{Expr}
-use Rattle.sv2v_top.specs.declared.sv_tree.Expr.TheVariants.{Single, Binary}
-use Rattle.sv2v_top.specs.declared.sv_tree.Assign.{Assign}
-use Rattle.sv2v_top.specs.declared.sv_tree.Stmt.{Stmt, Stmt-F, ind-Stmt, roll-Stmt, map-Stmt}
-use Rattle.sv2v_top.specs.declared.sv_tree.Stmt.TheVariants.{Block, If, rolls-Block, rolls-If, rolls-Assign}
-use Rattle.sv2v_top.specs.declared.sv_tree.Stmt.TheVariants as T
+use Rattle.built_forms.specs.declared.forms.Primary.{Primary}
+use Rattle.built_forms.specs.declared.forms.Primary.TheVariants as P
+use Rattle.built_forms.specs.declared.forms.Expr.{Expr}
+use Rattle.built_forms.specs.declared.forms.Expr.TheVariants.{Single, Binary}
+use Rattle.built_forms.specs.declared.forms.Assign.{Assign}
+use Rattle.built_forms.specs.declared.forms.Stmt.{Stmt, Stmt-F, ind-Stmt, roll-Stmt, map-Stmt}
+use Rattle.built_forms.specs.declared.forms.Stmt.TheVariants.{Block, If, rolls-Block, rolls-If, rolls-Assign}
+use Rattle.built_forms.specs.declared.forms.Stmt.TheVariants as T
 use Rattle.sv2v_top.specs.source.Statements.{primary_uses, expr_uses, expr_literals, Parts, none, sequence, choice, assignment, parts, if_target, targets_in, if_read, reads_in}
 use Rattle.v_core.specs.Names.{position}
 use Rattle.sv2v_top.specs.source.Elaboration.{primary_of, expr_of, assign_of, stmt_of}

@@ -1,26 +1,29 @@
 -- A refusal of tokens stands where a token does, at their end, or at the head of the first file.
-use Rattle.std.proofs.Common.{◌≡◌, ◌⊎◌, ℕ, ◌<◌, ◌≤◌, Bool, true, false, cond, List, [], ◌∷◌, ◌++◌, map, slice_get, Option, Some, None, if◌then◌else◌, sym, subst, inl, inr, arith}
+use Rattle.std.proofs.Common.{◌≡◌, ◌⊎◌, ℕ, ◌<◌, ◌≤◌, Bool, true, false, cond, List, [], ◌∷◌, ◌++◌, map, slice_get, Option, Some, None, if◌then◌else◌, refl, sym, subst, inl, inr, arith}
 use Rattle.std.specs.List.{All, AllByRecursion, find}
 use Rattle.std.specs.Option.{IfSome, option_or}
-use Rattle.std.proofs.lemmas.List.Elements.{recursion_from_All}
 use Rattle.sv_source.specs.declared.token.Place.{Place}
 use Rattle.sv_source.specs.declared.token.Token.{Token}
 use Rattle.sv_source.specs.declared.token.Spot.{Spot}
 use Rattle.sv_source.specs.declared.refusal.Refusal.{Refusal}
-use Rattle.sv2v_top.specs.declared.sv_tree.Item.{Item}
-use Rattle.sv2v_top.specs.declared.sv_tree.Module.{Module}
+use Rattle.built_forms.specs.declared.forms.Item.{Item}
+use Rattle.built_forms.specs.declared.forms.Module.{Module}
 use Rattle.sv2v_top.specs.declared.uses.Use.{Use}
 use Rattle.sv2v_top.specs.declared.uses.Role.{Role}
 use Rattle.sv2v_top.specs.declared.uses.Role.TheVariants.{Target, Read, Clock}
 use Rattle.v_core.specs.Names.{among}
 use Rattle.sv2v_top.specs.source.Statements.{if_target, targets_in, targets, item_parts}
 use Rattle.sv2v_top.specs.source.Names.{undeclared, undeclared_in, first_undeclared, name_of, declared_by, port_names}
-use Rattle.sv2v_top.specs.source.Rules.{refused_at, write_break, writes_break, always_written, target_words, processes_break, first_process_break, elaborates, is_built}
-use Rattle.sv2v_top.specs.source.Answers.{stage_refusal, unless_built, refusal_if_elaborates, refusal_or, refusal_of}
-use Rattle.sv2v_top.specs.source.Reading.{ReadsAs, SyntaxBreak, fails, nests, failing_rule, refusal_at}
-use Rattle.sv2v_top.specs.source.Building.{module_of}
+use Rattle.sv2v_top.specs.source.Rules.{refused_at, write_break, writes_break, always_written, target_words, processes_break, first_process_break, is_top, elaborates, is_built}
+use Rattle.sv2v_top.specs.source.Answers.{stage_refusal, unless_built, refusal_if_elaborates, refusal_if_top, refusal_or, refusal_of, refusal_by, tree_refusal}
+use Rattle.sv_tree.specs.declared.units.SourceTree.{SourceTree}
+use Rattle.sv_tree.specs.declared.units.Unit as U
+use Rattle.sv_build.specs.Attributes.{without_attributes}
+use Rattle.sv_build.specs.Reading.{Reads, SyntaxBreak, fails, nests, fails_at, nests_at, at_token}
+use Rattle.built_forms.specs.Built.{spot_with, one_module, gathered, unit_of, built}
 use Rattle.sv2v_top.specs.Translation.{Breaks}
-use Rattle.sv2v_top.proofs.Spots.{AtToken, AtSpot, AtUse, AtItem, AtItems, at-token, at-module}
+use Rattle.sv2v_top.proofs.Readable.{Within, GoodItem, GoodModule, readable}
+use Rattle.sv2v_top.proofs.Kept.{all-left, all-at}
 
 -- the first one that is there
 pub of-either : {A : Type 0} (P : A → Type 0) (o u : Option A) → IfSome o P → IfSome u P → IfSome (option_or o u) P
@@ -45,32 +48,49 @@ module _ (K : Place → Type 0) where
   abbrev AtRefusal : Refusal → Type 0
   AtRefusal r = K r.place
 
-  at-undeclared : (own : List ℕ) (names : List (List ℕ)) (items : List Item) → AllByRecursion (AtItem K) items → IfSome (undeclared_in own names items) (AtUse K)
+  abbrev AtToken : Token → Type 0
+  AtToken t = K t.place
+
+  abbrev AtSpot : Spot → Type 0
+  AtSpot s = K s.place
+
+  abbrev AtUse : Use → Type 0
+  AtUse u = K u.name.place
+
+  -- it holds at each name that an item uses
+  abbrev AtItem : Item → Type 0
+  AtItem i = AllByRecursion AtUse (item_parts i).names
+
+  at-items : (items : List Item) → AllByRecursion (GoodItem AtSpot) items → AllByRecursion AtItem items
+  at-items [] h = tt
+  at-items (i ∷ items) h = (h.0.good.names, at-items items h.1)
+
+  at-undeclared : (own : List ℕ) (names : List (List ℕ)) (items : List Item) → AllByRecursion AtItem items → IfSome (undeclared_in own names items) AtUse
   at-undeclared own names [] h = tt
   at-undeclared own names (i ∷ items) h =
-      of-either (AtUse K) (undeclared own names (item_parts i).names) _ (of-found (AtUse K) _ (item_parts i).names h.0) (at-undeclared own (names ++ map name_of (declared_by i)) items h.1)
+      of-either AtUse (undeclared own names (item_parts i).names) _ (of-found AtUse _ (item_parts i).names h.0) (at-undeclared own (names ++ map name_of (declared_by i)) items h.1)
 
-  at-targets : (us : List Use) → AllByRecursion (AtUse K) us → AllByRecursion (AtSpot K) (targets_in us)
+  at-targets : (us : List Use) → AllByRecursion AtUse us → AllByRecursion AtSpot (targets_in us)
   at-targets [] h = tt
   at-targets (u ∷ us) h = by_role u.role (at-targets us h.1)
     where
-      by_role : (r : Role) → AllByRecursion (AtSpot K) (targets_in us) → AllByRecursion (AtSpot K) (if_target r u.name (targets_in us))
+      by_role : (r : Role) → AllByRecursion AtSpot (targets_in us) → AllByRecursion AtSpot (if_target r u.name (targets_in us))
       by_role Target more = (h.0, more)
       by_role Read more = more
       by_role Clock more = more
 
-  at-write : (written always : Bool) (s : Spot) → AtSpot K s
+  at-write : (written always : Bool) (s : Spot) → AtSpot s
       → IfSome (if written then Some (refused_at 601 s) else (if always then None else Some (refused_at 603 s))) AtRefusal
   at-write true always s h = h
   at-write false true s h = tt
   at-write false false s h = h
 
-  at-writes : (is_written is_always : List ℕ → Bool) (ss : List Spot) → AllByRecursion (AtSpot K) ss → IfSome (writes_break is_written is_always ss) AtRefusal
+  at-writes : (is_written is_always : List ℕ → Bool) (ss : List Spot) → AllByRecursion AtSpot ss → IfSome (writes_break is_written is_always ss) AtRefusal
   at-writes is_written is_always [] h = tt
   at-writes is_written is_always (s ∷ ss) h =
       of-either AtRefusal (write_break is_written is_always s) _ (at-write (is_written s.word) (is_always s.word) s h.0) (at-writes is_written is_always ss h.1)
 
-  at-processes : (written : List (List ℕ)) (items : List Item) → AllByRecursion (AtItem K) items → IfSome (processes_break written items) AtRefusal
+  at-processes : (written : List (List ℕ)) (items : List Item) → AllByRecursion AtItem items → IfSome (processes_break written items) AtRefusal
   at-processes written [] h = tt
   at-processes written (i ∷ items) h =
       of-either AtRefusal (writes_break (among written) (among (always_written i)) (targets i)) _
@@ -86,37 +106,53 @@ module _ (K : Place → Type 0) where
         by_built true = tt
         by_built false = head
 
-    at-rules : (o : Option Use) (elaborated : Bool) (process_break : Option Refusal) (built : Bool) → IfSome o (AtUse K) → IfSome process_break AtRefusal
-        → IfSome (refusal_or o elaborated process_break built) AtRefusal
-    at-rules (Some u) elaborated process_break built h k = h
-    at-rules None elaborated process_break built h k = at-stage elaborated process_break built k
+    at-top : (b : Bool) (top : List ℕ) (o : Option Refusal) → IfSome o AtRefusal → IfSome (refusal_if_top b top o) AtRefusal
+    at-top true top o h = h
+    at-top false top o h = head
 
-    at-refusal : (m : Module) (top : List ℕ) → AtItems K m → IfSome (refusal_of m top) AtRefusal
+    at-rules : (u : Option Use) (o : Option Refusal) → IfSome u AtUse → IfSome o AtRefusal → IfSome (refusal_or u o) AtRefusal
+    at-rules (Some u) o h k = h
+    at-rules None o h k = k
+
+    at-refusal : (m : Module) (top : List ℕ) → AllByRecursion AtItem m.items → IfSome (refusal_of m top) AtRefusal
     at-refusal m top h =
-        at-rules (first_undeclared m) (elaborates m top) (first_process_break m) (is_built m)
-        (at-undeclared m.name.word (port_names m) m.items h) (at-processes [] m.items h)
+        at-rules (first_undeclared m) _ (at-undeclared m.name.word (port_names m) m.items h)
+        (at-top (is_top m top) top _ (at-stage (elaborates m) (first_process_break m) (is_built m) (at-processes [] m.items h)))
 
-    module _ (tokens : List Token) (last : Place) (a : AllByRecursion (AtToken K) tokens) (end : K last) where
-      at-end : (rule : ℕ) (o : Option Token) → IfSome o (AtToken K) → AtRefusal (refusal_at rule last o)
-      at-end rule None h = end
-      at-end rule (Some t) h = h
+    at-built : (o : Option (Option Module)) (top : List ℕ) → IfSome o (Within (GoodModule AtSpot)) → IfSome (refusal_by o top) AtRefusal
+    at-built None top h = head
+    at-built (Some None) top h = head
+    at-built (Some (Some m)) top h = at-refusal m top (at-items m.items h.items)
 
-      at-syntax : (r : Refusal) → SyntaxBreak tokens last r → AtRefusal r
-      at-syntax r (fails at f e) =
-          subst AtRefusal (sym e) (at-end (failing_rule (slice_get tokens at)) (slice_get tokens at) (at-token K tokens at a))
-      at-syntax r (nests at p e) = subst AtRefusal (sym e) (at-end 303 (slice_get tokens at) (at-token K tokens at a))
+    module _ (tokens : List Token) (a : All AtToken tokens) where
+      left : All AtToken (without_attributes tokens)
+      left = all-left AtToken tokens a
+
+      at-tree : (tree : SourceTree) (top : List ℕ) → Reads tokens tree → IfSome (tree_refusal tree top) AtRefusal
+      at-tree tree top x =
+          at-built (built tree) top
+          (readable AtSpot tree.tokens (λ i t at named. all-at AtToken tree.tokens i t (subst (All AtToken) (sym x.keeps) left) at) tree.units)
+
+      at-one : (f : Token → Refusal) → ((t : Token) → (f t).place ≡ t.place) → (o : Option Token) → ((t : Token) → o ≡ Some t → AtToken t) → IfSome (at_token f o) AtRefusal
+      at-one f same None h = tt
+      at-one f same (Some t) h = subst K (sym (same t)) (h t refl)
+
+      there : (i : ℕ) (t : Token) → slice_get (without_attributes tokens) i ≡ Some t → AtToken t
+      there i t e = all-at AtToken (without_attributes tokens) i t left e
+
+      at-syntax : (r : Refusal) → SyntaxBreak tokens r → AtRefusal r
+      at-syntax r (fails i f e) = of-some AtRefusal _ r e (at-one fails_at (λ t. refl) (slice_get (without_attributes tokens) i) (there i))
+      at-syntax r (nests i p e) = of-some AtRefusal _ r e (at-one nests_at (λ t. refl) (slice_get (without_attributes tokens) i) (there i))
 
       -- it holds where the tokens break a rule
-      pub at-break : (top : List ℕ) (r : Refusal) → Breaks top tokens last r → AtRefusal r
+      pub at-break : (top : List ℕ) (r : Refusal) → Breaks top tokens r → AtRefusal r
       at-break top r b = by_cause b.cause
         where
-          by_cause : SyntaxBreak tokens last r ⊎ ((m : Module) × ReadsAs tokens m × (refusal_of m top ≡ Some r)) → AtRefusal r
+          by_cause : SyntaxBreak tokens r ⊎ ((tree : SourceTree) × Reads tokens tree × (tree_refusal tree top ≡ Some r)) → AtRefusal r
           by_cause (inl s) = at-syntax r s
-          by_cause (inr n) =
-              of-some AtRefusal (refusal_of n.0 top) r n.2 (at-refusal n.0 top (of-some (AtItems K) (module_of tokens n.1.tree) n.0 n.1.means (at-module K tokens a n.1.tree)))
+          by_cause (inr n) = of-some AtRefusal (tree_refusal n.0 top) r n.2 (at-tree n.0 top n.1)
 
 -- tokens of so many files, one at least, break a rule in one of these
-pub break-placed : (n : ℕ) (top : List ℕ) (tokens : List Token) (last : Place) (r : Refusal) → 1 ≤ n → All (λ (t : Token). t.place.file < n) tokens → last.file < n
-    → Breaks top tokens last r → r.place.file < n
-break-placed n top tokens last r some all end b =
-    at-break (λ (p : Place). p.file < n) (omega arith) tokens last (recursion_from_All (λ (t : Token). t.place.file < n) tokens all) end top r b
+pub break-placed : (n : ℕ) (top : List ℕ) (tokens : List Token) (r : Refusal) → 1 ≤ n → All (λ (t : Token). t.place.file < n) tokens
+    → Breaks top tokens r → r.place.file < n
+break-placed n top tokens r some all b = at-break (λ (p : Place). p.file < n) (omega arith) tokens all top r b

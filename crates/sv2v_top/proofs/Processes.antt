@@ -18,8 +18,8 @@ use Rattle.v_core.specs.Names.{among, position}
 use Rattle.sv2v_top.specs.declared.uses.Use.{Use}
 use Rattle.sv2v_top.specs.declared.uses.Role.{Role}
 use Rattle.sv2v_top.specs.declared.uses.Role.TheVariants.{Target, Read, Clock}
-use Rattle.sv2v_top.specs.declared.sv_tree.Item.{Item}
-use Rattle.sv2v_top.specs.declared.sv_tree.Item.TheVariants as I
+use Rattle.built_forms.specs.declared.forms.Item.{Item}
+use Rattle.built_forms.specs.declared.forms.Item.TheVariants as I
 use Rattle.sv2v_top.specs.source.Statements.{word_of, item_parts, if_target, targets_in, if_read, reads_in, targets, reads}
 use Rattle.sv2v_top.specs.source.Rules.{all_among, is_bit, clock_is_bit, is_comb_item, target_words, always_written, write_break, writes_break, processes_break}
 use Rattle.sv2v_top.specs.source.Elaboration.{expr_of, clock_of, process_of, processes_of}

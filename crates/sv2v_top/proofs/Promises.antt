@@ -150,9 +150,8 @@ module _ (c : Call) (status : Status) where
   pub translated-accepts : (request : Asked) (contents : Contents) (text : List ℕ) → c.told ≡ Some contents → IsTranslated request c.told text → Accepts request contents
   translated-accepts request contents text told t = record {
     tokens = t.tokens;
-    last = t.last;
     names = t.names;
-    expansion = subst (λ (by : Option Contents). ExpandsTo request by t.tokens t.last t.names) told t.expansion;
+    expansion = subst (λ (by : Option Contents). ExpandsTo request by t.tokens t.names) told t.expansion;
     design = t.translates.source;
     accepted = t.translates.accepted;
   }

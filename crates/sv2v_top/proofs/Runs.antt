@@ -2,7 +2,6 @@
 use Rattle.std.proofs.Common.{◌≡◌, ◌≤◌, refl, sym, ap, subst, ℕ, length, List, Option, Result, Ok, Err}
 use Rattle.sv_source.specs.Faults.{NotRaised}
 use Rattle.sv_source.specs.Loading.{Contents}
-use Rattle.sv_source.specs.declared.token.Place.{Place}
 use Rattle.sv_source.specs.declared.token.Token.{Token}
 use Rattle.sv_source.specs.declared.text.Text.{Text}
 use Rattle.sv_source.specs.declared.refusal.Refusal.{Refusal}
@@ -25,21 +24,19 @@ from-cause request some told before now names r stop is cause calm =
     subst (λ (s : Stop). AskedGives request told before now (Err s)) (sym is)
     (record { names = names; is_path = refl; listed = cause-listed request told names r some cause; cause = cause }, calm)
 
-pub from-tokens : (request : Asked) → 1 ≤ length request.settings.files → (told : Option Contents) (before now : ℕ) (tokens : List Token) (last : Place) (names : List (List ℕ)) (result : Result Text Stop)
-    → ExpandsTo request told tokens last names → NotRaised before now → TokensGive request.top tokens last names result → AskedGives request told before now result
-from-tokens request some told before now tokens last names (Ok text) x calm g = record { tokens = tokens; last = last; names = names; expansion = x; translates = g }
-from-tokens request some told before now tokens last names (Err S.Usage) x calm g = g
-from-tokens request some told before now tokens last names (Err S.Memory) x calm g = tt
-from-tokens request some told before now tokens last names (Err (S.FileFault path)) x calm g = absurd g
-from-tokens request some told before now tokens last names (Err (S.Refused path refusal)) x calm g =
-    from-cause request some told before now names refusal (S.Refused path refusal) (ap (λ (p : List ℕ). S.Refused p refusal) g.0) (in_tokens tokens last x g.1) calm
+pub from-tokens : (request : Asked) → 1 ≤ length request.settings.files → (told : Option Contents) (before now : ℕ) (tokens : List Token) (names : List (List ℕ)) (result : Result Text Stop)
+    → ExpandsTo request told tokens names → NotRaised before now → TokensGive request.top tokens names result → AskedGives request told before now result
+from-tokens request some told before now tokens names (Ok text) x calm g = record { tokens = tokens; names = names; expansion = x; translates = g }
+from-tokens request some told before now tokens names (Err S.Usage) x calm g = g
+from-tokens request some told before now tokens names (Err S.Memory) x calm g = tt
+from-tokens request some told before now tokens names (Err (S.FileFault path)) x calm g = absurd g
+from-tokens request some told before now tokens names (Err (S.Refused path refusal)) x calm g =
+    from-cause request some told before now names refusal (S.Refused path refusal) (ap (λ (p : List ℕ). S.Refused p refusal) g.0) (in_tokens tokens x g.1) calm
 
 -- a refusal of the tokens, in the file of its place
-pub refused-gives : (top : List ℕ) (mine tokens : List Token) (at last : Place) (names : List (List ℕ)) (r : Refusal) (stop : Stop)
-    → mine ≡ tokens → at ≡ last → Breaks top mine at r → stop ≡ S.Refused (file_of names r.place) r → TokensGive top tokens last names (Err stop)
-refused-gives top mine tokens at last names r stop same there b is =
-    let moved : Breaks top mine last r = subst (λ (p : Place). Breaks top mine p r) there b in
-    subst (λ (s : Stop). TokensGive top tokens last names (Err s)) (sym is) (refl, subst (λ (ts : List Token). Breaks top ts last r) same moved)
+pub refused-gives : (top : List ℕ) (tokens : List Token) (names : List (List ℕ)) (r : Refusal) (stop : Stop)
+    → Breaks top tokens r → stop ≡ S.Refused (file_of names r.place) r → TokensGive top tokens names (Err stop)
+refused-gives top tokens names r stop b is = subst (λ (s : Stop). TokensGive top tokens names (Err s)) (sym is) (refl, b)
 
 -- the line of a write fault, put on the error stream
 pub fault-said : {b a : Option (List ℕ)} → {fb fa : ℕ} → {line : List ℕ} → (result : Put)

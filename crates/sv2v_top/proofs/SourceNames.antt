@@ -97,13 +97,6 @@ request-named words request e = few (are_few words) e
     few true e = of_parts (each part_of (joined words)) e
     few false e = cc
 
--- so are the tokens before the last one, if all are
-pub front-named : (ts us : List Token) → NamesAreSimple (ts ++ us) → NamesAreSimple ts
-front-named [] us a = All-nil (λ (t : Token). is_simply_named t ≡ true)
-front-named (t ∷ ts) us a =
-    All-cons (λ (u : Token). is_simply_named u ≡ true) t ts (All-head (λ (u : Token). is_simply_named u ≡ true) t (ts ++ us) a)
-    (front-named ts us (All-tail (λ (u : Token). is_simply_named u ≡ true) t (ts ++ us) a))
-
 -- so are the tokens of its expansion
 pub expansion-named : (request : Asked) → BodiesAreSimple request.settings.defines → (told : Option Contents) (front : List Token) (place : Place) (names : List (List ℕ))
     → Comes request.settings told (expands (front ++ end_token place ∷ []) names) → NamesAreSimple (front ++ end_token place ∷ [])

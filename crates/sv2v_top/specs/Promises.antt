@@ -4,7 +4,6 @@ use Rattle.sv_source.specs.Faults.{NoFault, NotRaised}
 use Rattle.sv_source.specs.Loading.{Contents}
 use Rattle.sv_source.specs.Message.{usage_line, memory_line, read_fault_line, refusal_line, write_fault_line}
 use Rattle.sv_source.specs.declared.refusal.Refusal.{Refusal}
-use Rattle.sv_source.specs.declared.token.Place.{Place}
 use Rattle.sv_source.specs.declared.token.Token.{Token}
 use Rattle.command_line.specs.declared.words.Asked.{Asked}
 use Rattle.command_line.specs.Words.{asked}
@@ -113,9 +112,8 @@ UsageComes c status = asked c.words ≡ None → Unless (status ≡ Usage) statu
 -- the files of a request have no break
 pub record Accepts (request : Asked) (contents : Contents) : Type 0 where
   pub tokens : List Token
-  pub last : Place
   pub names : List (List ℕ)
-  pub expansion : ExpandsTo request (Some contents) tokens last names
+  pub expansion : ExpandsTo request (Some contents) tokens names
   pub design : Design
   pub accepted : Accepted request.top tokens design
 

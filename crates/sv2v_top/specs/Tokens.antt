@@ -1,11 +1,9 @@
 -- What the translation needs of the tokens of an expansion.
-use Rattle.std.specs.Prelude.{◌≡◌, ◌++◌, not, Bool, true, ◌||◌, List, [], ◌∷◌}
+use Rattle.std.specs.Prelude.{◌≡◌, not, Bool, true, ◌||◌, List}
 use Rattle.std.specs.List.{All}
-use Rattle.sv_source.specs.declared.token.Place.{Place}
 use Rattle.sv_source.specs.declared.token.Token.{Token}
 use Rattle.sv_macro.specs.Tokens.{is_name}
 use Rattle.sv_preproc.specs.declared.settings.Define.{Define}
-use Rattle.sv_preproc.specs.Runs.{end_token}
 use Rattle.v_core.specs.Tokens.{is_simple}
 
 -- the text of a name is a simple name of the target language
@@ -18,7 +16,3 @@ NamesAreSimple tokens = All (λ (t : Token). is_simply_named t ≡ true) tokens
 -- so are those in the bodies of the command line's macros
 abbrev pub BodiesAreSimple : List Define → Type 0
 BodiesAreSimple defines = All (λ (d : Define). NamesAreSimple d.body) defines
-
--- the end of all files is the last of them
-abbrev pub EndsWithEnd : List Token → Type 0
-EndsWithEnd tokens = (front : List Token) × (last : Place) × (tokens ≡ front ++ end_token last ∷ [])

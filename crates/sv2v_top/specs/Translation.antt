@@ -1,31 +1,28 @@
 -- What a translation is: of source tokens that are accepted the written text is right, and all others are refused with
 -- their first break.
-use Rattle.std.specs.Prelude.{◌≡◌, ◌⊎◌, ℕ, List, Some, None, Result, Ok, Err}
-use Rattle.sv_source.specs.declared.token.Place.{Place}
+use Rattle.std.specs.Prelude.{◌≡◌, ◌⊎◌, ℕ, List, Some, Result, Ok, Err}
 use Rattle.sv_source.specs.declared.token.Token.{Token}
 use Rattle.sv_source.specs.declared.text.Text.{Text}
 use Rattle.sv_source.specs.declared.refusal.Refusal.{Refusal}
 use Rattle.sv_source.specs.declared.refusal.Fail.{Fail}
 use Rattle.sv_source.specs.declared.refusal.Fail.TheVariants.{Memory, Refused}
-use Rattle.sv2v_top.specs.declared.sv_tree.Module.{Module}
 use Rattle.sv_core.specs.declared.design.Design.{Design}
 use Rattle.v_core.specs.declared.tree.VDesign.{VDesign}
-use Rattle.sv2v_top.specs.source.Reading.{ReadsAs, SyntaxBreak}
-use Rattle.sv2v_top.specs.source.Elaboration.{design_of}
-use Rattle.sv2v_top.specs.source.Answers.{refusal_of}
+use Rattle.sv_tree.specs.declared.units.SourceTree.{SourceTree}
+use Rattle.sv_build.specs.Reading.{Reads, SyntaxBreak}
+use Rattle.sv2v_top.specs.source.Answers.{tree_refusal, Elaborated}
 use Rattle.v_core.specs.Reading.{VReads}
 use Rattle.lower_design.specs.Lowering.{Lowers}
 
 -- the tokens are accepted, and elaborate to this design
 pub record Accepted (top : List ℕ) (tokens : List Token) (d : Design) : Type 0 where
-  pub source : Module
-  pub reads : ReadsAs tokens source
-  pub unbroken : refusal_of source top ≡ None
-  pub elaborates : d ≡ design_of source
+  pub tree : SourceTree
+  pub reads : Reads tokens tree
+  pub elaborated : Elaborated tree top d
 
--- the tokens, which end before this place, are refused: they don't read, or their module breaks a rule
-pub record Breaks (top : List ℕ) (tokens : List Token) (last : Place) (r : Refusal) : Type 0 where
-  pub cause : SyntaxBreak tokens last r ⊎ ((m : Module) × ReadsAs tokens m × (refusal_of m top ≡ Some r))
+-- the tokens are refused: they don't read, or their tree breaks a rule
+pub record Breaks (top : List ℕ) (tokens : List Token) (r : Refusal) : Type 0 where
+  pub cause : SyntaxBreak tokens r ⊎ ((tree : SourceTree) × Reads tokens tree × (tree_refusal tree top ≡ Some r))
 
 -- The written text is right for the design.
 pub record Right (d : Design) (text : List ℕ) (e : VDesign) : Type 0 where
@@ -43,7 +40,7 @@ pub record Translates (top : List ℕ) (tokens : List Token) (text : List ℕ) :
   pub right : Right source text target
 
 -- what the translation of source tokens answers
-abbrev pub TranslationGives : List ℕ → List Token → Place → Result Text Fail → Type 0
-TranslationGives top tokens last (Ok text) = Translates top tokens text
-TranslationGives top tokens last (Err Memory) = Unit {0}
-TranslationGives top tokens last (Err (Refused r)) = Breaks top tokens last r
+abbrev pub TranslationGives : List ℕ → List Token → Result Text Fail → Type 0
+TranslationGives top tokens (Ok text) = Translates top tokens text
+TranslationGives top tokens (Err Memory) = Unit {0}
+TranslationGives top tokens (Err (Refused r)) = Breaks top tokens r

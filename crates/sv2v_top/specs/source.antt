@@ -1,6 +1,3 @@
-pub mod Grammar
-pub mod Building
-pub mod Reading
 pub mod Literals
 pub mod Statements
 pub mod Names

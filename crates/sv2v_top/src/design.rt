@@ -6,7 +6,6 @@ ghost use Rattle.sv2v_top.specs.source.Elaboration.{primary_of, operand_of, expr
 
 use crate::literals::bits;
 use crate::package_scope::Names;
-use crate::sv_tree;
 use std::alloc::{AllocError, Global};
 use sv_core::{
     EdgeList, EdgeOn, Expr, Operand, Primary, Process, ProcessKind, Processes, Stmt, Stmts,
@@ -14,13 +13,13 @@ use sv_core::{
 use sv_source::{Boxed, Items, Text};
 
 /// The signal that a name stands for, or the bits of a literal.
-fn primary(alloc: Global, names: &Names, primary: &sv_tree::Primary) -> Result<Primary, AllocError>
+fn primary(alloc: Global, names: &Names, primary: &built_forms::Primary) -> Result<Primary, AllocError>
     requires { names.now.next < 2 ^ 32 }
     ensures { IfOk result (λ p. (ns : List (List ℕ)) → Numbers names.now ns → p ≡ primary_of ns primary.now) }
 {
     match primary {
-        sv_tree::Primary::Name(name) => Ok(Primary::Signal(names.position(&name.word))),
-        sv_tree::Primary::Literal { digits, .. } => Ok(Primary::Literal(bits(
+        built_forms::Primary::Name(name) => Ok(Primary::Signal(names.position(&name.word))),
+        built_forms::Primary::Literal { digits, .. } => Ok(Primary::Literal(bits(
             alloc,
             digits.word.as_bytes(),
         )?)),
@@ -28,7 +27,7 @@ fn primary(alloc: Global, names: &Names, primary: &sv_tree::Primary) -> Result<P
 }
 
 /// An operand.
-fn operand(alloc: Global, names: &Names, operand: &sv_tree::Operand) -> Result<Operand, AllocError>
+fn operand(alloc: Global, names: &Names, operand: &built_forms::Operand) -> Result<Operand, AllocError>
     requires { names.now.next < 2 ^ 32 }
     ensures { IfOk result (λ a. (ns : List (List ℕ)) → Numbers names.now ns → a ≡ operand_of ns operand.now) }
 {
@@ -38,13 +37,13 @@ fn operand(alloc: Global, names: &Names, operand: &sv_tree::Operand) -> Result<O
 }
 
 /// An expression.
-fn expr(alloc: Global, names: &Names, value: &sv_tree::Expr) -> Result<Expr, AllocError>
+fn expr(alloc: Global, names: &Names, value: &built_forms::Expr) -> Result<Expr, AllocError>
     requires { names.now.next < 2 ^ 32 }
     ensures { IfOk result (λ x. (ns : List (List ℕ)) → Numbers names.now ns → x ≡ expr_of ns value.now) }
 {
     match value {
-        sv_tree::Expr::Single(only) => Ok(Expr::Single(operand(alloc, names, only)?)),
-        sv_tree::Expr::Binary { op, left, right } => {
+        built_forms::Expr::Single(only) => Ok(Expr::Single(operand(alloc, names, only)?)),
+        built_forms::Expr::Binary { op, left, right } => {
             let left = operand(alloc, names, left)?;
             let right = operand(alloc, names, right)?;
             Ok(Expr::Binary {
@@ -61,7 +60,7 @@ fn assignment(
     alloc: Global,
     names: &Names,
     later: bool,
-    assign: &sv_tree::Assign,
+    assign: &built_forms::Assign,
 ) -> Result<Stmt, AllocError>
     requires { names.now.next < 2 ^ 32 }
     ensures { IfOk result (λ s. (ns : List (List ℕ)) → Numbers names.now ns → s ≡ assign_of ns later assign.now) }
@@ -77,7 +76,7 @@ fn statements(
     alloc: Global,
     names: &Names,
     later: bool,
-    list: &[sv_tree::Stmt],
+    list: &[built_forms::Stmt],
 ) -> Result<Stmts, AllocError>
     requires { names.now.next < 2 ^ 32 }
     ensures { IfOk result (λ ss. (ns : List (List ℕ)) → Numbers names.now ns → ss ≡ map (stmt_of ns later) list.now) }
@@ -96,16 +95,16 @@ fn statement(
     alloc: Global,
     names: &Names,
     later: bool,
-    stmt: &sv_tree::Stmt,
+    stmt: &built_forms::Stmt,
 ) -> Result<Stmt, AllocError>
     requires { names.now.next < 2 ^ 32 }
     ensures { IfOk result (λ s. (ns : List (List ℕ)) → Numbers names.now ns → s ≡ stmt_of ns later stmt.now) }
 {
     match stmt {
-        sv_tree::Stmt::Block(list) => {
+        built_forms::Stmt::Block(list) => {
             Ok(Stmt::Block(statements(alloc, names, later, list.as_slice())?))
         }
-        sv_tree::Stmt::If { on, body, other } => {
+        built_forms::Stmt::If { on, body, other } => {
             let on = expr(alloc, names, on)?;
             let body = Boxed::new(alloc, statement(alloc, names, later, body.get())?)?;
             let other = match other {
@@ -117,7 +116,7 @@ fn statement(
             };
             Ok(Stmt::If { on, body, other })
         }
-        sv_tree::Stmt::Assign(assign) => assignment(alloc, names, later, assign),
+        built_forms::Stmt::Assign(assign) => assignment(alloc, names, later, assign),
     }
 }
 
@@ -138,23 +137,23 @@ fn clock_edge(alloc: Global, names: &Names, clock: &Text) -> Result<EdgeList, Al
 fn add_process(
     alloc: Global,
     names: &Names,
-    item: &sv_tree::Item,
+    item: &built_forms::Item,
     processes: &mut Processes,
 ) -> Result<(), AllocError>
     requires { names.now.next < 2 ^ 32 }
     ensures { OnOk result ((ns : List (List ℕ)) → Numbers names.now ns → processes.new ≡ processes.old ++ process_of ns item.now) }
 {
     match item {
-        sv_tree::Item::Assign(assign) => processes.push(Process {
+        built_forms::Item::Assign(assign) => processes.push(Process {
             kind: ProcessKind::Continuous,
             body: assignment(alloc, names, false, assign)?,
         }),
-        sv_tree::Item::Logic(_) => Ok(()),
-        sv_tree::Item::Comb(body) => processes.push(Process {
+        built_forms::Item::Logic(_) => Ok(()),
+        built_forms::Item::Comb(body) => processes.push(Process {
             kind: ProcessKind::Comb,
             body: statement(alloc, names, false, body)?,
         }),
-        sv_tree::Item::Edge { clock, body } => {
+        built_forms::Item::Edge { clock, body } => {
             let edges = clock_edge(alloc, names, &clock.word)?;
             processes.push(Process {
                 kind: ProcessKind::Edges(edges),
@@ -168,7 +167,7 @@ fn add_process(
 pub fn processes(
     alloc: Global,
     names: &Names,
-    items: &[sv_tree::Item],
+    items: &[built_forms::Item],
 ) -> Result<Processes, AllocError>
     requires { names.now.next < 2 ^ 32 }
     ensures { IfOk result (λ ps. (ns : List (List ℕ)) → Numbers names.now ns → ps ≡ processes_of ns items.now) }

@@ -8,21 +8,22 @@ mod signals;
 ghost use Rattle.std.specs.Prelude.{◌≡◌, ◌^◌, ◌<◌, ◌≤◌, ◌&&◌, not, true, map, nat_le, List, ℕ, IfOk};
 ghost use Rattle.std.specs.List.{list_all};
 ghost use Rattle.sv2v_top.specs.source.Names.{declared, signal_names};
-ghost use Rattle.sv2v_top.specs.source.Rules.{inputs, first_is_directed, header_holds, elaborates, is_built, ranges_hold, signal_of};
+ghost use Rattle.sv2v_top.specs.source.Rules.{inputs, is_top, header_holds, elaborates, is_built, ranges_hold, signal_of};
 ghost use Rattle.sv2v_top.specs.source.Lookup.{Numbers};
-ghost use Rattle.sv2v_top.specs.source.Answers.{stage_refusal, ElaborationGives};
+ghost use Rattle.sv2v_top.specs.source.Answers.{stage_refusal, absent_refusal, ElaborationGives, TreeGives};
 ghost use Rattle.lower_design.specs.Translatable.{is_helper_name};
 ghost use Rattle.sv_core.specs.declared.design.Signal.{Signal as DesignSignal};
 
 use crate::design::processes;
 use crate::package_scope::Names;
-use crate::sv_tree::{Module, Port};
+use built_forms::{Module, built};
 use names::signal_table;
 use rules::{Tables, comb_table, items_are_built, items_fit, process_break};
 use signals::{fits_in_bits, input_table, module_ranges_are_plain, signals};
 use std::alloc::{AllocError, Global};
 use sv_core::{Design, Signal};
 use sv_source::{Fail, Place, Refusal, Text};
+use sv_tree::SourceTree;
 
 /// Whether a name begins as those of helpers do.
 fn is_helper(name: &Text) -> bool
@@ -32,14 +33,11 @@ fn is_helper(name: &Text) -> bool
     name.len() >= 5 && &name[..5] == b"sv2v_".as_slice()
 }
 
-/// Whether the first port has a direction.
-fn first_has_direction(ports: &[Port]) -> bool
-    ensures { result ≡ first_is_directed ports.now }
+/// Whether a module is the top.
+fn is_top(source: &Module, top: &[u8]) -> bool
+    ensures { result ≡ is_top source.now top.now }
 {
-    match ports {
-        [] => true,
-        [first, ..] => first.head.is_some(),
-    }
+    source.name.word.is(top)
 }
 
 /// Whether no signal has a helper's name.
@@ -50,17 +48,15 @@ fn have_no_helpers(signals: &[Signal]) -> bool
 }
 
 /// Whether the names of the header and of the signals hold.
-fn header_fits(source: &Module, names: &Names, signals: &[Signal], top: &[u8]) -> bool
+fn header_fits(source: &Module, names: &Names, signals: &[Signal]) -> bool
     requires names { Numbers names.now (signal_names source.now) }
     requires signals { signals.now ≡ map signal_of (declared source.now) }
-    ensures { result ≡ header_holds source.now top.now }
+    ensures { result ≡ header_holds source.now }
 {
-    let directed = first_has_direction(source.ports.as_slice());
-    let is_top = source.name.word.is(top);
     let own = !is_helper(&source.name.word);
     let distinct = names.are_distinct();
     let free = have_no_helpers(signals);
-    directed & is_top & own & distinct & free
+    own & distinct & free
 }
 
 /// Whether a module elaborates, where its ranges hold.
@@ -70,16 +66,15 @@ fn module_fits(
     names: &Names,
     input_names: &Names,
     signals: &[Signal],
-    top: &[u8],
 ) -> Result<bool, AllocError>
     requires names { Numbers names.now (signal_names source.now) }
     requires inputs { Numbers input_names.now (inputs (declared source.now)) }
     requires ranges { ranges_hold (declared source.now) ≡ true }
     requires signals { signals.now ≡ map signal_of (declared source.now) }
-    ensures { IfOk result (λ b. b ≡ elaborates source.now top.now) }
+    ensures { IfOk result (λ b. b ≡ elaborates source.now) }
 {
     let items = items_fit(alloc, source.items.as_slice(), names, input_names)?;
-    let header = header_fits(source, names, signals, top);
+    let header = header_fits(source, names, signals);
     let few = fits_in_bits(signals);
     Ok(header & few & items)
 }
@@ -110,38 +105,69 @@ fn module_is_built(
     Ok(plain & items)
 }
 
+/// The head of the first file.
+const HEAD: Place = Place {
+    file: 0,
+    line: 1,
+    col: 1,
+};
+
 /// The refusal of what isn't built yet.
-pub fn not_built(alloc: Global) -> Result<Refusal, AllocError>
+fn not_built(alloc: Global) -> Result<Refusal, AllocError>
     ensures { IfOk result (λ r. r ≡ stage_refusal) }
 {
     let word = Text::from_bytes(alloc, b"stage")?;
-    let place = Place {
-        file: 0,
-        line: 1,
-        col: 1,
-    };
     Ok(Refusal {
         rule: 999,
-        place,
+        place: HEAD,
         word,
     })
 }
 
-/// The design of a module, by the top's name. A name that isn't declared is refused with E401; then a rule of names or types
-/// that isn't built with E999; then the first break of the rules on processes with E601 or E603; and last another form or
-/// rule that isn't built with E999.
-pub fn elaborate(alloc: Global, source: &Module, top: &[u8]) -> Result<Design, Fail>
+/// The refusal of a text in which the top isn't there.
+fn absent(alloc: Global, top: &[u8]) -> Result<Refusal, AllocError>
+    ensures { IfOk result (λ r. r ≡ absent_refusal top.now) }
+{
+    let word = Text::from_bytes(alloc, top)?;
+    Ok(Refusal {
+        rule: 408,
+        place: HEAD,
+        word,
+    })
+}
+
+/// The design of a source text, by the top's name. A form that isn't built is refused with E999, and a text without a module
+/// with E408.
+pub fn elaborate(alloc: Global, tree: &SourceTree, top: &[u8]) -> Result<Design, Fail>
+    ensures { TreeGives tree.now top.now result }
+{
+    let Some(found) = built(alloc, tree)? else {
+        return Err(Fail::Refused(not_built(alloc)?));
+    };
+    let Some(source) = found else {
+        return Err(Fail::Refused(absent(alloc, top)?));
+    };
+    elaborate_module(alloc, &source, top)
+}
+
+/// The design of a module, by the top's name. A name that isn't declared is refused with E401, and then a module that isn't
+/// the top with E408; then a rule of names or types that isn't built with E999; then the first break of the rules on processes
+/// with E601 or E603; and last another rule that isn't built with E999.
+fn elaborate_module(alloc: Global, source: &Module, top: &[u8]) -> Result<Design, Fail>
     ensures { ElaborationGives source.now top.now result }
 {
     let names = match signal_table(alloc, source)? {
         Ok(names) => names,
         Err(refusal) => return Err(Fail::Refused(refusal)),
     };
+    if !is_top(source, top) {
+        return Err(Fail::Refused(absent(alloc, top)?));
+    }
     let Some(signals) = signals(alloc, source)? else {
         return Err(Fail::Refused(not_built(alloc)?));
     };
     let inputs = input_table(alloc, signals.as_slice())?;
-    if !module_fits(alloc, source, &names, &inputs, signals.as_slice(), top)? {
+    if !module_fits(alloc, source, &names, &inputs, signals.as_slice())? {
         return Err(Fail::Refused(not_built(alloc)?));
     }
     if let Some(refusal) = process_break(alloc, source.items.as_slice())? {

@@ -8,8 +8,6 @@ mod main_call;
 mod package_scope;
 mod run;
 mod status;
-mod sv_build;
-mod sv_tree;
 mod translation;
 mod uses;
 

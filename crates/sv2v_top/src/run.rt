@@ -1,9 +1,9 @@
 //! From the words of the command line to the translation of the files that they name.
 
-ghost use Rattle.std.specs.Prelude.{◌≡◌, ◌<◌, ◌≤◌, ◌-◌, ◌++◌, ◌∷◌, ◌^◌, [], List, length, map, string_bytes, IfOk};
-ghost use Rattle.sv_preproc.specs.Runs.{end_token};
+ghost use Rattle.std.specs.Prelude.{◌≡◌, ◌<◌, ◌≤◌, ◌-◌, ◌^◌, length, map, string_bytes, IfOk};
+ghost use Rattle.sv_build.specs.Reading.{Ends};
 ghost use Rattle.sv2v_top.specs.Headline.{file_of, TokensGive, AskedGives, RunGives};
-ghost use Rattle.sv2v_top.specs.Tokens.{NamesAreSimple, BodiesAreSimple, EndsWithEnd};
+ghost use Rattle.sv2v_top.specs.Tokens.{NamesAreSimple, BodiesAreSimple};
 ghost use Rattle.sv2v_top.specs.declared.run.Stop.TheVariants.{Refused};
 
 use crate::translation::translate;
@@ -11,7 +11,7 @@ use command_line::{Asked, read_words};
 use std::alloc::{AllocError, Global};
 use std::string::String;
 use sv_preproc::{ExpandFail, Expanded, expand};
-use sv_source::{Fail, FileNames, Files, Place, Refusal, Text, Token, at};
+use sv_source::{Fail, FileNames, Files, Place, Refusal, Text, at};
 
 /// Why nothing is translated.
 #[derive(Drop)]
@@ -57,14 +57,11 @@ fn refused(alloc: Global, refusal: Refusal, names: &FileNames) -> Result<Stop, A
 fn translated(alloc: Global, top: &[u8], expanded: Expanded) -> Result<Text, Stop>
     requires few { length expanded.tokens < 2 ^ 32 - 1 }
     requires names { NamesAreSimple expanded.tokens }
-    requires ends { EndsWithEnd expanded.tokens }
-    ensures { (tokens : List Token) → (last : Place) → expanded.tokens ≡ tokens ++ end_token last ∷ [] → TokensGive top.now tokens last expanded.files result }
+    requires ends { Ends expanded.tokens }
+    ensures { TokensGive top.now expanded.tokens expanded.files result }
 {
-    let Expanded { mut tokens, files } = expanded;
-    let Some(end) = tokens.pop() else {
-        unreachable!();
-    };
-    match translate(alloc, top, tokens.as_slice(), end.place) {
+    let Expanded { tokens, files } = expanded;
+    match translate(alloc, top, tokens) {
         Ok(text) => Ok(text),
         Err(Fail::Memory) => Err(Stop::Memory),
         Err(Fail::Refused(refusal)) => Err(refused(alloc, refusal, &files)?),

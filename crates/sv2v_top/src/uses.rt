@@ -3,7 +3,7 @@
 ghost use Rattle.std.specs.Prelude.{◌≡◌, ◌++◌, ◌∷◌, [], ◌≤◌, ◌<◌, ◌+◌, map, OnOk, IfOk, MatchOption, nat_le};
 ghost use Rattle.sv2v_top.specs.source.Statements.{used, primary_uses, expr_uses, primary_literals, expr_literals, parts, sequence, assignment, item_parts};
 
-use crate::sv_tree::{Assign, Expr, Item, Operand, Primary, Stmt};
+use built_forms::{Assign, Expr, Item, Operand, Primary, Stmt};
 use std::alloc::{AllocError, Global};
 use sv_source::{Items, Spot};
 

@@ -1,15 +1,15 @@
 -- The design that a module elaborates to (IEEE 1800-2017 clauses 3.12, 6.9.1 and 23.2).
 use Rattle.std.specs.Prelude.{ℕ, Bool, true, false, List, [], ◌∷◌, map, flat_map}
-use Rattle.sv2v_top.specs.declared.sv_tree.Primary as Source
-use Rattle.sv2v_top.specs.declared.sv_tree.Primary.TheVariants.{Name, Literal}
-use Rattle.sv2v_top.specs.declared.sv_tree.Operand as SourceOperand
-use Rattle.sv2v_top.specs.declared.sv_tree.Expr as SourceExpr
-use Rattle.sv2v_top.specs.declared.sv_tree.Expr.TheVariants as E
-use Rattle.sv2v_top.specs.declared.sv_tree.Assign.{Assign}
-use Rattle.sv2v_top.specs.declared.sv_tree.Stmt as SourceStmt
-use Rattle.sv2v_top.specs.declared.sv_tree.Item.{Item}
-use Rattle.sv2v_top.specs.declared.sv_tree.Item.TheVariants as I
-use Rattle.sv2v_top.specs.declared.sv_tree.Module.{Module}
+use Rattle.built_forms.specs.declared.forms.Primary as Source
+use Rattle.built_forms.specs.declared.forms.Primary.TheVariants.{Name, Literal}
+use Rattle.built_forms.specs.declared.forms.Operand as SourceOperand
+use Rattle.built_forms.specs.declared.forms.Expr as SourceExpr
+use Rattle.built_forms.specs.declared.forms.Expr.TheVariants as E
+use Rattle.built_forms.specs.declared.forms.Assign.{Assign}
+use Rattle.built_forms.specs.declared.forms.Stmt as SourceStmt
+use Rattle.built_forms.specs.declared.forms.Item.{Item}
+use Rattle.built_forms.specs.declared.forms.Item.TheVariants as I
+use Rattle.built_forms.specs.declared.forms.Module.{Module}
 use Rattle.sv_core.specs.declared.design.Primary.{Primary}
 use Rattle.sv_core.specs.declared.design.Primary.TheVariants as P
 use Rattle.sv_core.specs.declared.design.Operand.{Operand}

@@ -5,15 +5,15 @@ use Rattle.std.specs.Str.{bytes_eq}
 use Rattle.sv_source.specs.declared.token.Spot.{Spot}
 use Rattle.sv_core.specs.declared.design.SignalKind.{SignalKind}
 use Rattle.sv_core.specs.declared.design.SignalKind.TheVariants.{InputNet, OutputVar, Variable}
-use Rattle.sv2v_top.specs.declared.sv_tree.Direction.{Direction}
-use Rattle.sv2v_top.specs.declared.sv_tree.Direction.TheVariants.{Input, Output}
-use Rattle.sv2v_top.specs.declared.sv_tree.Range.{Range}
-use Rattle.sv2v_top.specs.declared.sv_tree.PortHead.{PortHead}
-use Rattle.sv2v_top.specs.declared.sv_tree.Port.{Port}
-use Rattle.sv2v_top.specs.declared.sv_tree.Declaration.{Declaration}
-use Rattle.sv2v_top.specs.declared.sv_tree.Item.{Item}
-use Rattle.sv2v_top.specs.declared.sv_tree.Item.TheVariants as I
-use Rattle.sv2v_top.specs.declared.sv_tree.Module.{Module}
+use Rattle.built_forms.specs.declared.forms.Direction.{Direction}
+use Rattle.built_forms.specs.declared.forms.Direction.TheVariants.{Input, Output}
+use Rattle.built_forms.specs.declared.forms.Range.{Range}
+use Rattle.built_forms.specs.declared.forms.PortHead.{PortHead}
+use Rattle.built_forms.specs.declared.forms.Port.{Port}
+use Rattle.built_forms.specs.declared.forms.Declaration.{Declaration}
+use Rattle.built_forms.specs.declared.forms.Item.{Item}
+use Rattle.built_forms.specs.declared.forms.Item.TheVariants as I
+use Rattle.built_forms.specs.declared.forms.Module.{Module}
 use Rattle.sv2v_top.specs.declared.uses.Use.{Use}
 use Rattle.sv2v_top.specs.source.Statements.{item_parts}
 use Rattle.v_core.specs.Names.{among}

@@ -9,11 +9,10 @@ use Rattle.sv_source.specs.declared.refusal.Refusal.{Refusal}
 use Rattle.sv_core.specs.declared.design.Signal.{Signal}
 use Rattle.sv_core.specs.declared.design.SignalKind.{SignalKind}
 use Rattle.sv_core.specs.declared.design.SignalKind.TheVariants.{InputNet, OutputVar, Variable}
-use Rattle.sv2v_top.specs.declared.sv_tree.Range.{Range}
-use Rattle.sv2v_top.specs.declared.sv_tree.Port.{Port}
-use Rattle.sv2v_top.specs.declared.sv_tree.Item.{Item}
-use Rattle.sv2v_top.specs.declared.sv_tree.Item.TheVariants as I
-use Rattle.sv2v_top.specs.declared.sv_tree.Module.{Module}
+use Rattle.built_forms.specs.declared.forms.Range.{Range}
+use Rattle.built_forms.specs.declared.forms.Item.{Item}
+use Rattle.built_forms.specs.declared.forms.Item.TheVariants as I
+use Rattle.built_forms.specs.declared.forms.Module.{Module}
 use Rattle.sv2v_top.specs.source.Literals.{decimal, is_plain_literal}
 use Rattle.sv2v_top.specs.source.Names.{Declared, declared, signal_names}
 use Rattle.sv2v_top.specs.declared.uses.Use.{Use}
@@ -22,15 +21,13 @@ use Rattle.sv2v_top.specs.source.Statements.{word_of, item_parts, targets, reads
 use Rattle.v_core.specs.Names.{among, distinct, position}
 use Rattle.lower_design.specs.Translatable.{is_helper_name}
 
--- Names. The first port has a direction, the module is the top, no name is declared twice, and none is a helper's.
-abbrev pub first_is_directed : List Port → Bool
-first_is_directed [] = true
-first_is_directed (p ∷ ports) = elim p.head [ None ↦ false | Some h ↦ true ]
+-- Names. The module is the top, or not. No name is declared twice, and none is a helper's.
+abbrev pub is_top : Module → List ℕ → Bool
+is_top m top = bytes_eq m.name.word top
 
-abbrev pub header_holds : Module → List ℕ → Bool
-header_holds m top =
-    first_is_directed m.ports && bytes_eq m.name.word top && not (is_helper_name m.name.word)
-    && distinct (signal_names m) && list_all (λ name. not (is_helper_name name)) (signal_names m)
+abbrev pub header_holds : Module → Bool
+header_holds m =
+    not (is_helper_name m.name.word) && distinct (signal_names m) && list_all (λ name. not (is_helper_name name)) (signal_names m)
 
 -- Each name that an item uses is that of a signal, and what processes assign is no input.
 abbrev pub if_input : SignalKind → List ℕ → List (List ℕ) → List (List ℕ)
@@ -102,8 +99,8 @@ abbrev pub items_hold : Module → Bool
 items_hold m = list_all (item_holds (signal_names m) (inputs (declared m))) m.items
 
 -- The module elaborates to a design.
-abbrev pub elaborates : Module → List ℕ → Bool
-elaborates m top = header_holds m top && types_hold m && items_hold m
+abbrev pub elaborates : Module → Bool
+elaborates m = header_holds m && types_hold m && items_hold m
 
 -- Processes. E601: a signal is written by an earlier process too. E603: a combinational process doesn't write it on every path.
 abbrev pub refused_at : ℕ → Spot → Refusal

@@ -1,19 +1,19 @@
 -- What the statements of a source text name and hold, before anything is known of the names.
 use Rattle.std.specs.Prelude.{ℕ, suc, ◌+◌, max, List, [], ◌∷◌, ◌++◌, filter, Option, Some, None}
 use Rattle.sv_source.specs.declared.token.Spot.{Spot}
-use Rattle.sv2v_top.specs.declared.sv_tree.Primary.{Primary}
-use Rattle.sv2v_top.specs.declared.sv_tree.Primary.TheVariants.{Name}
-use Rattle.sv2v_top.specs.declared.sv_tree.Primary.TheVariants as P
+use Rattle.built_forms.specs.declared.forms.Primary.{Primary}
+use Rattle.built_forms.specs.declared.forms.Primary.TheVariants.{Name}
+use Rattle.built_forms.specs.declared.forms.Primary.TheVariants as P
 use Rattle.sv2v_top.specs.declared.uses.Use.{Use}
 use Rattle.sv2v_top.specs.declared.uses.Literal.{Literal}
 use Rattle.sv2v_top.specs.declared.uses.Role.{Role}
 use Rattle.sv2v_top.specs.declared.uses.Role.TheVariants.{Target, Read, Clock}
-use Rattle.sv2v_top.specs.declared.sv_tree.Expr.{Expr}
-use Rattle.sv2v_top.specs.declared.sv_tree.Expr.TheVariants.{Single, Binary}
-use Rattle.sv2v_top.specs.declared.sv_tree.Assign.{Assign}
-use Rattle.sv2v_top.specs.declared.sv_tree.Stmt.{Stmt, Stmt-F, fold-Stmt}
-use Rattle.sv2v_top.specs.declared.sv_tree.Item.{Item}
-use Rattle.sv2v_top.specs.declared.sv_tree.Item.TheVariants as I
+use Rattle.built_forms.specs.declared.forms.Expr.{Expr}
+use Rattle.built_forms.specs.declared.forms.Expr.TheVariants.{Single, Binary}
+use Rattle.built_forms.specs.declared.forms.Assign.{Assign}
+use Rattle.built_forms.specs.declared.forms.Stmt.{Stmt, Stmt-F, fold-Stmt}
+use Rattle.built_forms.specs.declared.forms.Item.{Item}
+use Rattle.built_forms.specs.declared.forms.Item.TheVariants as I
 use Rattle.v_core.specs.Names.{among}
 
 abbrev pub word_of : Spot → List ℕ

@@ -9,7 +9,7 @@ ghost use Rattle.sv2v_top.specs.source.Lookup.{Numbers, holds};
 ghost use Rattle.sv2v_top.specs.source.Answers.{undeclared_refusal, UndeclaredGives};
 
 use crate::package_scope::Names;
-use crate::sv_tree::{Item, Module, Port};
+use built_forms::{Item, Module, Port};
 use crate::uses::{Use, find_in};
 use std::alloc::{AllocError, Global};
 use sv_source::{Refusal, Spot, Text};

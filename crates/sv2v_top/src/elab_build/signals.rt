@@ -3,14 +3,14 @@
 ghost use Rattle.std.specs.Prelude.{◌≡◌, ◌≤◌, ◌^◌, ◌++◌, ◌&&◌, map, sum, nat_le, [], List, ℕ, Some, None, true, false, IfOk, OnOk, MatchOption};
 ghost use Rattle.std.specs.List.{list_all};
 ghost use Rattle.sv_core.specs.declared.design.Signal.{Signal as DesignSignal};
-ghost use Rattle.sv2v_top.specs.declared.sv_tree.Direction.TheVariants.{Input};
+ghost use Rattle.built_forms.specs.declared.forms.Direction.TheVariants.{Input};
 ghost use Rattle.sv2v_top.specs.source.Names.{kind_of, range_after, ports_from, variables, declared, declared_by, declared_variable};
 ghost use Rattle.sv2v_top.specs.source.Rules.{range_holds, range_width, is_plain_range, ranges_hold, ranges_are_plain, signal_of, if_input, input_paths};
 ghost use Rattle.sv2v_top.specs.source.Lookup.{Numbers};
 
 use crate::literals::decimal_up_to;
 use crate::package_scope::Names;
-use crate::sv_tree::{Declaration, Direction, Item, Module, Port, Range};
+use built_forms::{Declaration, Direction, Item, Module, Port, Range};
 use std::alloc::{AllocError, Global};
 use sv_core::{Signal, SignalKind, Signals};
 use sv_source::Items;

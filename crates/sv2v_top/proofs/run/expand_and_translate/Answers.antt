@@ -1,14 +1,14 @@
-use Rattle.std.proofs.Common.{◌≡◌, List, ℕ, ◌++◌, ◌∷◌, [], Err, sym, subst, arith}
-use Rattle.sv_source.specs.Faults.{NotRaised}
+use Rattle.std.proofs.Common.{◌≡◌, List, ℕ, ◌++◌, ◌∷◌, [], Err, refl, sym, subst, arith}
 use Rattle.sv_source.specs.declared.token.Token.{Token}
+use Rattle.sv_source.specs.Faults.{NotRaised}
 use Rattle.sv_preproc.specs.Runs.{expands, end_token, Comes}
 use Rattle.sv_preproc.specs.Answers.{FailCause, Reaches}
 use Rattle.sv_preproc.specs.declared.settings.ExpandFail.{ExpandFail}
 use Rattle.sv_preproc.specs.declared.settings.ExpandFail.TheVariants.{Refused}
 use Rattle.sv_preproc.proofs.Ending.{ends-with-end}
 use Rattle.sv_preproc.proofs.Kept.{few-tokens}
-use Rattle.sv2v_top.specs.Headline.{ExpandsTo, TokensGive, in_expansion}
 use Rattle.sv2v_top.specs.Tokens.{NamesAreSimple}
+use Rattle.sv2v_top.specs.Headline.{TokensGive, in_expansion}
 use Rattle.sv2v_top.proofs.Runs.{from-tokens, from-cause}
 use Rattle.sv2v_top.proofs.SourceNames.{expansion-named}
 use Rattle.sv2v_top.proofs.run.expand_and_translate.Goals as goal
@@ -29,18 +29,18 @@ translated-requires-clause-names g c =
 
 pub translated-requires-clause-ends : goal.translated-requires-clause-ends
 translated-requires-clause-ends g c =
-    ends-with-end c.args.asked.now.settings (g.F.Files.contents c.args.files.now) c.in-Ok.expanded.tokens c.in-Ok.expanded.files c.in-Ok.ensures.comes
+    let end = ends-with-end c.args.asked.now.settings (g.F.Files.contents c.args.files.now) c.in-Ok.expanded.tokens c.in-Ok.expanded.files c.in-Ok.ensures.comes in
+    record { before = end.0; last = end_token end.1; is = end.2; ends = refl }
 
 pub returns-in-Ok-clause-gives : goal.returns-in-Ok-clause-gives
 returns-in-Ok-clause-gives g c =
     let told = g.F.Files.contents c.args.files.now in
     let files = c.in-Ok.expanded.files in
-    let end = ends-with-end c.args.asked.now.settings told c.in-Ok.expanded.tokens files c.in-Ok.ensures.comes in
-    let expansion : ExpandsTo c.args.asked.now told end.0 end.1 files = subst (λ (ts : List Token). Comes c.args.asked.now.settings told (expands ts files)) end.2 c.in-Ok.ensures.comes in
+    let tokens = c.in-Ok.expanded.tokens in
     let same : _ ≡ _ = c.in-Ok.ensures.cause in
     let calm : NotRaised _ _ = omega arith in
-    from-tokens c.args.asked.now c.requires.some told _ _ end.0 end.1 files c.translated.result expansion calm
-    (subst (λ (top : List ℕ). TokensGive top end.0 end.1 files c.translated.result) c.as_bytes.ensures (c.translated.ensures end.0 end.1 end.2))
+    from-tokens c.args.asked.now c.requires.some told _ _ tokens files c.translated.result c.in-Ok.ensures.comes calm
+    (subst (λ (top : List ℕ). TokensGive top tokens files c.translated.result) c.as_bytes.ensures c.translated.ensures)
 
 pub returns-in-Err-FileFault-clause-later : goal.returns-in-Err-FileFault-clause-later
 returns-in-Err-FileFault-clause-later g c =

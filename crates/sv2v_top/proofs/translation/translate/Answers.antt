@@ -1,24 +1,29 @@
 use Rattle.std.proofs.Common.{◌≡◌, ◌++◌, List, ℕ, Err, sym, ap, subst, ◌∙◌}
 use Rattle.std.proofs.lemmas.Result.{err_from_is_err_and}
-use Rattle.lower_design.specs.Translatable.{Translatable}
 use Rattle.lower_design.specs.Lowering.{Lowers}
 use Rattle.v_core.specs.Reading.{VReads}
 use Rattle.v_core.proofs.OneReading.{one_design}
 use Rattle.sv2v_top.specs.Translation.{TranslationGives}
-use Rattle.sv2v_top.proofs.Correct.{correct, unread-breaks}
+use Rattle.sv2v_top.proofs.Correct.{correct, unread-breaks, refused-breaks}
 use Rattle.sv2v_top.proofs.translation.translate.Goals as goal
 
-pub returns-in_err-source : goal.returns-in_err-source
-returns-in_err-source c =
+pub returns-in_err-tree : goal.returns-in_err-tree
+returns-in_err-tree c =
     let p = err_from_is_err_and c.from_residual.result c.from_residual.ensures.1 in
-    let same : p.0 ≡ c.in_err-source.field-0.0 = p.2 in
-    subst (TranslationGives c.args.top.now c.args.tokens.now c.args.last) (sym (p.1 ∙ ap Err same))
-    (unread-breaks c.args.top.now c.args.tokens.now c.args.last c.in_err-source.field-0.0 c.in_err-source.ensures)
+    let same : p.0 ≡ c.in_err-tree.field-0.0 = p.2 in
+    subst (TranslationGives c.args.top.now c.args.tokens) (sym (p.1 ∙ ap Err same))
+    (unread-breaks c.args.top.now c.args.tokens c.in_err-tree.field-0.0 c.in_err-tree.ensures)
+
+pub returns-in_err-design : goal.returns-in_err-design
+returns-in_err-design c =
+    let p = err_from_is_err_and c.from_residual.result c.from_residual.ensures.1 in
+    let same : p.0 ≡ c.in_err-design.field-0.0 = p.2 in
+    subst (TranslationGives c.args.top.now c.args.tokens) (sym (p.1 ∙ ap Err same))
+    (refused-breaks c.args.top.now c.args.tokens c.in_ok-tree.tree c.in_err-design.field-0.0 c.in_ok-tree.ensures c.in_err-design.ensures)
 
 pub lower-requires : goal.lower-requires
 lower-requires c =
-    subst Translatable (sym c.in_ok-design.ensures.1)
-    (correct c.args.top.now c.args.tokens.now c.in_ok-source.source c.in_ok-source.ensures c.in_ok-design.ensures.0 c.requires.names)
+    correct c.args.top.now c.args.tokens c.in_ok-tree.tree c.in_ok-tree.ensures c.in_ok-design.design c.in_ok-design.ensures c.requires.names
 
 pub returns : goal.returns
 returns c =
@@ -28,7 +33,7 @@ returns c =
     let read_back : VReads c.write_text.new.to c.in_ok-target.target = subst (λ t. VReads t c.in_ok-target.target) (sym text) (written.reads lowers.of_grammar lowers.well_formed) in
     record {
       source = c.in_ok-design.design;
-      accepted = record { source = c.in_ok-source.source; reads = c.in_ok-source.ensures; unbroken = c.in_ok-design.ensures.0; elaborates = c.in_ok-design.ensures.1 };
+      accepted = record { tree = c.in_ok-tree.tree; reads = c.in_ok-tree.ensures; elaborated = c.in_ok-design.ensures };
       target = c.in_ok-target.target;
       right = record {
         reads = read_back;

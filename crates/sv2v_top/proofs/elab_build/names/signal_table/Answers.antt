@@ -1,6 +1,6 @@
 use Rattle.std.proofs.Common.{◌≡◌, ◌<◌, slice_index_or, ◌++◌, ◌+◌, ◌≤◌, length, List, Some, None, map, take, drop, sym, ap, subst, ◌∙◌, arith}
 use Rattle.std.specs.Option.{option_map, option_copied}
-use Rattle.sv2v_top.specs.declared.sv_tree.Item.{Item}
+use Rattle.built_forms.specs.declared.forms.Item.{Item}
 use Rattle.sv2v_top.specs.declared.uses.Use.{Use}
 use Rattle.sv2v_top.specs.source.Names.{port_names, name_of, variables, undeclared, undeclared_in, first_undeclared, signal_names}
 use Rattle.sv2v_top.specs.source.Answers.{undeclared_refusal}

@@ -1,5 +1,5 @@
 use Rattle.std.proofs.Common.{◌≡◌, ◌++◌, [], None, sym, ap, ◌∙◌}
-use Rattle.sv2v_top.specs.declared.sv_tree.Stmt.TheVariants as T
+use Rattle.built_forms.specs.declared.forms.Stmt.TheVariants as T
 use Rattle.sv2v_top.specs.source.Statements.{Parts, parts}
 use Rattle.sv2v_top.proofs.Names.{append-nil}
 use Rattle.sv2v_top.proofs.Levels.{alone-parts}

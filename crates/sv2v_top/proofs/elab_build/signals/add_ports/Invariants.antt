@@ -1,5 +1,5 @@
 use Rattle.std.proofs.Common.{◌≡◌, ◌++◌, None, map, drop}
-use Rattle.sv2v_top.specs.declared.sv_tree.Direction.TheVariants.{Input}
+use Rattle.built_forms.specs.declared.forms.Direction.TheVariants.{Input}
 use Rattle.sv2v_top.specs.source.Names.{ports_from}
 use Rattle.sv2v_top.specs.source.Rules.{ranges_hold, signal_of}
 use Rattle.sv2v_top.proofs.elab_build.signals.add_ports.Given as goal

@@ -1,6 +1,6 @@
 use Rattle.std.proofs.Common.{◌≡◌, ◌&&◌, None, sym, ap, ◌∙◌}
 use Rattle.std.specs.List.{list_all}
-use Rattle.sv2v_top.specs.declared.sv_tree.Direction.TheVariants.{Input}
+use Rattle.built_forms.specs.declared.forms.Direction.TheVariants.{Input}
 use Rattle.sv2v_top.specs.source.Names.{ports_from, variables, declared_by, Declared}
 use Rattle.sv2v_top.specs.source.Rules.{is_plain_range, ranges_are_plain}
 use Rattle.sv2v_top.proofs.Checks.{all-append, plain-items}

@@ -1,5 +1,5 @@
 use Rattle.std.proofs.Common.{◌≡◌, ◌&&◌, ◌+◌, true, drop, sym, ap, ◌∙◌}
-use Rattle.sv2v_top.specs.declared.sv_tree.Direction.TheVariants.{Input}
+use Rattle.built_forms.specs.declared.forms.Direction.TheVariants.{Input}
 use Rattle.sv2v_top.specs.source.Names.{ports_from, range_after}
 use Rattle.sv2v_top.specs.source.Rules.{is_plain_range, ranges_are_plain}
 use Rattle.sv2v_top.proofs.Checks.{plain-step}
