@@ -60,7 +60,9 @@ module _ (request : Asked) (contents : Contents) where
       → OneText tokens other_tokens names other_names
   one-text tokens other_tokens names other_names x y =
       let same = one-expansion (expands tokens names) (expands other_tokens other_names) x y in
-      one_text cc cc
+      let same_tokens : tokens ≡ other_tokens = cc in
+      let same_names : names ≡ other_names = cc in
+      one_text same_tokens same_names
 
   unlike : (ts : List Token) (names others : List (List ℕ)) (r : Refusal) → Comes request.settings (Some contents) (expands ts names) → Comes request.settings (Some contents) (refused r others) → ⊥
   unlike ts names others r x y = (let same = one-expansion (expands ts names) (refused r others) x y in cc)

@@ -9,11 +9,12 @@ module _ (P : Token → Type 0) where
   all-kept : (inside : Bool) (ts : List Token) → All P ts → All P (kept inside ts)
   all-kept inside [] a = All-nil P
   all-kept true (t ∷ ts) a = all-kept (not (closes t)) ts (All-tail P t ts a)
-  all-kept false (t ∷ ts) a = by_test (opens t ts)
+  all-kept false (t ∷ ts) a =
+      by_test (opens t ts) (all-kept true ts (All-tail P t ts a)) (All-cons P t (kept false ts) (All-head P t ts a) (all-kept false ts (All-tail P t ts a)))
     where
-      by_test : (b : Bool) → All P (if b then kept true ts else t ∷ kept false ts)
-      by_test true = all-kept true ts (All-tail P t ts a)
-      by_test false = All-cons P t (kept false ts) (All-head P t ts a) (all-kept false ts (All-tail P t ts a))
+      by_test : (b : Bool) → All P (kept true ts) → All P (t ∷ kept false ts) → All P (if b then kept true ts else t ∷ kept false ts)
+      by_test true inside outside = inside
+      by_test false inside outside = outside
 
   pub all-left : (ts : List Token) → All P ts → All P (without_attributes ts)
   all-left ts a = all-kept false ts a

@@ -16,7 +16,7 @@ returns-in_err-tree c =
 
 pub returns-in_err-design : goal.returns-in_err-design
 returns-in_err-design c =
-    let p = err_from_is_err_and c.from_residual.result c.from_residual.ensures.1 in
+    let p = err_from_is_err_and c.from_residual-in_err-design.result c.from_residual-in_err-design.ensures.1 in
     let same : p.0 ≡ c.in_err-design.field-0.0 = p.2 in
     subst (TranslationGives c.args.top.now c.args.tokens) (sym (p.1 ∙ ap Err same))
     (refused-breaks c.args.top.now c.args.tokens c.in_ok-tree.tree c.in_err-design.field-0.0 c.in_ok-tree.ensures c.in_err-design.ensures)
