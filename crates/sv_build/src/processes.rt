@@ -32,7 +32,7 @@ fn net_assignment(alloc: Global, tree: &Tree) -> Result<NetAssignment, AllocErro
 
 /// The assignments behind one `assign`.
 fn net_assignments(alloc: Global, trees: &[Tree]) -> Result<NetAssignments, AllocError>
-    ensures { IfOk result (λ as. as ≡ separated means.net_assignment_of trees.now) }
+    ensures { IfOk result (λ ns. ns ≡ separated means.net_assignment_of trees.now) }
 {
     let mut assignments = Items::new(alloc);
     let [first, rest @ ..] = trees else {
@@ -97,11 +97,7 @@ fn edges(alloc: Global, trees: &[Tree]) -> Result<EventEdges, AllocError>
 }
 
 /// What an `always` waits for, behind its `(`.
-fn parenthesized_event(
-    alloc: Global,
-    opening: u32,
-    tree: &Tree,
-) -> Result<EventControl, AllocError>
+fn parenthesized_event(alloc: Global, opening: u32, tree: &Tree) -> Result<EventControl, AllocError>
     ensures { IfOk result (λ e. e ≡ means.parenthesized_event opening tree.now) }
 {
     match row(tree) {
