@@ -94,3 +94,9 @@ SymbolsGive tokens by (Err (Refused r)) = BreakBy tokens by r
 
 abbrev pub ReadingGives : List Token → Result SourceTree Fail → Type 0
 ReadingGives tokens result = SymbolsGive (without_attributes tokens) (symbols (without_attributes tokens)) result
+
+-- tokens read as one tree or have one break, and not both
+pub record OneReading (tokens : List Token) : Type 0 where
+  pub one_tree : (a b : SourceTree) → Reads tokens a → Reads tokens b → a ≡ b
+  pub not_both : (a : SourceTree) (r : Refusal) → Reads tokens a → SyntaxBreak tokens r → ⊥
+  pub one_break : (r s : Refusal) → SyntaxBreak tokens r → SyntaxBreak tokens s → r ≡ s

@@ -18,6 +18,7 @@ use Rattle.sv_tree.specs.declared.statements.Stmt.{Stmt}
 use Rattle.sv_tree.specs.declared.statements.Stmt.TheVariants as S
 use Rattle.sv_tree.specs.declared.statements.UniquePriority.{UniquePriority}
 use Rattle.sv_tree.specs.declared.types.TypeText.{TypeText}
+use Rattle.sv_build.specs.declared.loops.LoopControl.{LoopControl}
 use Rattle.sv_build.specs.declared.variables.VariableText.{VariableText}
 use Rattle.sv_build.specs.declared.rows.TheConstants as R
 use Rattle.sv_build.specs.Words.{label_of, step_operator_by, assignment_operator_by, promise_of, case_keyword_of}
@@ -128,11 +129,17 @@ case_with inner promise value t =
 abbrev pub conditional_of : (Tree → Stmt) → Option UniquePriority → Tree → Stmt
 conditional_of inner promise t = if row_of t == R.IF then if_with inner promise (expr_of (kid 2 t)) t else case_with inner promise (expr_of (kid 2 t)) t
 
-abbrev pub for_with : (Tree → Stmt) → LoopStart → Expr → Tree → Stmt
-for_with inner first test t = S.For (token 0 t) (token 1 t) first (token 3 t) test (token 5 t) (loop_step_of (kid 6 t)) (token 7 t) (inner (kid 8 t))
+abbrev pub loop_control_with : LoopStart → Expr → Tree → LoopControl
+loop_control_with first test t = record { first = first; test = test; step = loop_step_of (kid 6 t) }
+
+abbrev pub loop_control_of : Tree → LoopControl
+loop_control_of t = loop_control_with (loop_start_of (kid 2 t)) (expr_of (kid 4 t)) t
+
+abbrev pub for_with : LoopControl → Stmt → Tree → Stmt
+for_with control body t = S.For (token 0 t) (token 1 t) control.first (token 3 t) control.test (token 5 t) control.step (token 7 t) body
 
 abbrev pub for_of : (Tree → Stmt) → Tree → Stmt
-for_of inner t = for_with inner (loop_start_of (kid 2 t)) (expr_of (kid 4 t)) t
+for_of inner t = for_with (loop_control_of t) (inner (kid 8 t)) t
 
 abbrev pub block_of : (Tree → BlockItem) → Tree → Stmt
 block_of items t = S.Block (token 0 t) (label_of (kid 1 t)) (map items (kids_of (kid 2 t))) (token 3 t) (label_of (kid 4 t))

@@ -1,6 +1,7 @@
 //! Attributes (IEEE 1800-2017 clause 5.12), which are dropped before a text is read.
 
-ghost use Rattle.std.specs.Prelude.{◌≡◌, reverse, IfOk};
+ghost use Rattle.std.specs.Prelude.{◌≡◌, ◌∷◌, List, reverse, IfOk};
+ghost use Rattle.sv_source.specs.declared.token.Token.{Token as TokenModel};
 ghost use Rattle.sv_build.specs.Attributes as means;
 
 use std::alloc::{AllocError, Global};
@@ -58,23 +59,39 @@ fn turned(alloc: Global, tokens: Tokens) -> Result<Vec<Token>, AllocError>
     Ok(turned)
 }
 
+/// How many close an attribute behind a token, where so many do from it on.
+fn closings_behind(token: &Token, closings: usize) -> usize
+    ensures { (rest : List TokenModel) → closings ≡ means.closings (token.now ∷ rest) → result ≡ means.closings rest }
+{
+    if closes(token) {
+        closings.saturating_sub(1)
+    } else {
+        closings
+    }
+}
+
+/// Whether a token opens an attribute, before tokens that come from the end on and of which so many close one.
+fn opens(token: &Token, coming: &[Token], closings: usize) -> bool
+    requires { closings ≡ means.closings (reverse coming.now) }
+    ensures { result ≡ means.opens token.now (reverse coming.now) }
+{
+    is_mark(token, b"(*") && !next_is_parenthesis(coming) && closings > 0
+}
+
 /// The tokens that stand in no attribute, from tokens that come from the end on and of which so many close an attribute.
 fn kept(alloc: Global, tokens: Vec<Token>, closings: usize) -> Result<Tokens, AllocError>
     requires { closings ≡ means.closings (reverse tokens.items) }
     ensures { IfOk result (λ kept. kept ≡ means.without_attributes (reverse tokens.items)) }
 {
     let mut coming = tokens;
-    let mut closings = closings;
+    let mut left = closings;
     let mut kept = Items::new(alloc);
     let mut inside = false;
     while let Some(token) = coming.pop() {
-        let closing = closes(&token);
-        if closing {
-            closings -= 1;
-        }
+        left = closings_behind(&token, left);
         if inside {
-            inside = !closing;
-        } else if is_mark(&token, b"(*") && !next_is_parenthesis(&coming) && closings > 0 {
+            inside = !closes(&token);
+        } else if opens(&token, &coming, left) {
             inside = true;
         } else {
             kept.push(token)?;

@@ -17,4 +17,4 @@ mod units;
 mod variables;
 mod words;
 
-pub use reading::read_source;
+pub use reading::{has_one_reading, read_source};

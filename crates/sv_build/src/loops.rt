@@ -12,6 +12,17 @@ use ll_engine::Tree;
 use std::alloc::{AllocError, Global};
 use sv_tree::{Expr, LoopStart, LoopStep, QualifiedName, Stmt, TypeText};
 
+/// What stands between the parentheses of a loop.
+#[derive(Drop)]
+pub struct LoopControl {
+    /// The variable and its first value.
+    pub first: LoopStart,
+    /// Whether there is another turn.
+    pub test: Expr,
+    /// What is done behind each turn.
+    pub step: LoopStep,
+}
+
 /// A loop's variable, with its first value.
 fn loop_start_with(
     alloc: Global,
@@ -32,7 +43,7 @@ fn loop_start_with(
 }
 
 /// A loop's variable, with its first value.
-pub fn loop_start(alloc: Global, tree: &Tree) -> Result<LoopStart, AllocError>
+fn loop_start(alloc: Global, tree: &Tree) -> Result<LoopStart, AllocError>
     ensures { IfOk result (λ s. s ≡ means.loop_start_of tree.now) }
 {
     match row(tree) {
@@ -86,6 +97,28 @@ pub fn loop_step(alloc: Global, tree: &Tree) -> Result<LoopStep, AllocError>
             })
         }
     }
+}
+
+/// What stands between the parentheses of a loop, by its variable and its condition.
+fn loop_control_with(
+    alloc: Global,
+    first: LoopStart,
+    test: Expr,
+    tree: &Tree,
+) -> Result<LoopControl, AllocError>
+    ensures { IfOk result (λ c. c ≡ means.loop_control_with first test tree.now) }
+{
+    let step = loop_step(alloc, kid(tree, 6))?;
+    Ok(LoopControl { first, test, step })
+}
+
+/// What stands between the parentheses of a loop.
+pub fn loop_control(alloc: Global, tree: &Tree) -> Result<LoopControl, AllocError>
+    ensures { IfOk result (λ c. c ≡ means.loop_control_of tree.now) }
+{
+    let first = loop_start(alloc, kid(tree, 2))?;
+    let test = expression(alloc, kid(tree, 4))?;
+    loop_control_with(alloc, first, test, tree)
 }
 
 /// An expression, where it is written.

@@ -133,3 +133,11 @@ pub fn read_source(alloc: Global, tokens: Tokens) -> Result<SourceTree, Fail>
     let symbols = symbols(alloc, tokens.as_slice())?;
     read_symbols(alloc, tokens, symbols.as_slice())
 }
+
+/// The law that tokens read as one tree at most, or have one break at most, and not both.
+#[tactic(auto, using(crate::proofs::OneReading::one_reading))]
+pub fn has_one_reading(tokens: &[Token])
+    ensures { means.OneReading tokens.now }
+{
+    let _tokens = tokens;
+}

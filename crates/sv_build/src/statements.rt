@@ -4,7 +4,7 @@ ghost use Rattle.std.specs.Prelude.{◌≡◌, ◌∷◌, map, drop, IfOk};
 ghost use Rattle.sv_build.specs.Statements as means;
 
 use crate::declarations::parameters;
-use crate::loops::{call, loop_start, loop_step, return_statement};
+use crate::loops::{LoopControl, call, loop_control, return_statement};
 use crate::lvalues::{concatenation_assigned, name_assigned, prefix};
 use crate::rows;
 use crate::variables::{VariableText, variable_text, variables};
@@ -17,8 +17,7 @@ use ll_engine::Tree;
 use std::alloc::{AllocError, Global};
 use sv_source::{Boxed, Items};
 use sv_tree::{
-    BlockItem, BlockItems, CaseItem, CaseItems, Else, Expr, LoopStart, QualifiedName, Stmt,
-    UniquePriority,
+    BlockItem, BlockItems, CaseItem, CaseItems, Else, Expr, QualifiedName, Stmt, UniquePriority,
 };
 
 /// A statement in its box.
@@ -193,20 +192,12 @@ fn conditional(
     }
 }
 
-/// A loop, by its variable and its condition.
-#[cycle(statement)]
-fn for_with(
-    alloc: Global,
-    depth: u32,
-    first: LoopStart,
-    test: Expr,
-    tree: &Tree,
-) -> Result<Stmt, AllocError>
-    ensures { IfOk result (λ s. s ≡ means.for_with (means.inside depth).stmt first test tree.now) }
+/// A loop, by what stands between its parentheses.
+fn for_with(control: LoopControl, body: Boxed<Stmt>, tree: &Tree) -> Stmt
+    ensures { result ≡ means.for_with control body tree.now }
 {
-    let step = loop_step(alloc, kid(tree, 6))?;
-    let body = boxed(alloc, depth, kid(tree, 8))?;
-    Ok(Stmt::For {
+    let LoopControl { first, test, step } = control;
+    Stmt::For {
         keyword: token(tree, 0),
         opening: token(tree, 1),
         first,
@@ -216,7 +207,7 @@ fn for_with(
         step,
         closing: token(tree, 7),
         body,
-    })
+    }
 }
 
 /// A loop.
@@ -224,9 +215,9 @@ fn for_with(
 fn for_loop(alloc: Global, depth: u32, tree: &Tree) -> Result<Stmt, AllocError>
     ensures { IfOk result (λ s. s ≡ means.for_of (means.inside depth).stmt tree.now) }
 {
-    let first = loop_start(alloc, kid(tree, 2))?;
-    let test = expression(alloc, kid(tree, 4))?;
-    for_with(alloc, depth, first, test, tree)
+    let control = loop_control(alloc, tree)?;
+    let body = boxed(alloc, depth, kid(tree, 8))?;
+    Ok(for_with(control, body, tree))
 }
 
 /// The items of a block.

@@ -38,9 +38,6 @@ decreases-case_with l = 16 * l.depth + 6
 abbrev pub decreases-conditional : goal.decreases-conditional
 decreases-conditional l = 16 * l.depth + 7
 
-abbrev pub decreases-for_with : goal.decreases-for_with
-decreases-for_with l = 16 * l.depth + 5
-
 abbrev pub decreases-for_loop : goal.decreases-for_loop
 decreases-for_loop l = 16 * l.depth + 6
 
