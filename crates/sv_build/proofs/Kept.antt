@@ -1,7 +1,7 @@
 -- Tokens that stand in no attribute.
-use Rattle.std.proofs.Common.{◌≡◌, ◌+◌, ◌≤◌, ℕ, zero, suc, nat_lt, Bool, true, false, not, ◌&&◌, List, [], ◌∷◌, ◌++◌, length, reverse, codes, refl, sym, ap, subst, ◌∙◌, arith}
+use Rattle.std.proofs.Common.{◌≡◌, ◌+◌, ◌≤◌, ℕ, zero, suc, nat_lt, Bool, true, false, not, ◌&&◌, List, [], ◌∷◌, ◌++◌, length, reverse, codes, append_assoc, refl, sym, ap, subst, ◌∙◌, arith}
 use Rattle.std.specs.Prelude.{if◌then◌else◌}
-use Rattle.std.proofs.lemmas.List.{reverse-append}
+use Rattle.std.proofs.lemmas.List.{reverse-append, append-nil}
 use Rattle.sv_source.specs.declared.token.Token.{Token}
 use Rattle.sv_build.specs.Attributes.{is_mark, closes, closings, next_is_parenthesis, opens, kept}
 
@@ -71,3 +71,52 @@ some-kept (x ∷ xs) e c =
 
 pub end-kept : (xs : List Token) (e : Token) → closes e ≡ false → 1 ≤ length (kept false (xs ++ e ∷ []))
 end-kept xs e c = (some-kept xs e c).0
+
+-- a step of turning tokens, and of keeping them
+pub turn-step : (old new back after whole : List Token) (t : Token) → old ≡ new ++ t ∷ [] → after ≡ back ++ t ∷ [] → old ++ reverse back ≡ whole → new ++ reverse after ≡ whole
+turn-step old new back after whole t e f g =
+    ap (λ (ts : List Token). new ++ ts) (ap reverse f ∙ turned back t)
+    ∙ sym (append_assoc new (t ∷ []) (reverse back))
+    ∙ ap (λ (ts : List Token). ts ++ reverse back) (sym e)
+    ∙ g
+
+pub turn-done : (old back whole : List Token) → old ≡ [] → old ++ reverse back ≡ whole → reverse back ≡ whole
+turn-done old back whole e g = ap (λ (ts : List Token). ts ++ reverse back) (sym e) ∙ g
+
+pub left-step : (old new : List Token) (t : Token) (n : ℕ) → old ≡ new ++ t ∷ [] → n ≡ closings (reverse old) → n ≡ closings (t ∷ reverse new)
+left-step old new t n e f = f ∙ ap (λ (ts : List Token). closings (reverse ts)) e ∙ ap closings (turned new t)
+
+front : (inside : Bool) (old new out whole : List Token) (t : Token) → old ≡ new ++ t ∷ [] → out ++ kept inside (reverse old) ≡ whole → out ++ kept inside (t ∷ reverse new) ≡ whole
+front inside old new out whole t e g = ap (λ (ts : List Token). out ++ kept inside ts) (sym (turned new t) ∙ ap reverse (sym e)) ∙ g
+
+pub inside-step : (inside closing : Bool) (old new out whole : List Token) (t : Token) → inside ≡ true → old ≡ new ++ t ∷ [] → closing ≡ closes t
+    → out ++ kept inside (reverse old) ≡ whole → out ++ kept (not closing) (reverse new) ≡ whole
+inside-step inside closing old new out whole t i e f g =
+    ap (λ (b : Bool). out ++ kept (not b) (reverse new)) f
+    ∙ ap (λ (b : Bool). out ++ kept b (t ∷ reverse new)) (sym i)
+    ∙ front inside old new out whole t e g
+
+pub opens-step : (inside o : Bool) (old new out whole : List Token) (t : Token) → inside ≡ false → old ≡ new ++ t ∷ [] → o ≡ true → o ≡ opens t (reverse new)
+    → out ++ kept inside (reverse old) ≡ whole → out ++ kept true (reverse new) ≡ whole
+opens-step inside o old new out whole t i e h f g =
+    let is : opens t (reverse new) ≡ true = sym f ∙ h in
+    ap (λ (b : Bool). out ++ (if b then kept true (reverse new) else t ∷ kept false (reverse new))) (sym is)
+    ∙ ap (λ (b : Bool). out ++ kept b (t ∷ reverse new)) (sym i)
+    ∙ front inside old new out whole t e g
+
+pub keeps-step : (inside o : Bool) (old new out after whole : List Token) (t : Token) → inside ≡ false → old ≡ new ++ t ∷ [] → o ≡ false → o ≡ opens t (reverse new)
+    → after ≡ out ++ t ∷ [] → out ++ kept inside (reverse old) ≡ whole → after ++ kept inside (reverse new) ≡ whole
+keeps-step inside o old new out after whole t i e h f a g =
+    let is : opens t (reverse new) ≡ false = sym f ∙ h in
+    ap (λ (ts : List Token). ts ++ kept inside (reverse new)) a
+    ∙ append_assoc out (t ∷ []) (kept inside (reverse new))
+    ∙ ap (λ (b : Bool). out ++ t ∷ kept b (reverse new)) i
+    ∙ ap (λ (b : Bool). out ++ (if b then kept true (reverse new) else t ∷ kept false (reverse new))) (sym is)
+    ∙ ap (λ (b : Bool). out ++ kept b (t ∷ reverse new)) (sym i)
+    ∙ front inside old new out whole t e g
+
+pub kept-done : (inside : Bool) (old out whole : List Token) → old ≡ [] → out ++ kept inside (reverse old) ≡ whole → out ≡ whole
+kept-done inside old out whole e g =
+    sym (append-nil out) ∙ ap (λ (ts : List Token). out ++ kept inside (reverse ts)) (sym e) ∙ g
+
+pub ruleset steps = (turn-step, turn-done, left-step, inside-step, opens-step, keeps-step, kept-done)

@@ -100,7 +100,7 @@ port_text_of t =
     else (if row_of t == R.DIMENSIONED_PORT then typed_port (dimensioned_text (kid 0 t) (kid 1 t)) (token 2 t) (kid 3 t)
     else named_port_of (token 0 t) (kid 1 t)))
 
-abbrev pub port_of : Tree → Port
+unfoldable pub port_of : Tree → Port
 port_of t =
     if row_of t == R.DIRECTED_PORT then record { direction = Some (direction_of (kid 0 t)); net = optional_net_of (kid 1 t); text = port_text_of (kid 2 t) }
     else record { direction = None; net = None; text = port_text_of (kid 0 t) }
@@ -112,7 +112,7 @@ abbrev pub port_list_of : Tree → Option PortList
 port_list_of t = optional port_list_from t
 
 -- headers
-abbrev pub parameter_port_of : Tree → ParameterPort
+unfoldable pub parameter_port_of : Tree → ParameterPort
 parameter_port_of t = record { keyword = optional_parameter_keyword_of (kid 0 t); body = parameter_body_of (kid 1 t) }
 
 abbrev pub parameter_list_from : Tree → ParameterPortList

@@ -35,11 +35,11 @@ fn next_is_parenthesis(coming: &[Token]) -> bool
 }
 
 /// How many of the tokens close an attribute.
-fn count_closings(tokens: &[Token]) -> usize
+fn count_closings(tokens: &Tokens) -> usize
     ensures { result ≡ means.closings tokens.now }
 {
     let mut closings = 0;
-    for token in tokens {
+    for token in tokens.as_slice() {
         if closes(token) {
             closings += 1;
         }
@@ -48,6 +48,7 @@ fn count_closings(tokens: &[Token]) -> usize
 }
 
 /// The tokens from the end on.
+#[tactic(auto, using(crate::proofs::Kept::steps))]
 fn turned(alloc: Global, tokens: Tokens) -> Result<Vec<Token>, AllocError>
     ensures { IfOk result (λ turned. reverse turned.items ≡ tokens) }
 {
@@ -79,6 +80,7 @@ fn opens(token: &Token, coming: &[Token], closings: usize) -> bool
 }
 
 /// The tokens that stand in no attribute, from tokens that come from the end on and of which so many close an attribute.
+#[tactic(auto, using(crate::proofs::Kept::steps))]
 fn kept(alloc: Global, tokens: Vec<Token>, closings: usize) -> Result<Tokens, AllocError>
     requires { closings ≡ means.closings (reverse tokens.items) }
     ensures { IfOk result (λ kept. kept ≡ means.without_attributes (reverse tokens.items)) }
@@ -104,7 +106,7 @@ fn kept(alloc: Global, tokens: Vec<Token>, closings: usize) -> Result<Tokens, Al
 pub fn without_attributes(alloc: Global, tokens: Tokens) -> Result<Tokens, AllocError>
     ensures { IfOk result (λ kept. kept ≡ means.without_attributes tokens) }
 {
-    let closings = count_closings(tokens.as_slice());
+    let closings = count_closings(&tokens);
     if closings == 0 {
         return Ok(tokens);
     }

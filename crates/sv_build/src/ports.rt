@@ -90,6 +90,7 @@ pub fn port_text(alloc: Global, tree: &Tree) -> Result<PortText, AllocError>
 }
 
 /// A port of a header.
+#[tactic(auto, unfolding(crate::specs::Declarations::port_of))]
 fn port(alloc: Global, tree: &Tree) -> Result<Port, AllocError>
     ensures { IfOk result (λ p. p ≡ means.port_of tree.now) }
 {
@@ -144,6 +145,7 @@ fn port_list(alloc: Global, tree: &Tree) -> Result<Option<PortList>, AllocError>
 }
 
 /// A parameter of a header.
+#[tactic(auto, unfolding(crate::specs::Declarations::parameter_port_of))]
 fn parameter_port(alloc: Global, tree: &Tree) -> Result<ParameterPort, AllocError>
     ensures { IfOk result (λ p. p ≡ means.parameter_port_of tree.now) }
 {

@@ -22,10 +22,10 @@ fn text(tokens: &[Token]) -> &[Token]
 }
 
 /// The symbols by which a text is read.
-fn symbols(alloc: Global, tokens: &[Token]) -> Result<Vec<u16>, AllocError>
+fn symbols(alloc: Global, tokens: &Tokens) -> Result<Vec<u16>, AllocError>
     ensures { IfOk result (λ symbols. symbols.items ≡ means.symbols tokens.now) }
 {
-    let text = text(tokens);
+    let text = text(tokens.as_slice());
     let mut symbols = Vec::with_capacity(alloc, text.len())?;
     for token in text {
         symbols.push(symbol_of(token))?;
@@ -130,7 +130,7 @@ pub fn read_source(alloc: Global, tokens: Tokens) -> Result<SourceTree, Fail>
     ensures { means.ReadingGives tokens result }
 {
     let tokens = without_attributes(alloc, tokens)?;
-    let symbols = symbols(alloc, tokens.as_slice())?;
+    let symbols = symbols(alloc, &tokens)?;
     read_symbols(alloc, tokens, symbols.as_slice())
 }
 

@@ -1,6 +1,6 @@
 //! Statements and items of blocks. In each function `depth` is the most nesting of those inside.
 
-ghost use Rattle.std.specs.Prelude.{◌≡◌, ◌∷◌, map, drop, IfOk};
+ghost use Rattle.std.specs.Prelude.{◌≡◌, ◌++◌, map, IfOk};
 ghost use Rattle.sv_build.specs.Statements as means;
 
 use crate::declarations::parameters;
