@@ -1,0 +1,20 @@
+//! The target language (IEEE 1364-2005): its trees, and in `specs/` what a text of it reads as.
+#![tactic(auto)]
+
+mod expressions;
+mod items;
+mod operators;
+mod parts;
+mod statements;
+
+pub use expressions::{VExpr, VExprs, VExtent, VPrim, VSel, VSels};
+pub use items::{
+    Names, VConnection, VConnections, VDesign, VEdge, VEdges, VFunction, VInit, VInitial,
+    VInstance, VItem, VItems, VLocal, VLocals, VModule, VModules, VNumbers, VProcess, VRegRest,
+    VSensitivity, VSignal,
+};
+pub use operators::{VBinaryOp, VUnaryOp};
+pub use parts::{VPart, VParts};
+pub use statements::{
+    VBranch, VCaseItem, VCaseItems, VCaseKind, VLabel, VLval, VLvals, VStmt, VStmts,
+};
