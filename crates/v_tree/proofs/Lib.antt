@@ -1,0 +1,5 @@
+pub mod class
+pub mod Rows
+pub mod Fitness
+pub mod Derivations
+pub mod OneReading

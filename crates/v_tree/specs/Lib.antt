@@ -1,0 +1,9 @@
+pub mod Names
+pub mod Reserved
+pub mod Tokens
+pub mod Symbols
+pub mod Heads
+pub mod Table
+pub mod Parts
+pub mod Meaning
+pub mod Reading

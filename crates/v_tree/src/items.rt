@@ -166,7 +166,7 @@ pub type VConnections = Items<VConnection>;
 #[derive(Drop)]
 pub struct VInstance {
     /// The module's name.
-    pub module: Text,
+    pub of: Text,
     /// The instance's name.
     pub name: Text,
     /// The connections of its ports.

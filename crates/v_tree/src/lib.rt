@@ -5,6 +5,7 @@ mod expressions;
 mod items;
 mod operators;
 mod parts;
+mod reading;
 mod statements;
 
 pub use expressions::{VExpr, VExprs, VExtent, VPrim, VSel, VSels};
@@ -15,6 +16,7 @@ pub use items::{
 };
 pub use operators::{VBinaryOp, VUnaryOp};
 pub use parts::{VPart, VParts};
+pub use reading::reads_once;
 pub use statements::{
     VBranch, VCaseItem, VCaseItems, VCaseKind, VLabel, VLval, VLvals, VStmt, VStmts,
 };
