@@ -3,3 +3,5 @@ pub mod Rows
 pub mod Fitness
 pub mod Derivations
 pub mod OneReading
+pub mod Fits
+pub mod Induction

@@ -7,3 +7,4 @@ pub mod Table
 pub mod Parts
 pub mod Meaning
 pub mod Reading
+pub mod Grammatical
