@@ -1,28 +1,26 @@
 -- What a tree needs to be of the grammar, one level at a time.
 
-use Rattle.std.proofs.Common.{◌≡◌, ℕ, Bool, List, [], ◌∷◌, map, Option, Some, None, subst, sym, ap, ◌∙◌}
+use Rattle.std.proofs.Common.{◌≡◌, ℕ, Bool, List, map, Option, Some, None, sym, ap, ◌∙◌}
 use Rattle.b4_core.specs.declared.bit.Bit4.{Bit4}
 use Rattle.v_tree.specs.declared.expressions.VExtent.{VExtent}
 use Rattle.v_tree.specs.declared.operators.VBinaryOp.{VBinaryOp}
 use Rattle.v_tree.specs.declared.operators.VUnaryOp.{VUnaryOp}
 use Rattle.v_tree.specs.declared.statements.VCaseKind.{VCaseKind}
 use Rattle.v_tree.specs.declared.statements.VLabel.{VLabel}
-
-use Rattle.v_tree.specs.declared.statements.VBranch.{VBranch, VBranch-F, fold-VBranch, fold-roll-VBranch}
+use Rattle.v_tree.specs.declared.statements.VBranch.{VBranch, VBranch-F, fold-roll-VBranch}
 use Rattle.v_tree.specs.declared.statements.VBranch.TheVariants as G
 use Rattle.v_tree.specs.declared.statements.VCaseItem.{VCaseItem, VCaseItem-F, fold-VCaseItem, fold-roll-VCaseItem}
 use Rattle.v_tree.specs.declared.statements.VCaseItem.TheVariants as C
-use Rattle.v_tree.specs.declared.expressions.VExpr.{VExpr, VExpr-F, fold-VExpr, fold-roll-VExpr}
+use Rattle.v_tree.specs.declared.expressions.VExpr.{VExpr, VExpr-F, fold-roll-VExpr}
 use Rattle.v_tree.specs.declared.expressions.VExpr.TheVariants as E
-use Rattle.v_tree.specs.declared.statements.VLval.{VLval, VLval-F, fold-VLval, fold-roll-VLval}
+use Rattle.v_tree.specs.declared.statements.VLval.{VLval, VLval-F, fold-roll-VLval}
 use Rattle.v_tree.specs.declared.statements.VLval.TheVariants as L
 use Rattle.v_tree.specs.declared.expressions.VPrim.{VPrim, VPrim-F, fold-VPrim, fold-roll-VPrim}
 use Rattle.v_tree.specs.declared.expressions.VPrim.TheVariants as O
-use Rattle.v_tree.specs.declared.expressions.VSel.{VSel, VSel-F, fold-VSel, fold-roll-VSel}
+use Rattle.v_tree.specs.declared.expressions.VSel.{VSel, VSel-F, fold-roll-VSel}
 use Rattle.v_tree.specs.declared.expressions.VSel.TheVariants as S
-use Rattle.v_tree.specs.declared.statements.VStmt.{VStmt, VStmt-F, fold-VStmt, fold-roll-VStmt}
+use Rattle.v_tree.specs.declared.statements.VStmt.{VStmt, VStmt-F, fold-roll-VStmt}
 use Rattle.v_tree.specs.declared.statements.VStmt.TheVariants as T
-
 use Rattle.v_tree.specs.Grammatical.{Fit, Form, expr_fit, prim_fit, sel_fit, lval_fit, fit, fit_of_sel, fit_of_lval, branch_form, item_form, stmt_form, form_of_stmt, form_of_branch}
 
 abbrev pub fit_of_prim : VPrim → Fit

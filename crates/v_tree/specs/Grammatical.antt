@@ -1,5 +1,5 @@
 -- Which trees are trees of the target grammar: each has a text, and the text that the layout gives it reads as it again.
-use Rattle.std.specs.Prelude.{ℕ, suc, ◌+◌, max, nat_le, nat_lt, Bool, true, false, not, ◌&&◌, List, [], ◌∷◌, length, map, Option, Some, None, if◌then◌else◌}
+use Rattle.std.specs.Prelude.{ℕ, suc, max, nat_le, nat_lt, Bool, true, false, not, ◌&&◌, List, [], ◌∷◌, length, map, Option, Some, None, if◌then◌else◌}
 use Rattle.std.specs.List.{list_all}
 use Rattle.b4_core.specs.declared.bit.Bit4.{Bit4}
 use Rattle.v_tree.specs.Tokens.{is_name}

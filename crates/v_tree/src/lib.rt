@@ -6,6 +6,7 @@ mod items;
 mod operators;
 mod parts;
 mod reading;
+mod reserved;
 mod statements;
 
 pub use expressions::{VExpr, VExprs, VExtent, VPrim, VSel, VSels};
@@ -17,6 +18,7 @@ pub use items::{
 pub use operators::{VBinaryOp, VUnaryOp};
 pub use parts::{VPart, VParts};
 pub use reading::reads_once;
+pub use reserved::{is_reserved, is_simple};
 pub use statements::{
     VBranch, VCaseItem, VCaseItems, VCaseKind, VLabel, VLval, VLvals, VStmt, VStmts,
 };

@@ -1,0 +1,4 @@
+pub mod Layout
+pub mod Sheets
+pub mod Margins
+pub mod Pages
