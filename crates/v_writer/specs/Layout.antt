@@ -143,6 +143,10 @@ abbrev pub in_turn : List (List Piece) → List Piece
 in_turn [] = []
 in_turn (l ∷ ls) = l ++ in_turn ls
 
+-- a mark with a space on either side
+abbrev pub between : List ℕ → List Piece
+between bytes = space ∷ mark bytes ∷ space ∷ []
+
 abbrev pub unary_mark : VUnaryOp → List ℕ
 unary_mark U.Not = codes "~"
 unary_mark U.LogicalNot = codes "!"
@@ -229,7 +233,11 @@ lval_layout = fold-VLval (List Piece) lval_pieces
 abbrev pub range_layout : ℕ → List Piece
 range_layout left = mark (codes "[") ∷ whole left ∷ mark (codes ":") ∷ whole 0 ∷ mark (codes "]") ∷ space ∷ []
 
--- `keyword [left:0] name`, and what stands behind it
+-- `keyword [left:0] name`
+abbrev pub declared : List ℕ → Option ℕ → List ℕ → List Piece
+declared keyword range n = word keyword ∷ space ∷ (perhaps range_layout range ++ name n ∷ [])
+
+-- and what stands behind it
 abbrev pub declaration_layout : List ℕ → Option ℕ → List ℕ → List Piece → List Piece
 declaration_layout keyword range n rest = word keyword ∷ space ∷ (perhaps range_layout range ++ name n ∷ (rest ++ mark (codes ";") ∷ []))
 

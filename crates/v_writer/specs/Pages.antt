@@ -1,6 +1,5 @@
 -- The bytes that a page keeps.
-use Rattle.std.specs.Prelude.{◌≡◌, ◌≤◌, ℕ, List, [], Option, Some, None, vec_capacity}
-use Rattle.std.specs.Vec.{Vec}
+use Rattle.std.specs.Prelude.{◌≡◌, ◌≤◌, ℕ, List, [], Option, Some, None, Vec, vec_capacity}
 
 -- the bytes that are kept, none where only the length is
 abbrev pub kept : {A : Type 0} → Option (Vec ℕ A) → List ℕ

@@ -5,6 +5,7 @@ ghost use Rattle.v_tree.specs.Tokens.{Token};
 ghost use Rattle.v_writer.specs.Layout.{token, space, line, bit_digit};
 ghost use Rattle.v_writer.specs.Margins.{levels};
 ghost use Rattle.v_writer.specs.Sheets.{Sheet, upto, appended, step};
+ghost use Rattle.v_writer.specs.Pages.{kept};
 
 use crate::margin::Margin;
 use b4_core::{Bit4, Vec4};
@@ -15,6 +16,7 @@ use v_tree::is_simple;
 
 /// What a text is written on: the length of what was written, and where the text is kept its bytes, up to a limit for
 /// which there is room.
+#[derive(Drop)]
 pub struct Page {
     length: u64,
     bytes: Option<Vec<u8>>,
