@@ -1,3 +1,5 @@
 pub mod Margins
 pub mod Levels
 pub mod Layouts
+pub mod Sheets
+pub mod ReadsBack

@@ -9,3 +9,5 @@ edge-levels = ap levels (sym rolls-Edge) ∙ fold-roll-Margin ℕ level Margin-F
 
 pub within-levels : (outer : Bor Margin) → levels (Within outer) ≡ suc (levels outer.now)
 within-levels outer = ap levels (sym (rolls-Within outer)) ∙ fold-roll-Margin ℕ level (Margin-F.Within outer)
+
+pub ruleset margins = (edge-levels, within-levels)

@@ -133,6 +133,11 @@ abbrev pub further : List (List Piece) → List Piece
 further [] = []
 further (l ∷ ls) = mark (codes ",") ∷ space ∷ (l ++ further ls)
 
+-- a comma before each but the first
+abbrev pub comma : Bool → List Piece
+comma true = []
+comma false = mark (codes ",") ∷ space ∷ []
+
 -- `a, b`
 abbrev pub listed : List (List Piece) → List Piece
 listed [] = []
@@ -277,6 +282,14 @@ case_word K.Plain = codes "case"
 case_word K.Z = codes "casez"
 case_word K.X = codes "casex"
 
+-- `case (on)`
+abbrev pub case_head : VCaseKind → List Piece → List Piece
+case_head kind on = word (case_word kind) ∷ space ∷ mark (codes "(") ∷ (on ++ mark (codes ")") ∷ [])
+
+-- the items and `endcase`
+abbrev pub case_items : ℕ → List Placed → List Piece
+case_items depth items = lines (suc depth) (placed (suc depth) items) ++ line depth ∷ word (codes "endcase") ∷ []
+
 abbrev pub branch_pieces : VBranch-F Placed Placed Placed → Placed
 branch_pieces (VBranch-F.Statement s) depth = s depth
 branch_pieces VBranch-F.Empty depth = mark (codes ";") ∷ []
@@ -291,8 +304,7 @@ stmt_pieces (VStmt-F.Block label ss) depth =
 stmt_pieces (VStmt-F.If on taken other) depth =
     word (codes "if") ∷ space ∷ mark (codes "(") ∷ (expr_layout on ++ mark (codes ")") ∷ space ∷ (taken depth ++ else_layout depth other))
 stmt_pieces (VStmt-F.Case kind on items) depth =
-    word (case_word kind) ∷ space ∷ mark (codes "(") ∷ (expr_layout on ++ mark (codes ")")
-    ∷ (lines (suc depth) (placed (suc depth) items) ++ line depth ∷ word (codes "endcase") ∷ []))
+    case_head kind (expr_layout on) ++ case_items depth items
 stmt_pieces (VStmt-F.Assign target value later) depth = lval_layout target ++ (stored later (expr_layout value) ++ mark (codes ";") ∷ [])
 
 abbrev pub stmt_layout : VStmt → Placed
@@ -359,12 +371,14 @@ process_layout (Assign target value) =
     word (codes "assign") ∷ space ∷ (lval_layout target ++ (stored false (expr_layout value) ++ mark (codes ";") ∷ []))
 process_layout (Always on body) = word (codes "always") ∷ space ∷ mark (codes "@") ∷ (sensitivity_layout on ++ space ∷ branch_layout body 1)
 
--- `[left:0] name;` behind the word `function`, and its lines
+-- `function [left:0] name;` and the lines of its inputs and variables
+abbrev pub function_head : VFunction → List Piece
+function_head f =
+    declaration_layout (codes "function") f.range f.name []
+    ++ (lines 2 (map (local_layout (codes "input")) f.inputs) ++ lines 2 (map (local_layout (codes "reg")) f.locals))
+
 abbrev pub function_layout : VFunction → List Piece
-function_layout f =
-    word (codes "function") ∷ space ∷ (perhaps range_layout f.range ++ name f.name ∷ mark (codes ";")
-    ∷ (lines 2 (map (local_layout (codes "input")) f.inputs) ++ (lines 2 (map (local_layout (codes "reg")) f.locals)
-    ++ line 2 ∷ (stmt_layout f.body 2 ++ line 1 ∷ word (codes "endfunction") ∷ []))))
+function_layout f = function_head f ++ line 2 ∷ (stmt_layout f.body 2 ++ line 1 ∷ word (codes "endfunction") ∷ [])
 
 abbrev pub connection_layout : VConnection → List Piece
 connection_layout c = mark (codes ".") ∷ name c.port ∷ mark (codes "(") ∷ (perhaps expr_layout c.value ++ mark (codes ")") ∷ [])
@@ -386,13 +400,14 @@ port_layout n = name n ∷ []
 -- ` (a, b)`, or nothing without ports
 abbrev pub ports_layout : List (List ℕ) → List Piece
 ports_layout [] = []
-ports_layout (n ∷ ns) = space ∷ mark (codes "(") ∷ name n ∷ (further (map port_layout ns) ++ mark (codes ")") ∷ [])
+ports_layout (n ∷ ns) = space ∷ mark (codes "(") ∷ (listed (map port_layout (n ∷ ns)) ++ mark (codes ")") ∷ [])
+
+abbrev pub header_layout : VModule → List Piece
+header_layout m = word (codes "module") ∷ space ∷ name m.name ∷ (ports_layout m.ports ++ mark (codes ";") ∷ [])
 
 -- a module up to its last word
 abbrev pub module_layout : VModule → List Piece
-module_layout m =
-    word (codes "module") ∷ space ∷ name m.name ∷ (ports_layout m.ports ++ mark (codes ";")
-    ∷ (lines 1 (map item_layout m.items) ++ line 0 ∷ word (codes "endmodule") ∷ []))
+module_layout m = header_layout m ++ (lines 1 (map item_layout m.items) ++ line 0 ∷ word (codes "endmodule") ∷ [])
 
 abbrev pub module_line : VModule → List Piece
 module_line m = module_layout m ++ line 0 ∷ []

@@ -2,7 +2,7 @@
 
 ghost use Rattle.std.specs.Prelude.{◌≡◌, map};
 ghost use Rattle.v_writer.specs.Sheets.{set};
-ghost use Rattle.v_writer.specs.Layout.{unary_mark, binary_mark, extent_layout, perhaps, further, listed, in_turn, sign_word, between, sel_layout, prim_layout, expr_layout, lval_layout};
+ghost use Rattle.v_writer.specs.Layout.{unary_mark, binary_mark, extent_layout, perhaps, comma, listed, in_turn, sign_word, between, sel_layout, prim_layout, expr_layout, lval_layout};
 
 use crate::page::Page;
 use v_tree::{VBinaryOp, VExpr, VExtent, VLval, VPrim, VSel, VUnaryOp};
@@ -107,16 +107,14 @@ fn write_sels(sels: &[VSel], page: &mut Page)
     }
 }
 
-/// Writes a comma, a space and the expression for each of these.
-#[cycle(write_expr)]
+/// Writes a comma and a space, but before the first one of a list.
 #[tactic(auto, using(crate::proofs::Layouts::writing))]
-fn write_further(exprs: &[VExpr], page: &mut Page)
-    ensures { page.new ≡ set page.old (further (map expr_layout exprs.now)) }
+pub fn write_comma(first: bool, page: &mut Page)
+    ensures { page.new ≡ set page.old (comma first) }
 {
-    for expr in exprs {
+    if !first {
         page.mark(b",");
         page.space();
-        write_expr(expr, page);
     }
 }
 
@@ -126,9 +124,11 @@ fn write_further(exprs: &[VExpr], page: &mut Page)
 pub fn write_list(exprs: &[VExpr], page: &mut Page)
     ensures { page.new ≡ set page.old (listed (map expr_layout exprs.now)) }
 {
-    if let [first, others @ ..] = exprs {
-        write_expr(first, page);
-        write_further(others, page);
+    let mut first = true;
+    for expr in exprs {
+        write_comma(first, page);
+        write_expr(expr, page);
+        first = false;
     }
 }
 
@@ -221,28 +221,17 @@ pub fn write_expr(expr: &VExpr, page: &mut Page)
     }
 }
 
-/// Writes a comma, a space and the target for each of these.
-#[cycle(write_lval)]
-#[tactic(auto, using(crate::proofs::Layouts::writing))]
-fn write_further_lvals(lvals: &[VLval], page: &mut Page)
-    ensures { page.new ≡ set page.old (further (map lval_layout lvals.now)) }
-{
-    for lval in lvals {
-        page.mark(b",");
-        page.space();
-        write_lval(lval, page);
-    }
-}
-
 /// Writes targets with commas between.
 #[cycle(write_lval)]
 #[tactic(auto, using(crate::proofs::Layouts::writing))]
 fn write_lvals(lvals: &[VLval], page: &mut Page)
     ensures { page.new ≡ set page.old (listed (map lval_layout lvals.now)) }
 {
-    if let [first, others @ ..] = lvals {
-        write_lval(first, page);
-        write_further_lvals(others, page);
+    let mut first = true;
+    for lval in lvals {
+        write_comma(first, page);
+        write_lval(lval, page);
+        first = false;
     }
 }
 

@@ -2,14 +2,15 @@
 
 ghost use Rattle.std.specs.Prelude.{◌≡◌, map, ◌∷◌, [], false, true};
 ghost use Rattle.v_tree.specs.declared.items.VConnection.{VConnection};
+ghost use Rattle.v_writer.specs.Margins.{levels};
 ghost use Rattle.v_writer.specs.Sheets.{set};
-ghost use Rattle.v_writer.specs.Layout.{perhaps, further, listed, edge_word, edge_layout, further_edges, edges_layout, sensitivity_layout, number_layout, init_layout, initial_layout, rest_layout, signal_layout, at_zero_layout, process_layout, function_layout, expr_layout, connection_layout, instance_layout, item_layout, line};
+ghost use Rattle.v_writer.specs.Layout.{perhaps, listed, edge_word, edge_layout, further_edges, edges_layout, sensitivity_layout, number_layout, init_layout, initial_layout, rest_layout, signal_layout, at_zero_layout, process_layout, function_head, function_layout, expr_layout, connection_layout, instance_layout, item_layout, line};
 
-use crate::expressions::{write_expr, write_lval};
+use crate::expressions::{write_comma, write_expr, write_lval};
 use crate::margin::Margin;
 use crate::page::Page;
 use crate::statements::{
-    write_branch, write_declared, write_locals, write_range, write_stmt, write_store,
+    write_branch, write_declared, write_locals, write_stmt, write_store,
 };
 use b4_core::Vec4;
 use v_tree::{
@@ -73,26 +74,16 @@ fn write_sensitivity(on: &VSensitivity, page: &mut Page)
     }
 }
 
-/// Writes a comma, a space and the number for each of these.
-#[tactic(auto, using(crate::proofs::Layouts::writing))]
-fn write_further_numbers(numbers: &[Vec4], page: &mut Page)
-    ensures { page.new ≡ set page.old (further (map number_layout numbers.now)) }
-{
-    for number in numbers {
-        page.mark(b",");
-        page.space();
-        page.number(number);
-    }
-}
-
 /// Writes numbers with commas between.
 #[tactic(auto, using(crate::proofs::Layouts::writing))]
 fn write_numbers(numbers: &[Vec4], page: &mut Page)
     ensures { page.new ≡ set page.old (listed (map number_layout numbers.now)) }
 {
-    if let [first, others @ ..] = numbers {
-        page.number(first);
-        write_further_numbers(others, page);
+    let mut first = true;
+    for number in numbers {
+        write_comma(first, page);
+        page.number(number);
+        first = false;
     }
 }
 
@@ -206,6 +197,18 @@ fn write_process(process: &VProcess, page: &mut Page)
     }
 }
 
+/// Writes the first line of a function, and those of its inputs and variables.
+#[tactic(auto, using(crate::proofs::Layouts::writing))]
+fn write_function_head(function: &VFunction, margin: Margin<'_>, page: &mut Page)
+    requires { levels margin ≡ 2 }
+    ensures { page.new ≡ set page.old (function_head function.now) }
+{
+    write_declared(b"function", function.range, &function.name, page);
+    page.mark(b";");
+    write_locals(b"input", function.inputs.as_slice(), margin, page);
+    write_locals(b"reg", function.locals.as_slice(), margin, page);
+}
+
 /// Writes a function.
 #[tactic(auto, using(crate::proofs::Layouts::writing))]
 fn write_function(function: &VFunction, page: &mut Page)
@@ -213,13 +216,7 @@ fn write_function(function: &VFunction, page: &mut Page)
 {
     let edge = Margin::edge();
     let outer = edge.inner();
-    page.word(b"function");
-    page.space();
-    write_range(function.range, page);
-    page.name(&function.name);
-    page.mark(b";");
-    write_locals(b"input", function.inputs.as_slice(), outer.inner(), page);
-    write_locals(b"reg", function.locals.as_slice(), outer.inner(), page);
+    write_function_head(function, outer.inner(), page);
     page.line(outer.inner());
     write_stmt(&function.body, outer.inner(), page);
     page.line(outer);
@@ -248,26 +245,16 @@ fn write_connection(connection: &VConnection, page: &mut Page)
     page.mark(b")");
 }
 
-/// Writes a comma, a space and the connection for each of these.
-#[tactic(auto, using(crate::proofs::Layouts::writing))]
-fn write_further_connections(connections: &[VConnection], page: &mut Page)
-    ensures { page.new ≡ set page.old (further (map connection_layout connections.now)) }
-{
-    for connection in connections {
-        page.mark(b",");
-        page.space();
-        write_connection(connection, page);
-    }
-}
-
 /// Writes connections with commas between.
 #[tactic(auto, using(crate::proofs::Layouts::writing))]
 fn write_connections(connections: &[VConnection], page: &mut Page)
     ensures { page.new ≡ set page.old (listed (map connection_layout connections.now)) }
 {
-    if let [first, others @ ..] = connections {
-        write_connection(first, page);
-        write_further_connections(others, page);
+    let mut first = true;
+    for connection in connections {
+        write_comma(first, page);
+        write_connection(connection, page);
+        first = false;
     }
 }
 

@@ -32,11 +32,12 @@ impl Margin<'_> {
     }
 
     /// Appends the spaces.
+    #[tactic(auto, using(crate::proofs::Sheets::sheets, crate::proofs::Margins::margins))]
     pub fn write(self, page: &mut Page)
         ensures { page.new ≡ appended page.old (indentation (levels self.entry)) }
     {
         match self {
-            Margin::Edge => {}
+            Margin::Edge => page.append(b""),
             Margin::Within(outer) => {
                 page.append(b"  ");
                 outer.write(page);

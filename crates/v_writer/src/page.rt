@@ -1,11 +1,11 @@
 //! What a text is written on.
 
-ghost use Rattle.std.specs.Prelude.{◌≡◌, ◌≤◌, false, ◌∷◌, [], decimal, map, reverse, vec_len, vec_capacity};
+ghost use Rattle.std.specs.Prelude.{◌≡◌, ◌≤◌, false, ◌∷◌, [], ◌++◌, codes, decimal, map, reverse, vec_len, vec_capacity};
 ghost use Rattle.v_tree.specs.Tokens.{Token};
 ghost use Rattle.v_writer.specs.Layout.{token, space, line, bit_digit};
 ghost use Rattle.v_writer.specs.Margins.{levels};
 ghost use Rattle.v_writer.specs.Sheets.{Sheet, upto, appended, step};
-ghost use Rattle.v_writer.specs.Pages.{kept};
+ghost use Rattle.v_writer.specs.Pages.{kept, HasRoom};
 
 use crate::margin::Margin;
 use b4_core::{Bit4, Vec4};
@@ -36,6 +36,7 @@ impl Model for Page {
 }
 
 // Appends as much of the piece as the limit leaves room for.
+#[tactic(auto, unfolding(crate::specs::Sheets::upto))]
 fn append_front(bytes: &mut Vec<u8>, limit: usize, piece: &[u8])
     requires { limit ≤ vec_capacity bytes.old }
     ensures items { bytes.new.items ≡ upto limit bytes.old.items piece.now }
@@ -43,6 +44,18 @@ fn append_front(bytes: &mut Vec<u8>, limit: usize, piece: &[u8])
 {
     let count = piece.len().min(limit.saturating_sub(bytes.len()));
     bytes.extend_from_slice(&piece[..count]).unwrap();
+}
+
+// The same, where the bytes are kept.
+#[tactic(auto, unfolding(crate::specs::Sheets::upto))]
+fn append_kept(bytes: &mut Option<Vec<u8>>, limit: usize, piece: &[u8])
+    requires { HasRoom bytes.old limit }
+    ensures items { kept bytes.new ≡ upto limit (kept bytes.old) piece.now }
+    ensures room { HasRoom bytes.new limit }
+{
+    if let Some(bytes) = bytes {
+        append_front(bytes, limit, piece);
+    }
 }
 
 // The digit of a bit.
@@ -99,19 +112,20 @@ impl Page {
     }
 
     /// Appends bytes.
+    #[tactic(auto, unfolding(crate::specs::Sheets::appended, crate::specs::Sheets::count))]
     pub fn append(&mut self, piece: &[u8])
         ensures { self.new ≡ appended self.old piece.now }
     {
         self.length = self.length.saturating_add(piece.len() as u64);
-        if let Some(bytes) = &mut self.bytes {
-            append_front(bytes, self.limit, piece);
-        }
+        append_kept(&mut self.bytes, self.limit, piece);
     }
 
-    // Appends bits, the most significant first.
+    // Appends `'b` and bits, the most significant first.
+    #[tactic(auto, using(crate::proofs::Sheets::sheets))]
     fn append_bits(&mut self, bits: &[Bit4])
-        ensures { self.new ≡ appended self.old (map bit_digit (reverse bits.now)) }
+        ensures { self.new ≡ appended self.old (codes "'b" ++ map bit_digit (reverse bits.now)) }
     {
+        self.append(b"'b");
         for bit in bits.iter().rev() {
             self.append(&[digit(*bit)]);
         }
@@ -126,6 +140,7 @@ impl Page {
     }
 
     /// Writes a mark.
+    #[tactic(auto, unfolding(crate::specs::Sheets::step))]
     pub fn mark(&mut self, bytes: &[u8])
         ensures { self.new ≡ step self.old (token (Token.mark bytes.now)) }
     {
@@ -134,6 +149,7 @@ impl Page {
     }
 
     /// Writes a word.
+    #[tactic(auto, unfolding(crate::specs::Sheets::step))]
     pub fn word(&mut self, bytes: &[u8])
         ensures { self.new ≡ step self.old (token (Token.word bytes.now)) }
     {
@@ -142,6 +158,7 @@ impl Page {
     }
 
     /// Writes a name, as an escaped identifier where it isn't a simple one.
+    #[tactic(auto, using(crate::proofs::Sheets::sheets), unfolding(crate::specs::Sheets::step, crate::specs::Layout::name_spelling, crate::specs::Layout::is_escaped_name))]
     pub fn name(&mut self, name: &Text)
         ensures { self.new ≡ step self.old (token (Token.name name.now)) }
     {
@@ -157,16 +174,17 @@ impl Page {
     }
 
     /// Writes a sized binary number.
+    #[tactic(auto, using(crate::proofs::Sheets::sheets), unfolding(crate::specs::Sheets::step))]
     pub fn number(&mut self, bits: &Vec4)
         ensures { self.new ≡ step self.old (token (Token.number bits.now)) }
     {
         self.append_decimal(bits.len() as u64);
-        self.append(b"'b");
         self.append_bits(bits.as_slice());
         self.escaped = false;
     }
 
     /// Writes a decimal number.
+    #[tactic(auto, unfolding(crate::specs::Sheets::step))]
     pub fn whole(&mut self, n: u32)
         ensures { self.new ≡ step self.old (token (Token.decimal n)) }
     {
@@ -175,16 +193,17 @@ impl Page {
     }
 
     /// Writes a space, but behind an escaped identifier, which has its own.
+    #[tactic(auto, unfolding(crate::specs::Sheets::step))]
     pub fn space(&mut self)
         ensures { self.new ≡ step self.old space }
     {
-        if !self.escaped {
-            self.append(b" ");
-        }
+        let space: &[u8] = if self.escaped { b"" } else { b" " };
+        self.append(space);
         self.escaped = false;
     }
 
     /// Ends the line, and indents the next one.
+    #[tactic(auto, using(crate::proofs::Sheets::sheets), unfolding(crate::specs::Sheets::step))]
     pub fn line(&mut self, margin: Margin<'_>)
         ensures { self.new ≡ step self.old (line (levels margin.entry)) }
     {

@@ -3,17 +3,17 @@
 ghost use Rattle.std.specs.Prelude.{◌≡◌, map, ◌∷◌, []};
 ghost use Rattle.v_writer.specs.Margins.{levels};
 ghost use Rattle.v_writer.specs.Sheets.{set};
-ghost use Rattle.v_writer.specs.Layout.{line, perhaps, range_layout, declared, local_layout, lines, store_mark, between, label_layout, placed, case_word, stmt_layout, case_layout, branch_layout, else_of};
+ghost use Rattle.v_writer.specs.Layout.{line, perhaps, range_layout, declared, local_layout, lines, store_mark, between, label_layout, placed, case_word, case_head, case_items, expr_layout, stmt_layout, case_layout, branch_layout, else_of};
 
 use crate::expressions::{write_expr, write_list, write_lval};
 use crate::margin::Margin;
 use crate::page::Page;
 use sv_source::Text;
-use v_tree::{VBranch, VCaseItem, VCaseKind, VLabel, VLocal, VStmt};
+use v_tree::{VBranch, VCaseItem, VCaseItems, VCaseKind, VExpr, VLabel, VLocal, VStmt};
 
 /// Writes a range and a space.
 #[tactic(auto, using(crate::proofs::Layouts::writing))]
-pub fn write_range(range: Option<u32>, page: &mut Page)
+fn write_range(range: Option<u32>, page: &mut Page)
     ensures { page.new ≡ set page.old (perhaps range_layout range) }
 {
     if let Some(left) = range {
@@ -91,6 +91,18 @@ fn case_bytes(kind: VCaseKind) -> &'static [u8]
     }
 }
 
+/// Writes the head of a `case`.
+#[tactic(auto, using(crate::proofs::Layouts::writing))]
+fn write_case_head(kind: VCaseKind, on: &VExpr, page: &mut Page)
+    ensures { page.new ≡ set page.old (case_head kind (expr_layout on.now)) }
+{
+    page.word(case_bytes(kind));
+    page.space();
+    page.mark(b"(");
+    write_expr(on, page);
+    page.mark(b")");
+}
+
 /// Writes a statement whose line has this margin.
 #[cycle(write_stmt)]
 #[tactic(auto, using(crate::proofs::Layouts::writing))]
@@ -116,14 +128,8 @@ pub fn write_stmt(stmt: &VStmt, margin: Margin<'_>, page: &mut Page)
             write_else(other, margin, page);
         }
         VStmt::Case { kind, on, items } => {
-            page.word(case_bytes(*kind));
-            page.space();
-            page.mark(b"(");
-            write_expr(on, page);
-            page.mark(b")");
-            write_items(items.as_slice(), margin.inner(), page);
-            page.line(margin);
-            page.word(b"endcase");
+            write_case_head(*kind, on, page);
+            write_case_items(items, margin, page);
         }
         VStmt::Assign {
             target,
@@ -182,6 +188,17 @@ fn write_items(items: &[VCaseItem], margin: Margin<'_>, page: &mut Page)
         page.line(margin);
         write_item(item, margin, page);
     }
+}
+
+/// Writes the items of a `case` and its last line.
+#[cycle(write_stmt)]
+#[tactic(auto, using(crate::proofs::Layouts::writing))]
+fn write_case_items(items: &VCaseItems, margin: Margin<'_>, page: &mut Page)
+    ensures { page.new ≡ set page.old (case_items (levels margin.entry) (map case_layout items.now)) }
+{
+    write_items(items.as_slice(), margin.inner(), page);
+    page.line(margin);
+    page.word(b"endcase");
 }
 
 /// Writes what an `if`, an `else`, an item of a `case` or an `always` governs.

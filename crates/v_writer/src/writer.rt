@@ -1,11 +1,12 @@
 //! The text of a target design.
 
-ghost use Rattle.std.specs.Prelude.{◌≡◌, ◌+◌, ◌≤◌, ◌^◌, ◌-◌, min, map, length, true, vec_len, vec_capacity};
+ghost use Rattle.std.specs.Prelude.{◌≡◌, ◌+◌, ◌≤◌, ◌^◌, ◌-◌, ◌∷◌, [], codes, min, map, length, true, vec_len, vec_capacity};
 ghost use Rattle.v_tree.specs.Grammatical.{is_of_grammar};
 ghost use Rattle.v_writer.specs.Sheets.{set};
 ghost use Rattle.v_writer.specs.Writing.{Writes};
-ghost use Rattle.v_writer.specs.Layout.{further, lines, in_turn, port_layout, ports_layout, item_layout, module_line, text_layout, text_of};
+ghost use Rattle.v_writer.specs.Layout.{listed, lines, in_turn, port_layout, ports_layout, item_layout, header_layout, module_line, line, word, text_layout, text_of};
 
+use crate::expressions::write_comma;
 use crate::items::write_item;
 use crate::margin::Margin;
 use crate::page::Page;
@@ -13,15 +14,16 @@ use std::mem;
 use sv_source::Text;
 use v_tree::{VDesign, VItem, VModule};
 
-/// Writes a comma, a space and the name for each of these ports.
+/// Writes names with commas between.
 #[tactic(auto, using(crate::proofs::Layouts::writing))]
-fn write_further(ports: &[Text], page: &mut Page)
-    ensures { page.new ≡ set page.old (further (map port_layout ports.now)) }
+fn write_names(names: &[Text], page: &mut Page)
+    ensures { page.new ≡ set page.old (listed (map port_layout names.now)) }
 {
-    for name in ports {
-        page.mark(b",");
-        page.space();
+    let mut first = true;
+    for name in names {
+        write_comma(first, page);
         page.name(name);
+        first = false;
     }
 }
 
@@ -30,11 +32,10 @@ fn write_further(ports: &[Text], page: &mut Page)
 fn write_ports(ports: &[Text], page: &mut Page)
     ensures { page.new ≡ set page.old (ports_layout ports.now) }
 {
-    if let [first, others @ ..] = ports {
+    if !ports.is_empty() {
         page.space();
         page.mark(b"(");
-        page.name(first);
-        write_further(others, page);
+        write_names(ports, page);
         page.mark(b")");
     }
 }
@@ -50,20 +51,35 @@ fn write_items(items: &[VItem], page: &mut Page)
     }
 }
 
-/// Writes a module with the end of its last line.
+/// Writes the header of a module.
 #[tactic(auto, using(crate::proofs::Layouts::writing))]
-fn write_module(m: &VModule, page: &mut Page)
-    ensures { page.new ≡ set page.old (module_line m.now) }
+fn write_header(m: &VModule, page: &mut Page)
+    ensures { page.new ≡ set page.old (header_layout m.now) }
 {
     page.word(b"module");
     page.space();
     page.name(&m.name);
     write_ports(m.ports.as_slice(), page);
     page.mark(b";");
-    write_items(m.items.as_slice(), page);
+}
+
+/// Writes the end of a module with the end of its last line.
+#[tactic(auto, using(crate::proofs::Layouts::writing))]
+fn write_end(page: &mut Page)
+    ensures { page.new ≡ set page.old (line 0 ∷ word (codes "endmodule") ∷ line 0 ∷ []) }
+{
     page.line(Margin::edge());
     page.word(b"endmodule");
     page.line(Margin::edge());
+}
+
+/// Writes a module with the end of its last line.
+fn write_module(m: &VModule, page: &mut Page)
+    ensures { page.new ≡ set page.old (module_line m.now) }
+{
+    write_header(m, page);
+    write_items(m.items.as_slice(), page);
+    write_end(page);
 }
 
 /// Writes modules one behind the other.
