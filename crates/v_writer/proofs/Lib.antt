@@ -2,4 +2,8 @@ pub mod Margins
 pub mod Levels
 pub mod Layouts
 pub mod Sheets
+pub mod Phrases
+pub mod Spelled
+pub mod Pieces
+pub mod Said
 pub mod ReadsBack

@@ -337,9 +337,10 @@ abbrev pub edges_layout : List VEdge → List Piece
 edges_layout [] = []
 edges_layout (e ∷ es) = edge_layout e ++ further_edges es
 
+-- with the space behind it
 abbrev pub sensitivity_layout : VSensitivity → List Piece
-sensitivity_layout Star = mark (codes "*") ∷ []
-sensitivity_layout (Edges es) = mark (codes "(") ∷ (edges_layout es ++ mark (codes ")") ∷ [])
+sensitivity_layout Star = mark (codes "*") ∷ space ∷ []
+sensitivity_layout (Edges es) = mark (codes "(") ∷ (edges_layout es ++ mark (codes ")") ∷ space ∷ [])
 
 abbrev pub number_layout : List Bit4 → List Piece
 number_layout bits = number bits ∷ []
@@ -369,7 +370,7 @@ at_zero_layout i = word (codes "initial") ∷ space ∷ name i.name ∷ (stored 
 abbrev pub process_layout : VProcess → List Piece
 process_layout (Assign target value) =
     word (codes "assign") ∷ space ∷ (lval_layout target ++ (stored false (expr_layout value) ++ mark (codes ";") ∷ []))
-process_layout (Always on body) = word (codes "always") ∷ space ∷ mark (codes "@") ∷ (sensitivity_layout on ++ space ∷ branch_layout body 1)
+process_layout (Always on body) = word (codes "always") ∷ space ∷ mark (codes "@") ∷ (sensitivity_layout on ++ branch_layout body 1)
 
 -- `function [left:0] name;` and the lines of its inputs and variables
 abbrev pub function_head : VFunction → List Piece

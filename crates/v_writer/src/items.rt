@@ -59,7 +59,7 @@ fn write_edges(edges: &[VEdge], page: &mut Page)
     }
 }
 
-/// Writes what an `always` waits for.
+/// Writes what an `always` waits for and a space.
 #[tactic(auto, using(crate::proofs::Layouts::writing))]
 fn write_sensitivity(on: &VSensitivity, page: &mut Page)
     ensures { page.new ≡ set page.old (sensitivity_layout on.now) }
@@ -72,6 +72,7 @@ fn write_sensitivity(on: &VSensitivity, page: &mut Page)
             page.mark(b")");
         }
     }
+    page.space();
 }
 
 /// Writes numbers with commas between.
@@ -191,7 +192,6 @@ fn write_process(process: &VProcess, page: &mut Page)
             page.space();
             page.mark(b"@");
             write_sensitivity(on, page);
-            page.space();
             write_branch(body, Margin::edge().inner(), page);
         }
     }
