@@ -9,4 +9,5 @@ pub mod Said
 pub mod WrittenExprs
 pub mod WrittenStmts
 pub mod WrittenSignals
+pub mod WrittenItems
 pub mod ReadsBack

@@ -50,43 +50,43 @@ use Rattle.v_writer.proofs.Said.{front-append, avoids, stops, Ended, Said, Node,
 use Rattle.v_writer.proofs.WrittenExprs.{Stops, all-made, expr-read}
 use Rattle.v_writer.proofs.WrittenStmts.{StopsIf, begun-avoids, first-past, all-past, lines-append, lval-read, range-node, range_parts, declared-said, lines-said, Line, locals-said, stmt-read, branch-read}
 
-none : 0 ≤ nesting_limit
+pub none : 0 ≤ nesting_limit
 none = omega arith
 
 -- what a tree of the grammar needs: that it fits, and how deep it may nest
-fits-and-depth : (b : Bool) (n : ℕ) → (b && nat_le n nesting_limit) ≡ true → (b ≡ true) × (n ≤ nesting_limit)
+pub fits-and-depth : (b : Bool) (n : ℕ) → (b && nat_le n nesting_limit) ≡ true → (b ≡ true) × (n ≤ nesting_limit)
 fits-and-depth b n e = let parts = and_parts b (nat_le n nesting_limit) e in (parts.0, leb-true n nesting_limit parts.1)
 
-signal-means : (make : Option ℕ → List ℕ → VSignal) (range : Option ℕ) (n : List ℕ) (ps : List VPart)
-    → signal_of make (P.Nothing ∷ (range_parts range ++ P.Name n ∷ ps)) ≡ P.Item (I.Signal (make range n))
-signal-means make None n ps = by-rest
-  where
-    by-rest : signal_of make (P.Nothing ∷ P.Name n ∷ ps) ≡ P.Item (I.Signal (make None n))
-    by-rest = refl
-signal-means make (Some left) n ps = refl
+signal-means : (make : Option ℕ → List ℕ → VSignal) (range : Option ℕ) (n : List ℕ)
+    → signal_of make (P.Nothing ∷ (range_parts range ++ P.Name n ∷ P.Nothing ∷ [])) ≡ P.Item (I.Signal (make range n))
+signal-means make None n = refl
+signal-means make (Some left) n = refl
+
+abbrev pub Anything : Option ℕ → Type 0
+Anything x = Unit {0}
 
 module _ (all : List Token) where
   -- one item, in front of a symbol that is no `else`
   abbrev pub ItemRead : VItem → Type 0
   ItemRead i = is_item i ≡ true → (after : Option ℕ) → StopsIf after → Node all head.module_item 0 (item_layout i) after (P.Item i)
 
-  input-item : (range : Option ℕ) (n : List ℕ) → ItemRead (I.Signal (Input range n))
+  pub input-item : (range : Option ℕ) (n : List ℕ) → ItemRead (I.Signal (Input range n))
   input-item range n good after stop =
       let parts = and_parts (is_perhaps is_decimal range) (is_name n) good in
       row all 0 Rows.row_input (Begins.itself refl)
       (wd all (Token.word (codes "input")) refl none (λ qs. word-on (codes "input") qs refl) (λ qs e. refl)
       (sp all (declared-said all range n 0 parts.0 parts.1 none (λ qs e. refl)
       (mk all (Token.mark (codes ";")) refl none semicolon-on (done all 0 0 after)))))
-      (signal-means Input range n (P.Nothing ∷ []))
+      (signal-means Input range n)
 
-  wire-item : (range : Option ℕ) (n : List ℕ) → ItemRead (I.Signal (Wire range n))
+  pub wire-item : (range : Option ℕ) (n : List ℕ) → ItemRead (I.Signal (Wire range n))
   wire-item range n good after stop =
       let parts = and_parts (is_perhaps is_decimal range) (is_name n) good in
       row all 0 Rows.row_wire (Begins.itself refl)
       (wd all (Token.word (codes "wire")) refl none (λ qs. word-on (codes "wire") qs refl) (λ qs e. refl)
       (sp all (declared-said all range n 0 parts.0 parts.1 none (λ qs e. refl)
       (mk all (Token.mark (codes ";")) refl none semicolon-on (done all 0 0 after)))))
-      (signal-means Wire range n (P.Nothing ∷ []))
+      (signal-means Wire range n)
 
   -- what stands behind `output`
   out-begins : (range : Option ℕ) (n : List ℕ) (M : List Piece) (after : Option ℕ)
@@ -98,7 +98,7 @@ module _ (all : List Token) where
   output-means None n = refl
   output-means (Some left) n = refl
 
-  output-item : (range : Option ℕ) (n : List ℕ) → ItemRead (I.Signal (Output range n))
+  pub output-item : (range : Option ℕ) (n : List ℕ) → ItemRead (I.Signal (Output range n))
   output-item range n good after stop =
       let parts = and_parts (is_perhaps is_decimal range) (is_name n) good in
       let rest = row all 0 Rows.row_output_net (out-begins range n (mark (codes ";") ∷ []) after)
@@ -108,9 +108,6 @@ module _ (all : List Token) where
       (row all 0 Rows.row_output (Begins.itself refl)
       (wd all (Token.word (codes "output")) refl none (λ qs. word-on (codes "output") qs refl) (λ qs e. refl)
       (sp all (non all rest (λ qs e. e) (done all 0 0 after)))) refl)
-
-  abbrev Anything : Option ℕ → Type 0
-  Anything x = Unit {0}
 
   number-items : (vs : List (List Bit4)) → list_all is_number vs ≡ true → Each (Item all number_layout P.Number (Term terminal.number) Anything 0) vs
   number-items [] good = tt
@@ -158,7 +155,7 @@ module _ (all : List Token) where
   output-reg-means None n (Some v) = refl
   output-reg-means (Some left) n (Some v) = refl
 
-  output-reg-item : (range : Option ℕ) (n : List ℕ) (initial : Option VInit) → ItemRead (I.Signal (OutputReg range n initial))
+  pub output-reg-item : (range : Option ℕ) (n : List ℕ) (initial : Option VInit) → ItemRead (I.Signal (OutputReg range n initial))
   output-reg-item range n initial good after stop =
       let both = and_parts (is_declared range n) (is_perhaps is_init initial) good in
       let parts = and_parts (is_perhaps is_decimal range) (is_name n) both.0 in
@@ -199,7 +196,7 @@ module _ (all : List Token) where
   reg-means None n (Some r) = refl
   reg-means (Some left) n (Some r) = refl
 
-  reg-item : (range : Option ℕ) (n : List ℕ) (rest : Option VRegRest) → ItemRead (I.Signal (Reg range n rest))
+  pub reg-item : (range : Option ℕ) (n : List ℕ) (rest : Option VRegRest) → ItemRead (I.Signal (Reg range n rest))
   reg-item range n rest good after stop =
       let both = and_parts (is_declared range n) (is_perhaps is_rest rest) good in
       let parts = and_parts (is_perhaps is_decimal range) (is_name n) both.0 in
@@ -208,7 +205,7 @@ module _ (all : List Token) where
       (sp all (declared-said all range n 0 parts.0 parts.1 none (rest-ends rest) (rest-said rest both.1 after))))
       (reg-means range n rest)
 
-  initial-item : (i : VInitial) → ItemRead (I.Initial i)
+  pub initial-item : (i : VInitial) → ItemRead (I.Initial i)
   initial-item i good after stop =
       let parts = and_parts (is_name i.name) (is_number i.value) good in
       row all 0 Rows.row_initial (Begins.itself refl)
@@ -218,7 +215,7 @@ module _ (all : List Token) where
       (mk all (Token.number i.value) refl none (λ qs. number-on i.value qs parts.1)
       (mk all (Token.mark (codes ";")) refl none semicolon-on (done all 0 0 after)))))))) refl
 
-  assign-item : (target : VLval) (value : VExpr) → ItemRead (I.Process (Assign target value))
+  pub assign-item : (target : VLval) (value : VExpr) → ItemRead (I.Process (Assign target value))
   assign-item target value good after stop =
       let parts = and_parts (is_lval target) (is_expr value) good in
       let to = fits-and-depth (fit_of_lval target).fits (fit_of_lval target).depth parts.0 in
@@ -290,7 +287,7 @@ module _ (all : List Token) where
       ∙ sym (append_assoc (edges_layout (e ∷ es)) (mark (codes ")") ∷ space ∷ []) L)))
       (non all (edges-node e es good (front (tokens_of L) after)) (λ qs k. refl) (sp all s))
 
-  always-item : (on : VSensitivity) (body : VBranch) → ItemRead (I.Process (Always on body))
+  pub always-item : (on : VSensitivity) (body : VBranch) → ItemRead (I.Process (Always on body))
   always-item on body good after stop =
       let parts = and_parts (is_sensitivity on) (is_branch body) good in
       let of = fits-and-depth (form_of_branch body).fits (form_of_branch body).depth parts.1 in

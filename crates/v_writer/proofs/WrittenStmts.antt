@@ -94,6 +94,10 @@ pub lines-append : (depth : ℕ) (ls : List (List Piece)) (M : List Piece) → E
 lines-append depth [] M ended_by qs e = ended_by qs e
 lines-append depth (l ∷ ls) M ended_by qs e = refl
 
+abbrev pub range_parts : Option ℕ → List VPart
+range_parts None = []
+range_parts (Some left) = P.Range left ∷ []
+
 module _ (all : List Token) where
   -- targets
   abbrev pub LvalRead : VLval → Type 0
@@ -162,10 +166,6 @@ module _ (all : List Token) where
       (mk all (Token.mark (codes ":")) refl low colon-on
       (wd all (Token.decimal 0) refl low (λ qs. whole-on 0 qs (omega arith)) (λ qs e. refl)
       (mk all (Token.mark (codes "]")) refl low right-bracket-on (done all around around after)))))) refl
-
-  abbrev pub range_parts : Option ℕ → List VPart
-  range_parts None = []
-  range_parts (Some left) = P.Range left ∷ []
 
   -- `[left:0] name`, in front of parts
   pub declared-said : (range : Option ℕ) (n : List ℕ) (around : ℕ) {ps : List Part} {M : List Piece} {after : Option ℕ} {ms : List VPart} → is_perhaps is_decimal range ≡ true
