@@ -1,5 +1,5 @@
 -- A written text reads as its design.
-use Rattle.std.proofs.Common.{◌≡◌, ℕ, suc, ◌+◌, true, false, List, [], ◌∷◌, ◌++◌, map, length, None, refl, sym, ap, subst, ◌∙◌}
+use Rattle.std.proofs.Common.{◌≡◌, ℕ, suc, ◌+◌, true, false, List, [], ◌∷◌, map, length, None, refl, sym, ap, subst, ◌∙◌}
 use Rattle.std.proofs.lemmas.List.{append-nil}
 use Rattle.ll_engine.specs.declared.table.Part.TheVariants.{Non, Many}
 use Rattle.ll_engine.specs.declared.tree.Tree.{Tree}

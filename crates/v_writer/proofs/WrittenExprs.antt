@@ -1,6 +1,6 @@
 -- Written expressions: their pieces are read as their tokens, and these are derived and mean the expression.
-use Rattle.std.proofs.Common.{◌≡◌, ℕ, zero, suc, ◌+◌, ◌<◌, ◌≤◌, ◌^◌, ◌==◌, Bool, true, false, cond, ◌&&◌, ◌⊎◌, inl, inr, List, [], ◌∷◌, ◌++◌, map, codes, decimal, length, slice_get, Option, Some, None, refl, sym, ap, subst, ◌∙◌, append_assoc, leb-true, ltb-true, arith}
-use Rattle.std.specs.Prelude.{nat_le, nat_lt}
+use Rattle.std.proofs.Common.{◌≡◌, ℕ, suc, ◌+◌, ◌<◌, ◌≤◌, ◌^◌, ◌==◌, Bool, true, false, cond, ◌&&◌, ◌⊎◌, inl, inr, List, [], ◌∷◌, ◌++◌, map, codes, decimal, length, Option, Some, None, refl, sym, ap, subst, ◌∙◌, append_assoc, leb-true, ltb-true, arith}
+use Rattle.std.specs.Prelude.{nat_le}
 use Rattle.std.proofs.lemmas.Bool.{and_parts, false≢true}
 use Rattle.std.proofs.lemmas.List.{append-nil, length-map}
 use Rattle.b4_core.specs.declared.bit.Bit4.{Bit4}
@@ -27,7 +27,7 @@ use Rattle.v_tree.specs.Table.{table}
 use Rattle.v_tree.specs.Tokens.{Token, is_name}
 use Rattle.v_tree.specs.Parts.{all_of, with_first, as_expr}
 use Rattle.v_tree.specs.Meaning.{select_of}
-use Rattle.v_tree.specs.Grammatical.{is_number, is_decimal, is_perhaps, is_extent, has_some, Fit, all_fit, deepest, fit, fit_of_sel}
+use Rattle.v_tree.specs.Grammatical.{is_decimal, is_perhaps, is_extent, has_some, Fit, all_fit, deepest, fit, fit_of_sel}
 use Rattle.v_tree.specs.Reading.{nesting_limit}
 use Rattle.v_tree.proofs.Fits.{fit_of_prim, expr-prim-fit, expr-unary-fit, expr-binary-fit, expr-choose-fit, prim-number-fit, prim-paren-fit, prim-name-fit, prim-call-fit, prim-repeat-fit, prim-concat-fit, prim-sign-fit, sel-decimal-fit, sel-expr-fit}
 use Rattle.v_tree.proofs.Induction.{Each, ExprSteps, ind-expr, ind-sel}
@@ -35,8 +35,8 @@ use Rattle.v_tree.proofs.Rows as Rows
 use Rattle.v_writer.specs.Layout.{Piece, space, word, mark, name, whole, bytes_from, tokens_of, perhaps, further, listed, in_turn, unary_mark, binary_mark, extent_layout, sign_word, sel_layout, prim_layout, expr_layout}
 use Rattle.v_writer.proofs.Levels.{expr-prim-layout, expr-unary-layout, expr-binary-layout, expr-choose-layout, prim-number-layout, prim-paren-layout, prim-name-layout, prim-call-layout, prim-repeat-layout, prim-concat-layout, prim-sign-layout, sel-decimal-layout, sel-expr-layout}
 use Rattle.v_writer.proofs.Phrases.{Derived, front, ended, symbol-read, by-row, non-read, tokens-are}
-use Rattle.v_writer.proofs.Pieces.{IsRead, ends, tokens-append, left-paren-on, right-paren-on, left-bracket-on, right-bracket-on, left-brace-on, right-brace-on, comma-on, colon-on, signed-on, spaced-question-on, spaced-colon-on, spaced-plus-colon-on, spaced-binary-on, name-on, number-on, whole-on, Opens, name-opens, decimal-opens, unary-on}
-use Rattle.v_writer.proofs.Said.{front-append, avoids, Ended, Said, Node, done, mk, wd, spaced, sp, said-as, node-as, out, non, may, many, row, begins, begins-more, passed, Item, commas, separated}
+use Rattle.v_writer.proofs.Pieces.{ends, left-paren-on, right-paren-on, left-bracket-on, right-bracket-on, left-brace-on, right-brace-on, colon-on, signed-on, spaced-question-on, spaced-colon-on, spaced-plus-colon-on, spaced-binary-on, name-on, number-on, whole-on, Opens, name-opens, decimal-opens, unary-on}
+use Rattle.v_writer.proofs.Said.{avoids, Ended, Said, Node, done, mk, wd, spaced, sp, node-as, out, non, may, row, begins-more, passed, Item, separated}
 
 -- the form of a tree by that of its parts
 pub fits-as : {f g : Fit} → f ≡ g → f.fits ≡ true → g.fits ≡ true

@@ -1,36 +1,23 @@
 -- Written functions, instances, modules and texts: their pieces are read as their tokens, and these are derived and mean them.
-use Rattle.std.proofs.Common.{◌≡◌, ℕ, suc, ◌+◌, ◌≤◌, Bool, true, false, ◌&&◌, List, [], ◌∷◌, ◌++◌, map, codes, Option, Some, None, refl, sym, ap, subst, ◌∙◌, append_assoc, leb-true, arith}
+use Rattle.std.proofs.Common.{◌≡◌, ℕ, true, ◌&&◌, List, [], ◌∷◌, ◌++◌, map, codes, Option, Some, None, refl, sym, ap, subst, ◌∙◌, append_assoc, arith}
 use Rattle.std.specs.List.{list_all}
-use Rattle.std.specs.Prelude.{nat_le}
 use Rattle.std.proofs.lemmas.Bool.{and_parts, false≢true}
 use Rattle.std.proofs.lemmas.List.{append-nil}
-use Rattle.b4_core.specs.declared.bit.Bit4.{Bit4}
 use Rattle.ll_engine.specs.declared.table.Part.{Part}
 use Rattle.ll_engine.specs.declared.table.Part.TheVariants.{Term, Non, Maybe, Many}
-use Rattle.ll_engine.specs.Grammar.{IsBlank, Begins, IsBegun}
+use Rattle.ll_engine.specs.Grammar.{Begins, IsBegun}
 use Rattle.v_tree.specs.declared.expressions.VExpr.{VExpr}
 use Rattle.v_tree.specs.declared.items.VConnection.{VConnection}
-use Rattle.v_tree.specs.declared.items.VEdge.{VEdge}
 use Rattle.v_tree.specs.declared.items.VFunction.{VFunction}
-use Rattle.v_tree.specs.declared.items.VInit.{VInit}
-use Rattle.v_tree.specs.declared.items.VInit.TheVariants as V
-use Rattle.v_tree.specs.declared.items.VInitial.{VInitial}
 use Rattle.v_tree.specs.declared.items.VInstance.{VInstance}
 use Rattle.v_tree.specs.declared.items.VItem.{VItem}
 use Rattle.v_tree.specs.declared.items.VItem.TheVariants as I
 use Rattle.v_tree.specs.declared.items.VLocal.{VLocal}
 use Rattle.v_tree.specs.declared.items.VModule.{VModule}
 use Rattle.v_tree.specs.declared.items.VProcess.TheVariants.{Assign, Always}
-use Rattle.v_tree.specs.declared.items.VRegRest.{VRegRest}
-use Rattle.v_tree.specs.declared.items.VRegRest.TheVariants as R
-use Rattle.v_tree.specs.declared.items.VSensitivity.{VSensitivity}
-use Rattle.v_tree.specs.declared.items.VSensitivity.TheVariants.{Star, Edges}
-use Rattle.v_tree.specs.declared.items.VSignal.{VSignal}
 use Rattle.v_tree.specs.declared.items.VSignal.TheVariants.{Input, Output, OutputReg, Wire, Reg}
 use Rattle.v_tree.specs.declared.parts.VPart.{VPart}
 use Rattle.v_tree.specs.declared.parts.VPart.TheVariants as P
-use Rattle.v_tree.specs.declared.statements.VBranch.{VBranch}
-use Rattle.v_tree.specs.declared.statements.VLval.{VLval}
 use Rattle.v_tree.specs.declared.statements.VStmt.{VStmt}
 use Rattle.v_tree.specs.Heads as head
 use Rattle.v_tree.specs.Symbols as terminal
@@ -38,18 +25,17 @@ use Rattle.v_tree.specs.Table.{table}
 use Rattle.v_tree.specs.Tokens.{Token, is_name}
 use Rattle.v_tree.specs.Parts.{all_of, first_of, as_name, as_number, as_input, as_local, as_edge, as_stmt, as_connection, as_item, as_ports, as_range}
 use Rattle.v_tree.specs.Parts as Parts
-use Rattle.v_tree.specs.Meaning.{given, signal_of, output_reg_of, reg_of, function_of, instance_of, connection_of, input_of, module_of}
-use Rattle.v_tree.specs.Grammatical.{is_number, is_decimal, is_perhaps, has_some, fit, fit_of_lval, is_expr, is_lval, is_stmt, is_branch, form_of_stmt, form_of_branch, is_local, is_init, is_rest, is_declared, is_sensitivity, is_connection, is_item, is_module}
-use Rattle.v_tree.specs.Reading.{nesting_limit}
+use Rattle.v_tree.specs.Meaning.{given, function_of, instance_of, connection_of, input_of, module_of}
+use Rattle.v_tree.specs.Grammatical.{is_decimal, is_perhaps, has_some, fit, is_expr, is_stmt, form_of_stmt, is_local, is_declared, is_connection, is_item, is_module}
 use Rattle.v_tree.proofs.Induction.{Each}
 use Rattle.v_tree.proofs.Rows as Rows
-use Rattle.v_writer.specs.Layout.{Piece, space, line, word, mark, name, number, whole, tokens_of, perhaps, further, listed, in_turn, expr_layout, lval_layout, range_layout, declaration_layout, local_layout, lines, stmt_layout, branch_layout, edge_word, edge_layout, further_edges, edges_layout, sensitivity_layout, number_layout, init_layout, initial_layout, rest_layout, function_layout, connection_layout, instance_layout, item_layout, port_layout, ports_layout, module_layout, module_line}
-use Rattle.v_writer.proofs.Phrases.{Phrase, front, ended, by-row, symbol-read, non-read, many-read, left-out, tokens-are}
-use Rattle.v_writer.proofs.Pieces.{IsRead, ends, line-on, space-on, tokens-append, left-paren-on, right-paren-on, left-brace-on, right-brace-on, comma-on, colon-on, semicolon-on, dot-on, at-mark-on, spaced-equals-on, spaced-less-equal-on, spaced-star-on, name-on, word-on, number-on}
-use Rattle.v_writer.proofs.Said.{front-append, avoids, stops, Ended, Said, Node, done, mk, wd, spaced, sp, ln, said-as, node-as, out, non, may, many, row, begins, begins-more, passed, Item, separated}
-use Rattle.v_writer.proofs.WrittenExprs.{Stops, all-made, expr-read}
+use Rattle.v_writer.specs.Layout.{Piece, space, line, word, mark, name, tokens_of, perhaps, listed, in_turn, expr_layout, range_layout, declaration_layout, local_layout, lines, stmt_layout, connection_layout, item_layout, port_layout, ports_layout, module_layout, module_line}
+use Rattle.v_writer.proofs.Phrases.{Phrase, front, ended, many-read, left-out, tokens-are}
+use Rattle.v_writer.proofs.Pieces.{IsRead, line-on, tokens-append, left-paren-on, right-paren-on, semicolon-on, dot-on, name-on, word-on}
+use Rattle.v_writer.proofs.Said.{avoids, Ended, Said, Node, done, mk, wd, sp, ln, said-as, node-as, out, non, may, row, begins-more, Item, separated}
+use Rattle.v_writer.proofs.WrittenExprs.{all-made, expr-read}
 use Rattle.v_writer.proofs.WrittenSignals.{none, fits-and-depth, ItemRead, Anything, input-item, wire-item, output-item, output-reg-item, reg-item, initial-item, assign-item, always-item}
-use Rattle.v_writer.proofs.WrittenStmts.{StopsIf, begun-avoids, first-past, all-past, local-node, lines-append, lval-read, range-node, range_parts, declared-said, lines-said, Line, locals-said, stmt-read, branch-read}
+use Rattle.v_writer.proofs.WrittenStmts.{StopsIf, begun-avoids, first-past, all-past, lines-append, range_parts, declared-said, lines-said, Line, locals-said, stmt-read}
 
 module _ (all : List Token) where
   input-means : (l : VLocal) → input_of (P.Nothing ∷ (range_parts l.range ++ P.Name l.name ∷ P.Nothing ∷ [])) ≡ P.Input l

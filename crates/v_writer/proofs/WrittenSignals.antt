@@ -1,5 +1,5 @@
 -- Written items, modules and texts: their pieces are read as their tokens, and these are derived and mean them.
-use Rattle.std.proofs.Common.{◌≡◌, ℕ, suc, ◌+◌, ◌≤◌, Bool, true, false, ◌&&◌, List, [], ◌∷◌, ◌++◌, map, codes, Option, Some, None, refl, sym, ap, subst, ◌∙◌, append_assoc, leb-true, arith}
+use Rattle.std.proofs.Common.{◌≡◌, ℕ, ◌≤◌, Bool, true, false, ◌&&◌, List, [], ◌∷◌, ◌++◌, map, codes, Option, Some, None, refl, sym, ap, ◌∙◌, append_assoc, leb-true, arith}
 use Rattle.std.specs.List.{list_all}
 use Rattle.std.specs.Prelude.{nat_le}
 use Rattle.std.proofs.lemmas.Bool.{and_parts, false≢true}
@@ -9,17 +9,12 @@ use Rattle.ll_engine.specs.declared.table.Part.{Part}
 use Rattle.ll_engine.specs.declared.table.Part.TheVariants.{Term, Non, Maybe, Many}
 use Rattle.ll_engine.specs.Grammar.{IsBlank, Begins, IsBegun}
 use Rattle.v_tree.specs.declared.expressions.VExpr.{VExpr}
-use Rattle.v_tree.specs.declared.items.VConnection.{VConnection}
 use Rattle.v_tree.specs.declared.items.VEdge.{VEdge}
-use Rattle.v_tree.specs.declared.items.VFunction.{VFunction}
 use Rattle.v_tree.specs.declared.items.VInit.{VInit}
 use Rattle.v_tree.specs.declared.items.VInit.TheVariants as V
 use Rattle.v_tree.specs.declared.items.VInitial.{VInitial}
-use Rattle.v_tree.specs.declared.items.VInstance.{VInstance}
 use Rattle.v_tree.specs.declared.items.VItem.{VItem}
 use Rattle.v_tree.specs.declared.items.VItem.TheVariants as I
-use Rattle.v_tree.specs.declared.items.VLocal.{VLocal}
-use Rattle.v_tree.specs.declared.items.VModule.{VModule}
 use Rattle.v_tree.specs.declared.items.VProcess.TheVariants.{Assign, Always}
 use Rattle.v_tree.specs.declared.items.VRegRest.{VRegRest}
 use Rattle.v_tree.specs.declared.items.VRegRest.TheVariants as R
@@ -31,24 +26,22 @@ use Rattle.v_tree.specs.declared.parts.VPart.{VPart}
 use Rattle.v_tree.specs.declared.parts.VPart.TheVariants as P
 use Rattle.v_tree.specs.declared.statements.VBranch.{VBranch}
 use Rattle.v_tree.specs.declared.statements.VLval.{VLval}
-use Rattle.v_tree.specs.declared.statements.VStmt.{VStmt}
 use Rattle.v_tree.specs.Heads as head
 use Rattle.v_tree.specs.Symbols as terminal
 use Rattle.v_tree.specs.Table.{table}
 use Rattle.v_tree.specs.Tokens.{Token, is_name}
-use Rattle.v_tree.specs.Parts.{all_of, first_of, as_name, as_number, as_input, as_local, as_edge, as_stmt, as_connection, as_item, as_ports}
-use Rattle.v_tree.specs.Parts as Parts
-use Rattle.v_tree.specs.Meaning.{given, signal_of, output_reg_of, reg_of, function_of, instance_of, connection_of, input_of, module_of}
-use Rattle.v_tree.specs.Grammatical.{is_number, is_decimal, is_perhaps, has_some, fit, fit_of_lval, is_expr, is_lval, is_stmt, is_branch, form_of_stmt, form_of_branch, is_local, is_init, is_rest, is_declared, is_sensitivity, is_connection, is_item, is_module}
+use Rattle.v_tree.specs.Parts.{as_number, as_edge}
+use Rattle.v_tree.specs.Meaning.{signal_of, output_reg_of, reg_of}
+use Rattle.v_tree.specs.Grammatical.{is_number, is_decimal, is_perhaps, fit, fit_of_lval, is_expr, is_lval, is_branch, form_of_branch, is_init, is_rest, is_declared, is_sensitivity, is_item}
 use Rattle.v_tree.specs.Reading.{nesting_limit}
 use Rattle.v_tree.proofs.Induction.{Each}
 use Rattle.v_tree.proofs.Rows as Rows
-use Rattle.v_writer.specs.Layout.{Piece, space, line, word, mark, name, number, whole, tokens_of, perhaps, further, listed, in_turn, expr_layout, lval_layout, range_layout, declaration_layout, local_layout, lines, stmt_layout, branch_layout, edge_word, edge_layout, further_edges, edges_layout, sensitivity_layout, number_layout, init_layout, initial_layout, rest_layout, function_layout, connection_layout, instance_layout, item_layout, port_layout, ports_layout, module_layout, module_line}
-use Rattle.v_writer.proofs.Phrases.{Phrase, front, ended, by-row, symbol-read, non-read, many-read, left-out, tokens-are}
-use Rattle.v_writer.proofs.Pieces.{IsRead, ends, line-on, space-on, tokens-append, left-paren-on, right-paren-on, left-brace-on, right-brace-on, comma-on, colon-on, semicolon-on, dot-on, at-mark-on, spaced-equals-on, spaced-less-equal-on, spaced-star-on, name-on, word-on, number-on}
-use Rattle.v_writer.proofs.Said.{front-append, avoids, stops, Ended, Said, Node, done, mk, wd, spaced, sp, ln, said-as, node-as, out, non, may, many, row, begins, begins-more, passed, Item, separated}
-use Rattle.v_writer.proofs.WrittenExprs.{Stops, all-made, expr-read}
-use Rattle.v_writer.proofs.WrittenStmts.{StopsIf, begun-avoids, first-past, all-past, lines-append, lval-read, range-node, range_parts, declared-said, lines-said, Line, locals-said, stmt-read, branch-read}
+use Rattle.v_writer.specs.Layout.{Piece, space, word, mark, name, tokens_of, perhaps, range_layout, declaration_layout, branch_layout, edge_word, edge_layout, further_edges, edges_layout, sensitivity_layout, number_layout, init_layout, initial_layout, rest_layout, item_layout}
+use Rattle.v_writer.proofs.Phrases.{front, ended, by-row, symbol-read, non-read}
+use Rattle.v_writer.proofs.Pieces.{left-paren-on, right-paren-on, left-brace-on, right-brace-on, semicolon-on, at-mark-on, spaced-equals-on, spaced-less-equal-on, spaced-star-on, name-on, word-on, number-on}
+use Rattle.v_writer.proofs.Said.{Ended, Said, Node, done, mk, wd, spaced, sp, said-as, node-as, out, non, may, many, row, passed, Item, separated}
+use Rattle.v_writer.proofs.WrittenExprs.{all-made, expr-read}
+use Rattle.v_writer.proofs.WrittenStmts.{StopsIf, lval-read, range-node, range_parts, declared-said, branch-read}
 
 pub none : 0 ≤ nesting_limit
 none = omega arith

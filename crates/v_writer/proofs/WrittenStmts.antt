@@ -1,12 +1,12 @@
 -- Written targets and statements: their pieces are read as their tokens, and these are derived and mean them.
-use Rattle.std.proofs.Common.{◌≡◌, ℕ, suc, ◌+◌, ◌≤◌, ◌<◌, ◌^◌, Bool, true, false, not, ◌&&◌, ◌⊎◌, inl, inr, List, [], ◌∷◌, ◌++◌, map, codes, length, Option, Some, None, refl, sym, ap, subst, ◌∙◌, append_assoc, eqb-true, leb-true, arith}
+use Rattle.std.proofs.Common.{◌≡◌, ℕ, suc, ◌+◌, ◌≤◌, Bool, true, false, not, ◌&&◌, ◌⊎◌, inl, inr, List, [], ◌∷◌, ◌++◌, map, codes, length, Option, Some, None, refl, sym, ap, subst, ◌∙◌, append_assoc, eqb-true, arith}
 use Rattle.std.specs.Prelude.{nat_le, if◌then◌else◌}
 use Rattle.std.specs.List.{list_all}
 use Rattle.std.proofs.lemmas.Bool.{and_parts, false≢true}
-use Rattle.std.proofs.lemmas.List.{append-nil, length-map}
+use Rattle.std.proofs.lemmas.List.{append-nil}
 use Rattle.ll_engine.specs.declared.table.Part.{Part}
 use Rattle.ll_engine.specs.declared.table.Part.TheVariants.{Term, Non, Maybe, Many}
-use Rattle.ll_engine.specs.Grammar.{IsBlank, Begins, IsBegun}
+use Rattle.ll_engine.specs.Grammar.{Begins, IsBegun}
 use Rattle.v_tree.specs.declared.expressions.VExpr.{VExpr}
 use Rattle.v_tree.specs.declared.expressions.VSel.{VSel}
 use Rattle.v_tree.specs.declared.items.VLocal.{VLocal}
@@ -29,23 +29,23 @@ use Rattle.v_tree.specs.Table.{table}
 use Rattle.v_tree.specs.Tokens.{Token, is_name}
 use Rattle.v_tree.specs.Parts.{all_of, first_of, as_expr, as_lval, as_local, as_stmt, as_label, as_case_item, as_case_items, as_branch, with_first, or_else}
 use Rattle.v_tree.specs.Parts.{listed as listed_items}
-use Rattle.v_tree.specs.Meaning.{given, block_of, local_of, if_of, case_of, case_items_of}
-use Rattle.v_tree.specs.Grammatical.{is_decimal, is_perhaps, has_some, Fit, all_fit, deepest, fit, fit_of_sel, fit_of_lval, is_local, is_label, Form, all_of_form, deepest_form, no_default, one_default, form_of_stmt, form_of_branch}
+use Rattle.v_tree.specs.Meaning.{given, block_of, local_of, if_of}
+use Rattle.v_tree.specs.Grammatical.{is_decimal, is_perhaps, has_some, all_fit, deepest, fit, fit_of_sel, fit_of_lval, is_local, is_label, Form, all_of_form, deepest_form, no_default, one_default, form_of_stmt, form_of_branch}
 use Rattle.v_tree.specs.Reading.{nesting_limit}
-use Rattle.v_tree.proofs.Fits.{form_of_case, lval-name-fit, lval-concat-fit, stmt-block-form, stmt-if-form-none, stmt-if-form-some, stmt-case-form, stmt-assign-form, branch-statement-form, branch-empty-form, case-item-form, case-default-form}
-use Rattle.v_tree.proofs.Induction.{Each, Perhaps, LvalSteps, ind-lval, StmtSteps, ind-stmt, ind-branch}
+use Rattle.v_tree.proofs.Fits.{form_of_case, lval-name-fit, lval-concat-fit, stmt-block-form, stmt-if-form-none, stmt-if-form-some, stmt-case-form, stmt-assign-form, branch-statement-form, case-item-form, case-default-form}
+use Rattle.v_tree.proofs.Induction.{Each, Perhaps, ind-lval, StmtSteps, ind-stmt, ind-branch}
 use Rattle.std.specs.Int.{bit_at}
 use Rattle.v_tree.proofs.Fitness.{first, blank, firsts-closed}
 use Rattle.v_tree.proofs.class.BitSets.{has, disjoint, apart}
 use Rattle.v_tree.proofs.class.Firsts as Firsts
 use Rattle.v_tree.proofs.Rows as Rows
-use Rattle.v_writer.specs.Layout.{Piece, Placed, space, line, word, mark, name, whole, tokens_of, perhaps, further, listed, in_turn, sel_layout, expr_layout, lval_layout, range_layout, declaration_layout, local_layout, lines, placed, store_mark, stored, label_layout, case_word, case_head, case_items, stmt_layout, case_layout, branch_layout, else_of}
+use Rattle.v_writer.specs.Layout.{Piece, space, line, word, mark, name, whole, tokens_of, perhaps, listed, in_turn, sel_layout, expr_layout, lval_layout, range_layout, local_layout, lines, store_mark, stored, label_layout, case_word, case_head, stmt_layout, case_layout, branch_layout, else_of}
 use Rattle.v_writer.proofs.Levels.{lval-name-layout, lval-concat-layout, stmt-block-layout, stmt-if-layout, stmt-case-layout, stmt-assign-layout, branch-statement-layout, branch-empty-layout, case-item-layout, case-default-layout}
 use Rattle.v_writer.proofs.Phrases.{front, non-read}
-use Rattle.v_writer.proofs.Pieces.{IsRead, ends, tokens-append, left-paren-on, right-paren-on, left-bracket-on, right-bracket-on, left-brace-on, right-brace-on, comma-on, colon-on, semicolon-on, spaced-colon-on, spaced-equals-on, spaced-less-equal-on, name-on, word-on, whole-on}
+use Rattle.v_writer.proofs.Pieces.{IsRead, ends, left-paren-on, right-paren-on, left-bracket-on, right-bracket-on, left-brace-on, right-brace-on, colon-on, semicolon-on, spaced-colon-on, spaced-equals-on, spaced-less-equal-on, name-on, word-on, whole-on}
 use Rattle.v_writer.proofs.Sheets.{placed-map}
-use Rattle.v_writer.proofs.Said.{front-append, avoids, stops, Ended, Said, Node, done, mk, wd, spaced, sp, ln, said-as, means-as, node-as, out, non, may, many, row, begins, begins-more, passed, Item, commas, separated}
-use Rattle.v_writer.proofs.WrittenExprs.{fits-as, depth-as, small, Stops, all-made, bound-node, selects-node, sels-end, expr-read, each-expr, each-sel, exprs-said, exprs-made, exprs-begin}
+use Rattle.v_writer.proofs.Said.{avoids, Ended, Said, Node, done, mk, wd, spaced, sp, ln, said-as, means-as, node-as, out, non, may, many, row, begins, begins-more, passed, Item, separated}
+use Rattle.v_writer.proofs.WrittenExprs.{fits-as, depth-as, all-made, bound-node, selects-node, sels-end, expr-read, each-expr, each-sel, exprs-said, exprs-made, exprs-begin}
 
 -- the symbol doesn't go on a target, or an `if`
 abbrev pub StopsTarget : Option ℕ → Type 0
@@ -258,10 +258,11 @@ module _ (all : List Token) where
   stmt-start : (around depth : ℕ) (s : VStmt) (M : List Piece) (after : Option ℕ) → Node all head.statement around (stmt_layout s depth) (front (tokens_of M) after) (P.Stmt s)
       → StopsStmt (front (tokens_of (stmt_layout s depth ++ M)) after)
   stmt-start around depth s M after n =
-      let begun = begins-more all [] M after n in
-      (begun-avoids (Non head.statement ∷ []) (Maybe head.else_branch ∷ []) _ refl begun,
-       begun-avoids (Non head.statement ∷ []) (Maybe head.block_label ∷ []) _ refl begun,
-       begun-avoids (Non head.statement ∷ []) (Many head.local_declaration ∷ []) _ refl begun)
+      let begun = begins-more all [] M after n in (
+        begun-avoids (Non head.statement ∷ []) (Maybe head.else_branch ∷ []) _ refl begun,
+        begun-avoids (Non head.statement ∷ []) (Maybe head.block_label ∷ []) _ refl begun,
+        begun-avoids (Non head.statement ∷ []) (Many head.local_declaration ∷ []) _ refl begun,
+      )
 
   stmt-lines : (ss : List VStmt) → Each StmtRead ss → all_of_form (map form_of_stmt ss) ≡ true → (around depth : ℕ) → around + deepest_form (map form_of_stmt ss) ≤ nesting_limit
       → Each (Line (λ s. stmt_layout s depth) P.Stmt head.statement around StopsStmt (stmt-start around depth) depth) ss
