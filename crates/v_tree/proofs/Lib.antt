@@ -5,3 +5,4 @@ pub mod Derivations
 pub mod OneReading
 pub mod Fits
 pub mod Induction
+pub mod HelperNames

@@ -8,3 +8,4 @@ pub mod Parts
 pub mod Meaning
 pub mod Reading
 pub mod Grammatical
+pub mod Printing

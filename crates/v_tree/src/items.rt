@@ -5,8 +5,8 @@ use crate::statements::{VBranch, VLval, VStmt};
 use b4_core::Vec4;
 use sv_source::{Items, Text};
 
-/// Names in the order of the text.
-pub type Names = Items<Text>;
+/// Texts, in order.
+pub type Texts = Items<Text>;
 
 /// Sized binary numbers in the order of the text, the bits of each least first.
 pub type VNumbers = Items<Vec4>;
@@ -197,7 +197,7 @@ pub struct VModule {
     /// Its name.
     pub name: Text,
     /// The names of the port list; without a port list there are none.
-    pub ports: Names,
+    pub ports: Texts,
     /// Its items.
     pub items: VItems,
 }

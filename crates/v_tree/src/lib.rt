@@ -3,6 +3,7 @@
 
 mod expressions;
 mod items;
+mod names;
 mod operators;
 mod parts;
 mod reading;
@@ -11,9 +12,13 @@ mod statements;
 
 pub use expressions::{VExpr, VExprs, VExtent, VPrim, VSel, VSels};
 pub use items::{
-    Names, VConnection, VConnections, VDesign, VEdge, VEdges, VFunction, VInit, VInitial,
+    Texts, VConnection, VConnections, VDesign, VEdge, VEdges, VFunction, VInit, VInitial,
     VInstance, VItem, VItems, VLocal, VLocals, VModule, VModules, VNumbers, VProcess, VRegRest,
     VSensitivity, VSignal,
+};
+pub use names::{
+    FunctionName, FunctionNames, Helper, HelperKind, LocalName, LocalNames, NameMap, Names,
+    SignalName, SignalNames, helper_name, helper_names_differ, print_name,
 };
 pub use operators::{VBinaryOp, VUnaryOp};
 pub use parts::{VPart, VParts};

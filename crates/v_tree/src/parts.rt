@@ -2,7 +2,7 @@
 
 use crate::expressions::{VExpr, VExprs, VExtent, VPrim, VSel, VSels};
 use crate::items::{
-    Names, VConnection, VConnections, VEdge, VInit, VItem, VLocal, VModule, VModules, VRegRest,
+    Texts, VConnection, VConnections, VEdge, VInit, VItem, VLocal, VModule, VModules, VRegRest,
     VSensitivity,
 };
 use crate::operators::{VBinaryOp, VUnaryOp};
@@ -22,7 +22,7 @@ pub enum VPart {
     /// A decimal number.
     Decimal(u32),
     /// The names of a port list.
-    Ports(Names),
+    Ports(Texts),
     /// The left bound of a range.
     Range(u32),
     /// A declared initial value.
