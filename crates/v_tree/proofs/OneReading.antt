@@ -22,6 +22,6 @@ design ms = record { modules = ms }
 pub one_design : (bytes : List ℕ) (e f : VDesign) → VReads bytes e → VReads bytes f → e ≡ f
 one_design bytes e f a b =
     ap (λ p. design (modules_of p))
-    (sym a.means
-    ∙ ap (part_of (tokens bytes)) (one_reading table table-fits (map symbol (tokens bytes)) nesting_limit nesting_limit a.tree b.tree a.reading b.reading)
-    ∙ b.means)
+    (sym a.spells.means
+    ∙ ap (part_of (tokens bytes)) (one_reading table table-fits (map symbol (tokens bytes)) nesting_limit nesting_limit a.spells.tree b.spells.tree a.spells.reading b.spells.reading)
+    ∙ b.spells.means)

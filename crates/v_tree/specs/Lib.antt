@@ -9,3 +9,7 @@ pub mod Meaning
 pub mod Reading
 pub mod Grammatical
 pub mod Printing
+pub mod Scopes
+pub mod ExprRules
+pub mod StmtRules
+pub mod Rules

@@ -1,4 +1,4 @@
-//! Reserved words and simple names (IEEE 1364-2005 clauses 3.7.1 and 3.7.3, IEEE 1800-2017 annex B).
+//! Reserved words and simple names (IEEE 1364-2005 clauses 3.7 and 3.7.1, IEEE 1800-2017 annex B).
 
 ghost use Rattle.std.specs.Prelude.{◌≡◌};
 ghost use Rattle.std.specs.List.{list_any, list_all};

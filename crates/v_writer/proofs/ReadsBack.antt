@@ -1,4 +1,4 @@
--- A written text reads as its design.
+-- A written text spells its design.
 use Rattle.std.proofs.Common.{◌≡◌, ℕ, suc, ◌+◌, true, false, List, [], ◌∷◌, map, length, None, refl, sym, ap, subst, ◌∙◌}
 use Rattle.std.proofs.lemmas.List.{append-nil}
 use Rattle.ll_engine.specs.declared.table.Part.TheVariants.{Non, Many}
@@ -17,7 +17,7 @@ use Rattle.v_tree.specs.Table.{table}
 use Rattle.v_tree.specs.Tokens.{Token, tokens}
 use Rattle.v_tree.specs.Grammatical.{is_of_grammar}
 use Rattle.v_tree.specs.Meaning.{text_of as text_meaning, part_of}
-use Rattle.v_tree.specs.Reading.{VReads}
+use Rattle.v_tree.specs.Reading.{Spells}
 use Rattle.v_tree.proofs.Derivations.{node-part}
 use Rattle.v_tree.proofs.Rows as Rows
 use Rattle.v_writer.specs.Layout.{tokens_of, in_turn, module_line, text_layout, text_of}
@@ -74,8 +74,8 @@ module _ (d : VDesign) (good : is_of_grammar d ≡ true) where
       ∙ ap text_meaning (phrase.means 0 [] (text-tokens ∙ sym (append-nil laid_out)) ∙ sym (append-nil (map P.Module d.modules)))
       ∙ ap P.Text (all-made as_module P.Module (λ x. refl) d.modules [] ∙ append-nil d.modules)
 
-  pub written_reads : VReads text d
-  written_reads = record {
+  pub written_spells : Spells text d
+  written_spells = record {
     tree = derivation;
     reading = record { text = phrase.text; is_text = is-text; spells = phrase.spells ∙ ap (map symbol) (sym text-tokens); within = phrase.within };
     means = means;

@@ -2,6 +2,7 @@
 
 ghost use Rattle.std.specs.Prelude.{◌≡◌, ◌+◌, ◌≤◌, ◌^◌, ◌-◌, ◌∷◌, [], codes, min, map, length, true, vec_len, vec_capacity};
 ghost use Rattle.v_tree.specs.Grammatical.{is_of_grammar};
+ghost use Rattle.v_tree.specs.Rules.{Keeps};
 ghost use Rattle.v_writer.specs.Sheets.{set};
 ghost use Rattle.v_writer.specs.Writing.{Writes};
 ghost use Rattle.v_writer.specs.Layout.{listed, lines, in_turn, port_layout, ports_layout, item_layout, header_layout, module_line, line, word, text_layout, text_of};
@@ -102,9 +103,10 @@ pub fn text_len(d: &VDesign) -> u64
 }
 
 /// Appends the text of a design, in time linear in its length and without taking memory. The design must be of the target
-/// grammar and keep its rules, and `to` must have spare room for the text.
+/// grammar and keep the rules that need no top, and `to` must have spare room for the text.
 pub fn write_text(d: &VDesign, to: &mut Vec<u8>)
     requires grammar { is_of_grammar d.now ≡ true }
+    requires keeps { Keeps d.now }
     requires room { vec_len to.old + length (text_of d.now) ≤ vec_capacity to.old }
     ensures { Writes d.now to.old.items to.new.items }
 {

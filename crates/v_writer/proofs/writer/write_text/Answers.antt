@@ -2,7 +2,7 @@ use Rattle.std.proofs.Common.{◌≡◌, ◌≤◌, ◌+◌, ◌++◌, List, ℕ
 use Rattle.v_writer.specs.Layout.{in_turn, module_line, text_layout, text_of}
 use Rattle.v_writer.specs.Pages.{kept}
 use Rattle.v_writer.specs.Sheets.{Sheet, set}
-use Rattle.v_writer.proofs.ReadsBack.{written_reads}
+use Rattle.v_writer.proofs.ReadsBack.{written_spells}
 use Rattle.v_writer.proofs.Sheets.{text-bytes}
 use Rattle.v_writer.proofs.writer.write_text.Goals as goal
 
@@ -23,7 +23,7 @@ returns-in-Some c = record {
       ∙ text-bytes c.replace-bytes.result.items c.replace-bytes.result.cap (text_layout c.args.d.now)
       (on-page c.args.to.now c.replace-bytes.result (text_of c.args.d.now) c.replace-bytes.ensures.value c.requires.room)
       ∙ ap (λ (b : Vec ℕ Global). b.items ++ text_of c.args.d.now) c.replace-bytes.ensures.value;
-  reads = written_reads c.args.d.now c.requires.grammar;
+  reads = record { spells = written_spells c.args.d.now c.requires.grammar; keeps = c.requires.keeps };
 }
 
 pub returns-in_default : goal.returns-in_default
@@ -37,5 +37,5 @@ returns-in_default c = record {
       ∙ text-bytes c.replace-bytes.result.items c.replace-bytes.result.cap (text_layout c.args.d.now)
       (on-page c.args.to.now c.replace-bytes.result (text_of c.args.d.now) c.replace-bytes.ensures.value c.requires.room)
       ∙ ap (λ (b : Vec ℕ Global). b.items ++ text_of c.args.d.now) c.replace-bytes.ensures.value;
-  reads = written_reads c.args.d.now c.requires.grammar;
+  reads = record { spells = written_spells c.args.d.now c.requires.grammar; keeps = c.requires.keeps };
 }
