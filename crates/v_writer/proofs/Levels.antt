@@ -1,30 +1,27 @@
 -- The layout of trees, one level at a time.
 
-use Rattle.std.proofs.Common.{◌≡◌, ℕ, zero, suc, ◌+◌, ◌<◌, Bool, List, [], ◌∷◌, ◌++◌, map, drop, length, slice_index_or, codes, Option, Some, None, refl, sym, ap, ◌∙◌, append_assoc, add-one, arith}
-use Rattle.std.proofs.lemmas.List.{append-nil}
+use Rattle.std.proofs.Common.{◌≡◌, ℕ, Bool, List, ◌∷◌, ◌++◌, map, codes, Option, Some, None, sym, ap, ◌∙◌}
 use Rattle.b4_core.specs.declared.bit.Bit4.{Bit4}
 use Rattle.v_tree.specs.declared.expressions.VExtent.{VExtent}
 use Rattle.v_tree.specs.declared.operators.VBinaryOp.{VBinaryOp}
 use Rattle.v_tree.specs.declared.operators.VUnaryOp.{VUnaryOp}
 use Rattle.v_tree.specs.declared.statements.VCaseKind.{VCaseKind}
 use Rattle.v_tree.specs.declared.statements.VLabel.{VLabel}
-
-use Rattle.v_tree.specs.declared.statements.VBranch.{VBranch, VBranch-F, fold-VBranch, fold-roll-VBranch}
+use Rattle.v_tree.specs.declared.statements.VBranch.{VBranch, VBranch-F, fold-roll-VBranch}
 use Rattle.v_tree.specs.declared.statements.VBranch.TheVariants as G
-use Rattle.v_tree.specs.declared.statements.VCaseItem.{VCaseItem, VCaseItem-F, fold-VCaseItem, fold-roll-VCaseItem}
+use Rattle.v_tree.specs.declared.statements.VCaseItem.{VCaseItem, VCaseItem-F, fold-roll-VCaseItem}
 use Rattle.v_tree.specs.declared.statements.VCaseItem.TheVariants as C
-use Rattle.v_tree.specs.declared.expressions.VExpr.{VExpr, VExpr-F, fold-VExpr, fold-roll-VExpr}
+use Rattle.v_tree.specs.declared.expressions.VExpr.{VExpr, VExpr-F, fold-roll-VExpr}
 use Rattle.v_tree.specs.declared.expressions.VExpr.TheVariants as E
-use Rattle.v_tree.specs.declared.statements.VLval.{VLval, VLval-F, fold-VLval, fold-roll-VLval}
+use Rattle.v_tree.specs.declared.statements.VLval.{VLval, VLval-F, fold-roll-VLval}
 use Rattle.v_tree.specs.declared.statements.VLval.TheVariants as L
-use Rattle.v_tree.specs.declared.expressions.VPrim.{VPrim, VPrim-F, fold-VPrim, fold-roll-VPrim}
+use Rattle.v_tree.specs.declared.expressions.VPrim.{VPrim, VPrim-F, fold-roll-VPrim}
 use Rattle.v_tree.specs.declared.expressions.VPrim.TheVariants as O
-use Rattle.v_tree.specs.declared.expressions.VSel.{VSel, VSel-F, fold-VSel, fold-roll-VSel}
+use Rattle.v_tree.specs.declared.expressions.VSel.{VSel, VSel-F, fold-roll-VSel}
 use Rattle.v_tree.specs.declared.expressions.VSel.TheVariants as S
-use Rattle.v_tree.specs.declared.statements.VStmt.{VStmt, VStmt-F, fold-VStmt, fold-roll-VStmt}
+use Rattle.v_tree.specs.declared.statements.VStmt.{VStmt, VStmt-F, fold-roll-VStmt}
 use Rattle.v_tree.specs.declared.statements.VStmt.TheVariants as T
-
-use Rattle.v_writer.specs.Layout.{Piece, Placed, space, line, word, mark, sel_pieces, prim_pieces, expr_pieces, sel_layout, prim_layout, expr_layout, lval_pieces, lval_layout, branch_pieces, case_pieces, stmt_pieces, stmt_layout, case_layout, branch_layout, else_layout, else_of}
+use Rattle.v_writer.specs.Layout.{Piece, Placed, space, word, mark, sel_pieces, prim_pieces, expr_pieces, sel_layout, prim_layout, expr_layout, lval_pieces, lval_layout, branch_pieces, case_pieces, stmt_pieces, stmt_layout, case_layout, branch_layout, else_of}
 
 pub expr-prim-layout : (a : VPrim) → expr_layout (E.Prim a) ≡ expr_pieces (VExpr-F.Prim (prim_layout a))
 expr-prim-layout a = ap expr_layout (sym (E.rolls-Prim a)) ∙ fold-roll-VExpr (List Piece) (List Piece) (List Piece) expr_pieces prim_pieces sel_pieces (VExpr-F.Prim a)

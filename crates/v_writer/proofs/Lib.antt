@@ -6,4 +6,8 @@ pub mod Phrases
 pub mod Spelled
 pub mod Pieces
 pub mod Said
+pub mod WrittenExprs
+pub mod WrittenStmts
+pub mod WrittenSignals
+pub mod WrittenItems
 pub mod ReadsBack

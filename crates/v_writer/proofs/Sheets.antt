@@ -115,7 +115,7 @@ line-turn f depth xs i x s a b end h e one two before =
     ∙ ap (λ ys. set s (lines depth (map f ys))) (sym (drop-item xs i x h e))
     ∙ before
 
-placed-map : {A : Type 0} (f : A → Placed) (depth : ℕ) (xs : List A) → placed depth (map f xs) ≡ map (λ x. f x depth) xs
+pub placed-map : {A : Type 0} (f : A → Placed) (depth : ℕ) (xs : List A) → placed depth (map f xs) ≡ map (λ x. f x depth) xs
 placed-map f depth [] = refl
 placed-map f depth (x ∷ xs) = ap (λ ls. f x depth ∷ ls) (placed-map f depth xs)
 

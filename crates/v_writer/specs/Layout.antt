@@ -2,7 +2,7 @@
 -- function, block and `case` around it; `begin` and `else begin` end their line, `end` stands alone, and a branch stands behind
 -- its `if` or `else`. There is one space around binary operators, `?`, `:` of `?:`, `=`, `<=` and `+:`, after commas and keywords
 -- and before the lists of ports and connections; behind an escaped identifier stands its one space and no other.
-use Rattle.std.specs.Prelude.{ℕ, zero, suc, Bool, true, false, not, List, [], ◌∷◌, ◌++◌, map, flat_map, reverse, length, codes, decimal, Option, Some, None, if◌then◌else◌}
+use Rattle.std.specs.Prelude.{ℕ, zero, suc, Bool, true, false, not, List, [], ◌∷◌, ◌++◌, map, reverse, length, codes, decimal, Option, Some, None, if◌then◌else◌}
 use Rattle.b4_core.specs.declared.bit.Bit4.{Bit4}
 use Rattle.b4_core.specs.declared.bit.Bit4.TheVariants.{Zero, One, X, Z}
 use Rattle.v_tree.specs.declared.expressions.VExpr.{VExpr, VExpr-F, fold-VExpr}

@@ -9,9 +9,7 @@ ghost use Rattle.v_writer.specs.Layout.{perhaps, listed, edge_word, edge_layout,
 use crate::expressions::{write_comma, write_expr, write_lval};
 use crate::margin::Margin;
 use crate::page::Page;
-use crate::statements::{
-    write_branch, write_declared, write_locals, write_stmt, write_store,
-};
+use crate::statements::{write_branch, write_declared, write_locals, write_stmt, write_store};
 use b4_core::Vec4;
 use v_tree::{
     VConnection, VEdge, VExpr, VFunction, VInit, VInitial, VInstance, VItem, VProcess, VRegRest,

@@ -1,4 +1,4 @@
-use Rattle.std.proofs.Common.{◌≡◌, drop, map}
+use Rattle.std.proofs.Common.{◌≡◌, drop}
 use Rattle.v_writer.specs.Layout.{further_edges}
 use Rattle.v_writer.specs.Sheets.{set}
 use Rattle.v_writer.proofs.items.write_further_edges.Given as goal

@@ -1,5 +1,4 @@
-use Rattle.std.proofs.Common.{◌≡◌, List, [], ◌∷◌, map, refl, sym, ap, ◌∙◌, drop, ℕ}
-use Rattle.v_writer.specs.Layout.{Placed, Piece, placed, lines, stmt_layout, case_layout}
+use Rattle.v_writer.specs.Layout.{stmt_layout, case_layout}
 use Rattle.v_writer.specs.Margins.{levels}
 use Rattle.v_writer.proofs.Sheets.{placed-turn}
 use Rattle.v_writer.proofs.statements.+write_stmt.Goals as goal

@@ -1,4 +1,4 @@
-use Rattle.std.proofs.Common.{◌≡◌, map, min, length, ◌^◌, ◌-◌, false, ap, ◌∙◌}
+use Rattle.std.proofs.Common.{map, ap, ◌∙◌}
 use Rattle.v_writer.specs.Layout.{in_turn, module_line, text_layout}
 use Rattle.v_writer.specs.Sheets.{Sheet, set}
 use Rattle.v_writer.proofs.Sheets.{text-length}

@@ -1,9 +1,9 @@
-use Rattle.std.proofs.Common.{◌≡◌, ◌≤◌, ◌+◌, ◌++◌, [], List, ℕ, Some, None, map, length, Vec, Global, ap, sym, subst, ◌∙◌, arith}
+use Rattle.std.proofs.Common.{◌≡◌, ◌≤◌, ◌+◌, ◌++◌, List, ℕ, map, length, Vec, Global, ap, sym, subst, ◌∙◌, arith}
 use Rattle.v_writer.specs.Layout.{in_turn, module_line, text_layout, text_of}
 use Rattle.v_writer.specs.Pages.{kept}
 use Rattle.v_writer.specs.Sheets.{Sheet, set}
 use Rattle.v_writer.proofs.ReadsBack.{written_reads}
-use Rattle.v_writer.proofs.Sheets.{clean, text-bytes}
+use Rattle.v_writer.proofs.Sheets.{text-bytes}
 use Rattle.v_writer.proofs.writer.write_text.Goals as goal
 
 -- what was written on a page behind these bytes
