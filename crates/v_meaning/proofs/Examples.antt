@@ -5,7 +5,10 @@ use Rattle.std.specs.Prelude.{reverse, Some, None, slice_index_or, codes, replic
 use Rattle.b4_core.specs.declared.bit.Bit4.{Bit4}
 use Rattle.b4_core.specs.declared.bit.Bit4.TheVariants.{Zero, One, X, Z}
 use Rattle.b4_core.specs.declared.operators.BinOp.TheVariants as B
+use Rattle.b4_core.specs.declared.operators.OrdOp.TheVariants as O
 use Rattle.b4_core.specs.declared.operators.UnOp.TheVariants.{Not}
+use Rattle.b4_core.specs.declared.operators.ShiftOp.TheVariants as S
+use Rattle.b4_core.specs.declared.operators.RedOp.TheVariants as R
 use Rattle.row_machine.specs.Valuation.{Valuation, has}
 use Rattle.row_machine.specs.Places.{vector_at}
 use Rattle.row_machine.specs.Runs.{trace_of}
@@ -14,7 +17,7 @@ use Rattle.v_tree.specs.Names.{Name}
 use Rattle.v_tree.specs.declared.expressions.VExtent.TheVariants.{Down, Up}
 use Rattle.v_tree.specs.declared.statements.VCaseKind.TheVariants as K
 use Rattle.v_meaning.specs.Scopes.{Named, Scope, absent}
-use Rattle.v_meaning.specs.Values.{Meaning, given, literal, reference, binary, unary, signing, concatenation, choose, decimal_base, expression_base}
+use Rattle.v_meaning.specs.Values.{Meaning, binary, choose, concatenation, decimal_base, expression_base, given, literal, order, power, reduce, reference, repetition, shift, signing, unary}
 use Rattle.v_meaning.specs.Statements.{Target, name_target, joined_target, Doing, Item, assignment, conditional, cases, sequence, nothing, block_with}
 use Rattle.v_meaning.specs.Modules.{Signal, Kind, input_net, net, variable, Starts, always_on, on_change, on_edges, Process, Parts, numbered, driving, port_target, port_value}
 use Rattle.v_meaning.specs.Machine.{machine_of}
@@ -320,3 +323,49 @@ last_initial_counts : shown 4 shifting 3 1 ((codes "0" ∷ codes "0" ∷ []) ∷
     ≡ codes "x" ∷ codes "1" ∷ codes "1" ∷ codes "0" ∷ []
 unfolding reference assignment name_target has
 last_initial_counts = refl
+
+-- assign a = en ? d : a: a bit that a process writes keeps its current value, also where the process reads it itself
+abbrev loop_signals : List Signal
+loop_signals = an_input 1 (codes "en") ∷ an_input 1 (codes "d") ∷ a_signal net 1 (codes "a") ∷ []
+
+abbrev loop : Parts
+loop = record {
+  signals = loop_signals;
+  processes = process loop_signals always_on (set (to_name (codes "a")) (choose (name (codes "en")) (name (codes "d")) (name (codes "a")))) ∷ [];
+  initials = [];
+}
+
+loop_holds : shown 3 loop 2 1 ((codes "1" ∷ codes "1" ∷ []) ∷ (codes "0" ∷ codes "0" ∷ []) ∷ []) ≡ codes "1" ∷ codes "1" ∷ []
+unfolding reference assignment name_target choose has
+loop_holds = refl
+
+-- a ** b, a << b and a >>> b are valued at the width of their context, with b alone
+powers : shown_value two_bytes (codes "00000011" ∷ codes "00000101" ∷ []) 9 (power (name (codes "a")) (name (codes "b"))) ≡ codes "011110011"
+unfolding reference power
+powers = refl
+
+shifts_up : shown_value two_bytes (codes "10000001" ∷ codes "00000001" ∷ []) 10 (shift S.Left (name (codes "a")) (name (codes "b"))) ≡ codes "0100000010"
+unfolding reference shift
+shifts_up = refl
+
+shifts_down : shown_value two_bytes (codes "1000000x" ∷ codes "00000010" ∷ []) 8 (shift S.Arith (signing true (name (codes "a"))) (name (codes "b"))) ≡ codes "11100000"
+unfolding reference shift signing
+shifts_down = refl
+
+-- $signed(a) < $signed(b), and the same with one sign
+signed_order : shown_value two_bytes (codes "11111111" ∷ codes "00000001" ∷ []) 1 (order O.Less (signing true (name (codes "a"))) (signing true (name (codes "b")))) ≡ codes "1"
+unfolding reference order signing
+signed_order = refl
+
+unsigned_order : shown_value two_bytes (codes "11111111" ∷ codes "00000001" ∷ []) 1 (order O.Less (signing true (name (codes "a"))) (name (codes "b"))) ≡ codes "0"
+unfolding reference order signing
+unsigned_order = refl
+
+-- {2{a}} and &a
+twice : shown_value two_bytes (codes "1010001z" ∷ codes "0" ∷ []) 16 (repetition 2 (name (codes "a") ∷ [])) ≡ codes "1010001z1010001z"
+unfolding reference repetition
+twice = refl
+
+all_ones : shown_value two_bytes (codes "1111111x" ∷ codes "0" ∷ []) 1 (reduce R.And (name (codes "a"))) ≡ codes "x"
+unfolding reference reduce
+all_ones = refl

@@ -11,7 +11,7 @@ use Rattle.v_tree.specs.Names.{Name}
 use Rattle.v_tree.specs.declared.items.VFunction.{VFunction}
 use Rattle.v_meaning.specs.Scopes.{Named, Scope, Callee, absent, all_bits, is_signal, local_number, bits_of_range}
 use Rattle.v_meaning.specs.Runs.{begun, cleared, assign_now}
-use Rattle.v_meaning.specs.Statements.{declared, doing}
+use Rattle.v_meaning.specs.Statements.{Doing, declared, doing}
 
 -- the result, which has the function's name, and behind it the inputs and the variables
 abbrev pub result_of : VFunction → Named
@@ -32,17 +32,17 @@ bound [] args = unchanged
 bound (n ∷ ns) [] = unchanged
 bound (n ∷ ns) (a ∷ rest) = then_changes (written n.number (whole (all_bits n)) a) (bound ns rest)
 
--- What a call gives. All other locals hold x when the body begins; what the body writes to signals isn't seen.
-abbrev pub called : VFunction → Scope → Valuation → List (List Bit4) → List Bit4
-called f sc v args =
-    let s = (doing f.body).run (scope_in f sc) v (assign_now (bound (inputs_of f) args) (assign_now (cleared (locals_of f)) begun)) in
+-- What a call gives, by what the body does. All other locals hold x when the body begins; what it writes to signals isn't seen.
+abbrev pub called : VFunction → Doing → Scope → Valuation → List (List Bit4) → List Bit4
+called f body sc v args =
+    let s = body.run (scope_in f sc) v (assign_now (bound (inputs_of f) args) (assign_now (cleared (locals_of f)) begun)) in
     vector_at (put s.written v) (local_number 0) (bits_of_range f.range)
 
 abbrev pub callee_of : Scope → VFunction → Callee
 callee_of sc f = record {
   width = bits_of_range f.range;
   inputs = map (λ (n : Named). n.width) (inputs_of f);
-  run = called f sc;
+  run = called f (doing f.body) sc;
   reads = filter (λ u. is_signal u.number) ((doing f.body).reads (scope_in f sc));
 }
 

@@ -13,7 +13,7 @@ use Rattle.v_tree.specs.Names.{Name}
 use Rattle.v_tree.specs.declared.items.VDesign.{VDesign}
 use Rattle.v_meaning.specs.Scopes.{is_signal}
 use Rattle.v_meaning.specs.Runs.{State, begun}
-use Rattle.v_meaning.specs.Statements.{covered, uses_of}
+use Rattle.v_meaning.specs.Statements.{covered}
 use Rattle.v_meaning.specs.Modules.{Kind, input_net, net, variable, Signal, EdgeOn, Starts, always_on, on_change, on_edges, Process, InitialValue, Parts, signals, items_of, parts}
 
 -- all bits of a signal, those of all words of a memory
@@ -44,7 +44,7 @@ holds_value variable = true
 abbrev pub to_signals : Changes → Changes
 to_signals c q = cond (is_signal q.signal) (c q) None
 
--- an edge on a signal is one of its least bit
+-- an edge on a signal, which has one bit
 abbrev pub has_edge : Valuation → Valuation → EdgeOn → Bool
 has_edge v w e =
     let q : Place = record { signal = e.signal; bit = 0 } in
@@ -68,13 +68,13 @@ module _ (own : ℕ) (d : Parts) where
   start q = elim (last_initial d.initials q.signal) [ None ↦ initial q | Some v ↦ slice_index_or v q.bit X ]
 
   abbrev pub writes_of : Process → List Place
-  writes_of p = filter (covered (uses_of (p.does.writes p.scope))) places
+  writes_of p = filter (covered (p.does.writes p.scope)) places
 
   abbrev pub later_writes_of : Process → List Place
-  later_writes_of p = filter (covered (uses_of (p.does.later p.scope))) places
+  later_writes_of p = filter (covered (p.does.later p.scope)) places
 
   abbrev pub reads_of : Process → List Place
-  reads_of p = filter (λ q. covered (p.does.reads p.scope) q && not (covered (uses_of (p.does.writes p.scope)) q)) places
+  reads_of p = filter (λ q. covered (p.does.reads p.scope) q && not (covered (p.does.writes p.scope) q)) places
 
   -- the bits of all signals that the statements name, but for targets
   abbrev pub names_of : Process → List Place
@@ -117,21 +117,14 @@ module _ (own : ℕ) (d : Parts) where
   edge_of_process on_change p = []
   edge_of_process (on_edges es) p = edge es p ∷ []
 
-  -- Bits that keep their current value where no run assigns them: those that an edge process writes, and those that an
-  -- `always @*` writes on some path and leaves alone on another. A bit that is written on every path holds its initial value
-  -- until its process is started.
-  abbrev pub registers_of : Starts → Process → List Place
-  registers_of always_on p = []
-  registers_of on_change p = filter (p.does.slips p.scope) (writes_of p)
-  registers_of (on_edges es) p = later_writes_of p
-
   abbrev pub is_written : Place → Bool
   is_written q =
-      list_any (λ (p : Process). covered (uses_of (p.does.writes p.scope)) q || covered (uses_of (p.does.later p.scope)) q) d.processes
+      list_any (λ (p : Process). covered (p.does.writes p.scope) q || covered (p.does.later p.scope) q) d.processes
 
-  -- A bit of a net that nothing writes is z (clause 4.6). Any other bit rests at what it holds at time zero.
+  -- A bit that nothing writes rests at what it holds at time zero if a variable holds it, and at z if it is a net's
+  -- (clause 4.6). A bit that a process writes keeps its current value where no run assigns it.
   abbrev pub rest : Valuation
-  rest q = of_signal d.signals X (λ s. cond (holds_value s.kind || is_written q) (start q) Z) q.signal
+  rest q = of_signal d.signals X (λ s. cond (holds_value s.kind) (start q) Z) q.signal
 
   -- the top's inputs: its own signals stand in front
   abbrev pub is_top_input : Place → Bool
@@ -142,7 +135,7 @@ module _ (own : ℕ) (d : Parts) where
     combs = flat_map (λ (p : Process). comb_of p.starts p) d.processes;
     edges = flat_map (λ (p : Process). edge_of_process p.starts p) d.processes;
     inputs = filter is_top_input places;
-    registers = flat_map (λ (p : Process). registers_of p.starts p) d.processes;
+    registers = filter is_written places;
     initial = initial;
     start = start;
     rest = rest;

@@ -1,6 +1,6 @@
 -- The signals and processes of a design, by its tree of instances (IEEE 1364-2005 clauses 4, 6.1, 9.2, 9.7 and 12.3). Signals
 -- are numbered in the preorder of the instances, and in each in the order of their declarations.
-use Rattle.std.specs.Prelude.{ℕ, zero, suc, ◌+◌, Bool, true, false, List, [], ◌∷◌, ◌++◌, length, map, replicate, Option, Some, None, cond}
+use Rattle.std.specs.Prelude.{ℕ, zero, suc, ◌+◌, Bool, false, List, [], ◌∷◌, ◌++◌, length, map, replicate, Option, Some, None, cond}
 use Rattle.std.specs.Str.{bytes_eq}
 use Rattle.b4_core.specs.declared.bit.Bit4.{Bit4}
 use Rattle.b4_core.specs.declared.bit.Bit4.TheVariants.{X}
@@ -47,13 +47,13 @@ pub record Signal : Type 0 where
   pub initial : List Bit4
 
 -- the numbers of a concatenation, the first most significant
-abbrev pub joined : List (List Bit4) → List Bit4
-joined [] = []
-joined (v ∷ vs) = joined vs ++ v
+abbrev pub numbers : List (List Bit4) → List Bit4
+numbers [] = []
+numbers (v ∷ vs) = numbers vs ++ v
 
 abbrev pub bits_of_init : VInit → List Bit4
 bits_of_init (V.Number v) = v
-bits_of_init (V.Concat vs) = joined vs
+bits_of_init (V.Concat vs) = numbers vs
 
 -- A signal without a declared value holds x before the first row: a variable by clause 4.2.2, a net by this model's choice.
 abbrev pub vector : Option ℕ → Name → Kind → Signal
@@ -152,7 +152,7 @@ abbrev pub port_target : Named → Target
 port_target n = record {
   width = λ sc. all_bits n;
   puts = λ sc v bits. written n.number (whole (all_bits n)) bits;
-  writes = λ sc. record { of = record { number = n.number; low = 0; high = all_bits n }; exact = true } ∷ [];
+  writes = λ sc. record { number = n.number; low = 0; high = all_bits n } ∷ [];
   names = λ sc. [];
   reads = λ sc. [];
 }
@@ -162,7 +162,7 @@ port_value n = record {
   width = λ sc. all_bits n;
   signed = false;
   value = λ w s sc v. ext w s (vector_at v n.number (all_bits n));
-  constant = false;
+  constant = λ sc. false;
   names = λ sc. n.number ∷ [];
   reads = λ sc. record { number = n.number; low = 0; high = all_bits n } ∷ [];
 }

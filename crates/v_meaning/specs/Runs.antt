@@ -31,10 +31,6 @@ current v s = put s.written v
 abbrev pub idle : Run
 idle sc v s = s
 
-abbrev pub in_turn : List Run → Run
-in_turn [] sc v s = s
-in_turn (r ∷ rs) sc v s = in_turn rs sc v (r sc v s)
-
 abbrev pub one_of : Bool → Run → Run → Run
 one_of true r o = r
 one_of false r o = o

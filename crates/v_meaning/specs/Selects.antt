@@ -1,5 +1,5 @@
 -- Selects of bits, parts and words (IEEE 1364-2005 clauses 4.9 and 5.2).
-use Rattle.std.specs.Prelude.{ℕ, suc, ◌-◌, Bool, true, false, ◌&&◌, cond, ℤ, pos, ◌*ℤ◌, int_le, int_lt, List, [], ◌∷◌, Option, Some, None}
+use Rattle.std.specs.Prelude.{ℕ, suc, ◌-◌, Bool, ◌&&◌, cond, ℤ, pos, ◌*ℤ◌, int_le, int_lt, List, [], ◌∷◌, Option, Some, None}
 use Rattle.row_machine.specs.Valuation.{Valuation}
 use Rattle.picks.specs.Windows.{Window, whole, nowhere, part}
 use Rattle.v_tree.specs.declared.expressions.VExtent.{VExtent}
@@ -43,7 +43,7 @@ pub record SelMeaning : Type 0 where
   pub extent : Option VExtent
   pub decimal : Option ℕ
   pub base : Scope → Valuation → Option ℤ
-  pub constant : Bool
+  pub constant : Scope → Bool
   pub names : Scope → List ℕ
   pub reads : Scope → List Use
 
@@ -70,11 +70,7 @@ abbrev pub width_from : List SelMeaning → Path → Path
 width_from [] p = p
 width_from (s ∷ ss) p = width_from ss (select s None p)
 
--- the longest prefix whose bases are constants, and whether it is the whole path
-pub record Prefix : Type 0 where
-  pub window : Window
-  pub exact : Bool
-
-abbrev pub prefix_from : Scope → Valuation → List SelMeaning → Path → Prefix
-prefix_from sc v [] p = record { window = p.window; exact = true }
-prefix_from sc v (s ∷ ss) p = cond s.constant (prefix_from sc v ss (select s (s.base sc v) p)) (record { window = p.window; exact = false })
+-- the longest prefix whose bases are constants
+abbrev pub prefix_from : Scope → Valuation → List SelMeaning → Path → Window
+prefix_from sc v [] p = p.window
+prefix_from sc v (s ∷ ss) p = cond (s.constant sc) (prefix_from sc v ss (select s (s.base sc v) p)) p.window

@@ -1,5 +1,5 @@
 -- Targets and statements: what they do, read and write (IEEE 1364-2005 clauses 9.2 to 9.5 and 9.8).
-use Rattle.std.specs.Prelude.{ℕ, suc, ◌+◌, ◌==◌, nat_le, nat_lt, Bool, true, ◌&&◌, ◌||◌, not, cond, List, [], ◌∷◌, ◌++◌, length, drop, take, map, flat_map, Option, Some, None}
+use Rattle.std.specs.Prelude.{ℕ, suc, ◌+◌, ◌==◌, nat_le, nat_lt, Bool, ◌&&◌, cond, List, [], ◌∷◌, ◌++◌, length, drop, take, map, flat_map, Option, Some, None}
 use Rattle.std.specs.List.{list_any}
 use Rattle.b4_core.specs.declared.bit.Bit4.{Bit4}
 use Rattle.row_machine.specs.Valuation.{Place, Valuation, Changes}
@@ -14,35 +14,25 @@ use Rattle.v_tree.specs.declared.statements.VLabel.{VLabel}
 use Rattle.v_tree.specs.declared.statements.VLval.{VLval, VLval-F, fold-VLval}
 use Rattle.v_tree.specs.declared.statements.VStmt.{VStmt, VStmt-F, fold-VStmt}
 use Rattle.v_meaning.specs.Scopes.{Named, Scope, Use, named, bits_of_range, local_number}
-use Rattle.v_meaning.specs.Selects.{SelMeaning, start, prefix_from}
-use Rattle.v_meaning.specs.Values.{Meaning, given, all_names, all_reads, path_of, width_of, unseen, sel_names, sel_reads, sel_meaning, meaning}
+use Rattle.v_meaning.specs.Selects.{SelMeaning}
+use Rattle.v_meaning.specs.Values.{Meaning, given, all_names, all_reads, path_of, width_of, use_of, sel_names, sel_reads, sel_meaning, meaning}
 use Rattle.v_meaning.specs.Runs.{Run, current, idle, branch, assign_as, assign_now, cleared, selector, ItemRun, first_match}
-
--- a write, and whether it is of exactly these bits
-pub record Write : Type 0 where
-  pub of : Use
-  pub exact : Bool
 
 -- What a target means: its width, what a write of bits through it changes, the bits that it may write, the signals and locals
 -- that it writes, and what valuing its indices names and reads.
 pub record Target : Type 0 where
   pub width : Scope → ℕ
   pub puts : Scope → Valuation → List Bit4 → Changes
-  pub writes : Scope → List Write
+  pub writes : Scope → List Use
   pub names : Scope → List ℕ
   pub reads : Scope → List Use
-
-abbrev pub write_of : Named → List SelMeaning → Scope → Write
-write_of n sels sc =
-    let p = prefix_from sc unseen sels (start n) in
-    record { of = record { number = n.number; low = p.window.low; high = p.window.high }; exact = p.exact }
 
 -- a name with its selects; bits out of range are not written
 unfoldable pub name_target : Name → List SelMeaning → Target
 name_target name sels = record {
   width = λ sc. width_of (named sc.names name) sels;
   puts = λ sc v bits. let n = named sc.names name in written n.number (path_of n sels sc v).window bits;
-  writes = λ sc. write_of (named sc.names name) sels sc ∷ [];
+  writes = λ sc. use_of (named sc.names name) sels sc ∷ [];
   names = sel_names sels;
   reads = sel_reads sels;
 }
@@ -81,26 +71,17 @@ covers u q = (u.number == q.signal) && (nat_le u.low q.bit && nat_lt q.bit u.hig
 abbrev pub covered : List Use → Place → Bool
 covered us q = list_any (λ u. covers u q) us
 
-abbrev pub uses_of : List Write → List Use
-uses_of ws = map (λ (w : Write). w.of) ws
-
--- whether one of the writes is of exactly its bits, and of this one
-abbrev pub surely_written : List Write → Place → Bool
-surely_written ws q = list_any (λ (w : Write). w.exact && covers w.of q) ws
-
 -- What a statement means: what it does, the signals and locals that it names other than as targets, the bits that it reads,
--- those that its blocking and its nonblocking assignments may write, and whether a path through it leaves a bit unwritten.
--- At each condition a path may go either way.
+-- and those that its blocking and its nonblocking assignments may write. A condition that is a constant counts as any other.
 pub record Doing : Type 0 where
   pub run : Run
   pub names : Scope → List ℕ
   pub reads : Scope → List Use
-  pub writes : Scope → List Write
-  pub later : Scope → List Write
-  pub slips : Scope → Place → Bool
+  pub writes : Scope → List Use
+  pub later : Scope → List Use
 
 abbrev pub nothing : Doing
-nothing = record { run = idle; names = λ sc. []; reads = λ sc. []; writes = λ sc. []; later = λ sc. []; slips = λ sc q. true }
+nothing = record { run = idle; names = λ sc. []; reads = λ sc. []; writes = λ sc. []; later = λ sc. [] }
 
 abbrev pub or_nothing : Option Doing → Doing
 or_nothing (Some d) = d
@@ -110,10 +91,10 @@ or_nothing None = nothing
 abbrev pub changes_of : Target → Meaning → Scope → Valuation → Changes
 changes_of to value sc v = to.puts sc v (given value (to.width sc) sc v)
 
-abbrev pub now_writes : Bool → Target → Scope → List Write
+abbrev pub now_writes : Bool → Target → Scope → List Use
 now_writes later to sc = cond later [] (to.writes sc)
 
-abbrev pub later_writes : Bool → Target → Scope → List Write
+abbrev pub later_writes : Bool → Target → Scope → List Use
 later_writes later to sc = cond later (to.writes sc) []
 
 -- an assignment; a nonblocking one is made later
@@ -124,7 +105,6 @@ assignment later to value = record {
   reads = λ sc. value.reads sc ++ to.reads sc;
   writes = now_writes later to;
   later = later_writes later to;
-  slips = λ sc q. not (surely_written (now_writes later to sc) q);
 }
 
 abbrev pub sequence : List Doing → Doing
@@ -137,7 +117,6 @@ sequence (d ∷ ds) =
       reads = λ sc. d.reads sc ++ e.reads sc;
       writes = λ sc. d.writes sc ++ e.writes sc;
       later = λ sc. d.later sc ++ e.later sc;
-      slips = λ sc q. d.slips sc q && e.slips sc q;
     }
 
 -- one of two
@@ -148,7 +127,6 @@ either_of run d e = record {
   reads = λ sc. d.reads sc ++ e.reads sc;
   writes = λ sc. d.writes sc ++ e.writes sc;
   later = λ sc. d.later sc ++ e.later sc;
-  slips = λ sc q. d.slips sc q || e.slips sc q;
 }
 
 -- a statement behind what these expressions read
@@ -176,7 +154,7 @@ abbrev pub item_values : List Item → List Meaning
 item_values [] = []
 item_values (i ∷ is) = elim i.values [ None ↦ item_values is | Some ms ↦ ms ++ item_values is ]
 
--- any item, or the `default`
+-- a statement that does one of these, as a run says: an item, or else the last
 abbrev pub any_item : Run → List Item → Doing → Doing
 any_item run [] other = record other { run = run }
 any_item run (i ∷ is) other = elim i.values [ None ↦ any_item run is other | Some ms ↦ either_of run i.body (any_item run is other) ]
@@ -203,7 +181,6 @@ block_with ls d = record {
   reads = λ sc. d.reads (inside ls sc);
   writes = λ sc. d.writes (inside ls sc);
   later = λ sc. d.later (inside ls sc);
-  slips = λ sc q. d.slips (inside ls sc) q;
 }
 
 abbrev pub locals_of : Option VLabel → List VLocal

@@ -46,8 +46,8 @@ pub record Meaning : Type 0 where
   pub signed : Bool
   -- its value at the width and sign of its context
   pub value : ℕ → Bool → Scope → Valuation → List Bit4
-  -- whether it is a constant: it names nothing
-  pub constant : Bool
+  -- whether it is a constant: it reads no signal and no local
+  pub constant : Scope → Bool
   -- the signals and locals that it names, indices included, and the bits that valuing it reads
   pub names : Scope → List ℕ
   pub reads : Scope → List Use
@@ -71,8 +71,8 @@ all_names ms sc = flat_map (λ (m : Meaning). m.names sc) ms
 abbrev pub all_reads : List Meaning → Scope → List Use
 all_reads ms sc = flat_map (λ (m : Meaning). m.reads sc) ms
 
-abbrev pub all_constant : List Meaning → Bool
-all_constant ms = list_all (λ (m : Meaning). m.constant) ms
+abbrev pub all_constant : List Meaning → Scope → Bool
+all_constant ms sc = list_all (λ (m : Meaning). m.constant sc) ms
 
 -- an operation by its width and sign, its operands and its value
 abbrev pub operation : (Scope → ℕ) → Bool → List Meaning → (ℕ → Bool → Scope → Valuation → List Bit4) → Meaning
@@ -109,8 +109,8 @@ unseen q = X
 
 abbrev pub use_of : Named → List SelMeaning → Scope → Use
 use_of n sels sc =
-    let p = prefix_from sc unseen sels (start n) in
-    record { number = n.number; low = p.window.low; high = p.window.high }
+    let path = prefix_from sc unseen sels (start n) in
+    record { number = n.number; low = path.low; high = path.high }
 
 abbrev pub sel_names : List SelMeaning → Scope → List ℕ
 sel_names sels sc = flat_map (λ (s : SelMeaning). s.names sc) sels
@@ -123,7 +123,7 @@ reference name sels = record {
   width = λ sc. width_of (named sc.names name) sels;
   signed = false;
   value = λ w s sc v. ext w s (value_of (named sc.names name) sels sc v);
-  constant = false;
+  constant = λ sc. false;
   names = λ sc. (named sc.names name).number ∷ sel_names sels sc;
   reads = λ sc. use_of (named sc.names name) sels sc ∷ sel_reads sels sc;
 }
@@ -134,12 +134,17 @@ arguments [] ms sc v = []
 arguments (n ∷ ns) [] sc v = []
 arguments (n ∷ ns) (m ∷ ms) sc v = given m n sc v ∷ arguments ns ms sc v
 
+-- a call is a constant where its arguments are and its function reads no signal (clause 10.4.5)
+abbrev pub is_empty : {A : Type 0} → List A → Bool
+is_empty [] = true
+is_empty (x ∷ xs) = false
+
 unfoldable pub call : Name → List Meaning → Meaning
 call name args = record {
   width = λ sc. (sc.callee name).width;
   signed = false;
   value = λ w s sc v. ext w s ((sc.callee name).run v (arguments (sc.callee name).inputs args sc v));
-  constant = false;
+  constant = λ sc. all_constant args sc && is_empty (sc.callee name).reads;
   names = all_names args;
   reads = λ sc. all_reads args sc ++ (sc.callee name).reads;
 }
@@ -262,7 +267,7 @@ binary_meaning W.LogicalAnd = both
 binary_meaning W.LogicalOr = either
 
 abbrev pub decimal_base : ℕ → Option VExtent → SelMeaning
-decimal_base base extent = record { extent = extent; decimal = Some base; base = λ sc v. Some (pos base); constant = true; names = λ sc. []; reads = λ sc. [] }
+decimal_base base extent = record { extent = extent; decimal = Some base; base = λ sc v. Some (pos base); constant = λ sc. true; names = λ sc. []; reads = λ sc. [] }
 
 -- an index is read with its own width and sign
 abbrev pub number_of : Bool → List Bit4 → Option ℤ
