@@ -1,0 +1,23 @@
+//! The elaborated language: types, values, typed expressions, statements and designs, and in `specs/` what they mean.
+#![tactic(auto)]
+
+mod design;
+mod expression;
+mod frame;
+mod statement;
+mod types;
+
+pub use design::{
+    Design, EdgeList, EdgeOn, Instance, InstancePort, InstancePorts, Instances, LinkedMember,
+    LinkedMembers, Process, ProcessKind, Processes, Signal, SignalKind, Signals,
+};
+pub use expression::{Choice, Choices, Expr, Exprs, Form};
+pub use frame::{
+    Binding, Frame, ParamType, ParamTypes, ParamValue, ParamValues, PortBinding, PortBindings,
+    SignalId, SignalIds,
+};
+pub use statement::{
+    CaseItem, CaseItems, CaseKind, Formal, Formals, Function, FunctionKind, Functions, Local, Locals,
+    Spots, Stmt, Stmts, Way,
+};
+pub use types::{EnumName, EnumNames, Member, Members, SvType, Value, Values};
