@@ -17,7 +17,7 @@ pub use frame::{
     SignalId, SignalIds,
 };
 pub use statement::{
-    CaseItem, CaseItems, CaseKind, Formal, Formals, Function, FunctionKind, Functions, Local, Locals,
-    Spots, Stmt, Stmts, Way,
+    CaseItem, CaseItems, CaseKind, Formal, Formals, Function, FunctionKind, Functions, Local,
+    Locals, Outcome, Spots, Stmt, Stmts, Way,
 };
 pub use types::{EnumName, EnumNames, Member, Members, SvType, Value, Values};

@@ -159,6 +159,19 @@ pub struct Formal {
     pub spot: Spot,
 }
 
+/// How the run of a statement ends (clause 12.8).
+#[derive(Clone, Copy, PartialEq, Eq, Debug)]
+pub enum Outcome {
+    /// At its end.
+    Normal,
+    /// By a `break`.
+    Break,
+    /// By a `continue`.
+    Continue,
+    /// By a `return`.
+    Return,
+}
+
 /// What a function was in the source.
 #[derive(Drop)]
 pub enum FunctionKind {

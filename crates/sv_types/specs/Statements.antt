@@ -1,0 +1,209 @@
+-- What typed statements mean, form by form: what they do, and what is known of them before.
+use Rattle.std.specs.Prelude.{ℕ, ◌+◌, max, Bool, List, [], ◌∷◌, ◌++◌, map, flat_map, Option, Some, None}
+use Rattle.sv_types.specs.declared.expression.Expr.{Expr}
+use Rattle.sv_types.specs.declared.statement.CaseKind.{CaseKind}
+use Rattle.sv_types.specs.declared.statement.Outcome.{Outcome}
+use Rattle.sv_types.specs.declared.statement.Outcome.TheVariants.{Break, Continue, Return}
+use Rattle.sv_types.specs.declared.statement.Local.{Local}
+use Rattle.sv_types.specs.declared.statement.Way.{Way}
+use Rattle.sv_types.specs.declared.statement.Way.TheVariants as W
+use Rattle.sv_types.specs.declared.statement.Stmt.{Stmt, Stmt-F, fold-Stmt}
+use Rattle.sv_types.specs.declared.statement.CaseItem.{CaseItem-F}
+use Rattle.sv_types.specs.Layouts.{layout}
+use Rattle.sv_types.specs.Surroundings.{Sight, Parameter}
+use Rattle.sv_types.specs.Meanings.{Meaning, Named, most, total, wide}
+use Rattle.sv_types.specs.Operators.{width_of_all, assigned_width}
+use Rattle.sv_types.specs.Expressions.{meaning}
+use Rattle.sv_types.specs.Runs as R
+use Rattle.sv_types.specs.Runs.{Run, ItemRun}
+use Rattle.sv_types.specs.Flows as F
+use Rattle.sv_types.specs.Flows.{Flow, Flows}
+
+-- What a statement does; what is known of it before; the signals and locals that it names, targets left out; and the
+-- greatest widths, as of expressions.
+pub record Doing : Type 0 where
+  pub run : Run
+  pub flow : Flows
+  pub names : (ℕ → List Parameter) → List Named
+  pub arithmetic : (ℕ → List Parameter) → ℕ
+  pub indexing : ℕ
+  pub widest : ℕ
+  pub misfits : ℕ
+
+-- an item of a `case`
+pub record Item : Type 0 where
+  pub values : List Meaning
+  pub does : Doing
+
+-- the limits of expressions, each at a width
+pub record Limits : Type 0 where
+  pub names : List Named
+  pub arithmetic : (ℕ → List Parameter) → ℕ
+  pub indexing : ℕ
+  pub widest : ℕ
+  pub misfits : ℕ
+
+abbrev pub no_limits : Limits
+no_limits = record { names = []; arithmetic = λ fs. 0; indexing = 0; widest = 0; misfits = 0 }
+
+abbrev pub limits_at : ℕ → Meaning → Limits
+limits_at w m = record { names = m.names; arithmetic = λ fs. m.arithmetic fs w; indexing = m.indexing; widest = m.widest; misfits = m.misfits }
+
+abbrev pub limits_alone : Meaning → Limits
+limits_alone m = limits_at (wide m) m
+
+-- of a target only the indices are valued
+abbrev pub limits_as_target : Meaning → Limits
+limits_as_target m = record { names = m.index_names; arithmetic = λ fs. m.arithmetic fs (wide m); indexing = m.indexing; widest = m.widest; misfits = m.misfits }
+
+abbrev pub both_limits : Limits → Limits → Limits
+both_limits a b = record {
+  names = a.names ++ b.names;
+  arithmetic = λ fs. max (a.arithmetic fs) (b.arithmetic fs);
+  indexing = max a.indexing b.indexing;
+  widest = max a.widest b.widest;
+  misfits = a.misfits + b.misfits;
+}
+
+abbrev pub all_limits : List Limits → Limits
+all_limits [] = no_limits
+all_limits (x ∷ xs) = both_limits x (all_limits xs)
+
+-- a statement with these expressions and these parts
+abbrev pub composed : Run → Flows → Limits → List Doing → Doing
+composed run flow own parts = record {
+  run = run;
+  flow = flow;
+  names = λ fs. own.names ++ flat_map (λ (d : Doing). d.names fs) parts;
+  arithmetic = λ fs. max (own.arithmetic fs) (most (map (λ (d : Doing). d.arithmetic fs) parts));
+  indexing = max own.indexing (most (map (λ (d : Doing). d.indexing) parts));
+  widest = max own.widest (most (map (λ (d : Doing). d.widest) parts));
+  misfits = own.misfits + total (map (λ (d : Doing). d.misfits) parts);
+}
+
+abbrev pub runs : List Doing → List Run
+runs ds = map (λ (d : Doing). d.run) ds
+
+abbrev pub flows : List Doing → List Flows
+flows ds = map (λ (d : Doing). d.flow) ds
+
+abbrev pub none_or : Option Doing → List Doing
+none_or None = []
+none_or (Some d) = d ∷ []
+
+abbrev pub run_or_idle : Option Doing → Run
+run_or_idle None = R.idle
+run_or_idle (Some d) = d.run
+
+abbrev pub flow_or_nothing : Option Doing → Flows
+flow_or_nothing None k = F.nothing
+flow_or_nothing (Some d) k = d.flow k
+
+-- what a local starts with, if it is written
+abbrev pub initial_of : Local → Option Meaning
+initial_of l = elim l.initial [ None ↦ None | Some e ↦ Some (meaning e) ]
+
+abbrev pub marks_of : Local → List Bool
+marks_of l = (layout l.of).two_state
+
+abbrev pub local_limits : Local → Limits
+local_limits l = elim (initial_of l) [ None ↦ no_limits | Some m ↦ limits_at (assigned_width (marks_of l) m) m ]
+
+abbrev pub starts : List Local → List Run
+starts ls = map (λ (l : Local). R.start l.number (marks_of l) (initial_of l)) ls
+
+abbrev pub starting : List Local → List Flows
+starting ls = map (λ (l : Local). F.starting l.number (marks_of l) (initial_of l)) ls
+
+-- the flow of a block, in which locals without a written value are unset
+abbrev pub unset_in : List Local → Flow → Flow
+unset_in [] f = f
+unset_in (l ∷ ls) f = F.unset_in l.number (marks_of l) (initial_of l) (unset_in ls f)
+
+-- statements in a scope of these locals
+abbrev pub scope : List Local → List Doing → Doing
+scope ls ds =
+    composed (R.in_turn (starts ls ++ runs ds)) (λ k. F.and_then (F.in_turn (starting ls) k) (unset_in ls (F.in_turn (flows ds) k)))
+    (all_limits (map local_limits ls)) ds
+
+abbrev pub counted : Doing → Doing
+counted d = record d { run = R.statement d.run }
+
+abbrev pub branching : Meaning → Doing → Option Doing → Doing
+branching on body other =
+    composed (R.branch on body.run (run_or_idle other))
+    (λ k. F.and_then (F.reading (on.reads k)) (F.or_else (body.flow k) (flow_or_nothing other k)))
+    (limits_alone on) (body ∷ none_or other)
+
+abbrev pub item_runs : List Item → List ItemRun
+item_runs is = map (λ (i : Item). record { values = i.values; run = i.does.run }) is
+
+abbrev pub selecting : CaseKind → Meaning → List Item → Option Doing → Doing
+selecting kind on is other =
+    let values = flat_map (λ (i : Item). i.values) is in
+    let w = R.widest_of (on ∷ values) in
+    composed (R.select kind on (item_runs is) (run_or_idle other))
+    (λ k. F.and_then (F.reading (on.reads k ++ F.all_reads values k)) (F.any_of (map (λ (i : Item). i.does.flow) is) (flow_or_nothing other k) k))
+    (all_limits (map (limits_at w) (on ∷ values))) (map (λ (i : Item). i.does) is ++ none_or other)
+
+abbrev pub looping : ℕ → Meaning → Meaning → Meaning → Doing → Doing
+looping n first test step body =
+    composed (R.loop n first test step body.run) (F.looping n first test step body.flow)
+    (all_limits (limits_at (assigned_width first.of.two_state first) first ∷ limits_alone test ∷ limits_at (assigned_width first.of.two_state step) step ∷ []))
+    (body ∷ [])
+
+abbrev pub assigning : List Meaning → Meaning → Bool → Doing
+assigning to value later =
+    composed (R.assign later to value) (F.assigning later to value)
+    (both_limits (all_limits (map limits_as_target to)) (limits_at (max (width_of_all to) (wide value)) value)) []
+
+-- an actual, by the way of its formal
+abbrev pub names_by_way : Way → Meaning → List Named
+names_by_way W.Input m = m.names
+names_by_way W.Output m = m.index_names
+names_by_way W.Inout m = m.names
+
+abbrev pub actual_names : List Parameter → List Meaning → List Named
+actual_names [] ms = []
+actual_names (p ∷ ps) [] = []
+actual_names (p ∷ ps) (m ∷ ms) = names_by_way p.way m ++ actual_names ps ms
+
+abbrev pub actual_arithmetic : (ℕ → List Parameter) → List Parameter → List Meaning → ℕ
+actual_arithmetic fs [] ms = 0
+actual_arithmetic fs (p ∷ ps) [] = 0
+actual_arithmetic fs (p ∷ ps) (m ∷ ms) = max (m.arithmetic fs (assigned_width p.two_state m)) (actual_arithmetic fs ps ms)
+
+abbrev pub calling : ℕ → List Meaning → Doing
+calling f ms = record (composed (R.call_routine f ms) (F.calling f ms) (all_limits (map limits_alone ms)) []) {
+  names = λ fs. actual_names (fs f) ms;
+  arithmetic = λ fs. actual_arithmetic fs (fs f) ms;
+}
+
+abbrev pub jumping : Outcome → Doing
+jumping o = composed (R.jump o) (λ k. F.jumping o) no_limits []
+
+-- what stands for a replaced call: it counts as its body, or as one statement
+abbrev pub made : List Local → List Doing → Option Doing → Doing
+made ls before None = let d = scope ls before in record d { run = R.statement (R.uncounted d.run) }
+made ls before (Some body) =
+    let first = record (scope ls before) { run = R.uncounted (scope ls before).run } in
+    composed (R.in_turn (first.run ∷ body.run ∷ [])) (λ k. F.and_then (F.in_turn (starting ls) k) (unset_in ls (F.in_turn (flows (before ++ body ∷ [])) k)))
+    (all_limits (map local_limits ls)) (before ++ body ∷ [])
+
+abbrev pub item_step : CaseItem-F Doing Item → Item
+item_step i = record { values = map meaning i.values; does = i.body }
+
+abbrev pub stmt_step : Stmt-F Doing Item → Doing
+stmt_step (Stmt-F.Block locals body) = counted (scope locals body)
+stmt_step (Stmt-F.If on body other) = counted (branching (meaning on) body other)
+stmt_step (Stmt-F.Case kind on items other) = counted (selecting kind (meaning on) items other)
+stmt_step (Stmt-F.Loop n first test step body spot) = looping n (meaning first) (meaning test) (meaning step) body
+stmt_step (Stmt-F.Assign to value later spot) = counted (assigning (map meaning to) (meaning value) later)
+stmt_step (Stmt-F.Call f actuals spot) = counted (calling f (map meaning actuals))
+stmt_step (Stmt-F.Made locals before body) = made locals before body
+stmt_step Stmt-F.Break = counted (jumping Break)
+stmt_step Stmt-F.Continue = counted (jumping Continue)
+stmt_step Stmt-F.Return = counted (jumping Return)
+
+abbrev pub doing : Stmt → Doing
+doing = fold-Stmt Doing Item stmt_step item_step
