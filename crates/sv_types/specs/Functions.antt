@@ -11,7 +11,7 @@ use Rattle.sv_types.specs.declared.statement.Outcome.TheVariants.{Normal}
 use Rattle.sv_types.specs.Layouts.{layout, stored, default_bits}
 use Rattle.sv_types.specs.Surroundings.{Around, Callee, Called, Parameter, Tally, local_number}
 use Rattle.sv_types.specs.Runs.{State, current, set_local}
-use Rattle.sv_types.specs.Statements.{doing}
+use Rattle.sv_types.specs.Statements.{Doing, doing}
 
 abbrev pub parameter : Formal → Parameter
 parameter f = record { number = f.local.number; two_state = (layout f.local.of).two_state; signed = (layout f.local.of).signed; way = f.way }
@@ -29,9 +29,6 @@ bound (p ∷ ps) (v ∷ vs) = then_changes (set_local p.number p.two_state v) (b
 abbrev pub final : Around → ℕ → List Bool → List Bit4
 final a n two_state = stored two_state (vector_at a.now (local_number n) (length two_state))
 
-abbrev pub result_of : Function → Around → List Bit4
-result_of f a = final a 0 (layout f.of).two_state
-
 abbrev pub finals_of : List Parameter → Around → List (List Bit4)
 finals_of ps a = map (λ (p : Parameter). final a p.number p.two_state) ps
 
@@ -42,15 +39,18 @@ alone_with callee = record { now = λ q. X; holds = λ n. false; callee = callee
 abbrev pub begun : List Parameter → List (List Bit4) → Tally → State
 begun ps vs t = record { written = bound ps vs; pending = unchanged; tally = t; outcome = Normal }
 
--- The result is local 0.
-abbrev pub callee_of : (ℕ → Callee) → Function → Callee
-callee_of callee f = record {
-  formals = parameters f;
+-- A function by its formals, the type of its result, which is local 0, and its body.
+abbrev pub callee_by : List Parameter → List Bool → Doing → (ℕ → Callee) → Callee
+callee_by ps result body callee = record {
+  formals = ps;
   run = λ vs t.
-      let s = (doing f.body).run (alone_with callee) (begun (parameters f) vs t) in
+      let s = body.run (alone_with callee) (begun ps vs t) in
       let e = current (alone_with callee) s in
-      record { result = result_of f e; finals = finals_of (parameters f) e; tally = s.tally };
+      record { result = final e 0 result; finals = finals_of ps e; tally = s.tally };
 }
+
+abbrev pub callee_of : (ℕ → Callee) → Function → Callee
+callee_of callee f = callee_by (parameters f) (layout f.of).two_state (doing f.body) callee
 
 -- where calls go no deeper
 abbrev pub not_run : Function → Callee

@@ -6,7 +6,7 @@ use Rattle.b4_core.specs.declared.bit.Bit4.{Bit4}
 use Rattle.b4_core.specs.declared.bit.Bit4.TheVariants.{X}
 use Rattle.b4_core.specs.Bits.{two_state4}
 use Rattle.sv_types.specs.declared.types.SvType.{SvType, SvType-F, fold-SvType}
-use Rattle.sv_types.specs.declared.types.Member.{Member-F}
+use Rattle.sv_types.specs.declared.types.Member.{Member, Member-F, fold-Member}
 
 -- a member or an element: how many bits of the whole lie below it, for each of its own bits, the least significant first,
 -- whether it is of a two-state type, and its sign
@@ -30,28 +30,36 @@ abbrev pub stacked : {A : Type 0} → List (List A) → List A
 stacked [] = []
 stacked (x ∷ xs) = stacked xs ++ x
 
+-- n of the same one above the other
+unfoldable pub repeated : {A : Type 0} → ℕ → List A → List A
+repeated n x = stacked (replicate n x)
+
 -- how many elements the bounds give
 abbrev pub count_of : ℤ → ℤ → ℕ
 count_of left right = unsigned_abs (left -ℤ right) + 1
 
 -- a packed struct or union is two-state only if all of it is
-abbrev pub as_a_whole : List Bool → List Bool
+unfoldable pub as_a_whole : List Bool → List Bool
 as_a_whole bits = cond (list_all (λ b. b) bits) bits (map (λ b. false) bits)
+
+-- the bits of members, the first one on top
+abbrev pub stacked_marks : List Layout → List Bool
+stacked_marks [] = []
+stacked_marks (m ∷ ms) = stacked_marks ms ++ m.two_state
 
 -- each member lies above those that come behind it
 abbrev pub above_the_next : List Layout → List Part
 above_the_next [] = []
-above_the_next (m ∷ ms) =
-    record { below = length (stacked (map (λ (k : Layout). k.two_state) ms)); two_state = m.two_state; signed = m.signed } ∷ above_the_next ms
+above_the_next (m ∷ ms) = record { below = length (stacked_marks ms); two_state = m.two_state; signed = m.signed } ∷ above_the_next ms
 
 -- a part that lies at the bottom: an element, or any member of a union
 abbrev pub at_the_bottom : Layout → Part
 at_the_bottom m = record { below = 0; two_state = m.two_state; signed = m.signed }
 
--- the widest of these
-abbrev pub widest : List (List Bool) → List Bool
-widest [] = []
-widest (m ∷ ms) = let rest = widest ms in cond (nat_lt (length m) (length rest)) rest m
+-- the bits of the widest member
+abbrev pub widest_marks : List Layout → List Bool
+widest_marks [] = []
+widest_marks (m ∷ ms) = let rest = widest_marks ms in cond (nat_lt (length m.two_state) (length rest)) rest m.two_state
 
 -- what can be selected from as from a packed array of one-bit elements (clause 7.2.1)
 abbrev pub with_bits : Bool → List Part → List Bool → Layout
@@ -70,7 +78,7 @@ struct_layout false signed members bits = with_bits false members bits
 
 abbrev pub array_layout : ℤ → ℤ → Bool → Layout → Layout
 array_layout left right signed item = record {
-  two_state = stacked (replicate (count_of left right) item.two_state);
+  two_state = repeated (count_of left right) item.two_state;
   signed = signed;
   members = [];
   left = left;
@@ -81,8 +89,8 @@ array_layout left right signed item = record {
 abbrev pub type_step : SvType-F Layout Layout → Layout
 type_step (SvType-F.Scalar four signed) = with_bits signed [] (not four ∷ [])
 type_step (SvType-F.PackedArray left right signed item) = array_layout left right signed item
-type_step (SvType-F.Struct id packed signed ms) = struct_layout packed signed (above_the_next ms) (stacked (map (λ (m : Layout). m.two_state) ms))
-type_step (SvType-F.Union id signed ms) = with_bits signed (map at_the_bottom ms) (as_a_whole (widest (map (λ (m : Layout). m.two_state) ms)))
+type_step (SvType-F.Struct id packed signed ms) = struct_layout packed signed (above_the_next ms) (stacked_marks ms)
+type_step (SvType-F.Union id signed ms) = with_bits signed (map at_the_bottom ms) (as_a_whole (widest_marks ms))
 type_step (SvType-F.Enum id base names) = base
 type_step (SvType-F.UnpackedArray left right item) = array_layout left right false item
 
@@ -92,9 +100,12 @@ member_step m = m.of
 abbrev pub layout : SvType → Layout
 layout = fold-SvType Layout Layout type_step member_step
 
+abbrev pub member_layout : Member → Layout
+member_layout = fold-Member Layout Layout type_step member_step
+
 -- how many bits a type has
-abbrev pub width : SvType → ℕ
-width t = length (layout t).two_state
+abbrev pub width_of : SvType → ℕ
+width_of t = length (layout t).two_state
 
 -- a bit as it is stored: 0 in place of x and z where it is two-state (clause 6.3.2)
 abbrev pub stored_bit : Bool → Bit4 → Bit4

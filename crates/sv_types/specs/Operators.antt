@@ -25,7 +25,7 @@ use Rattle.row_machine.specs.Valuation.{Changes}
 use Rattle.row_machine.specs.Steps.{unchanged, then_changes}
 use Rattle.sv_types.specs.declared.types.Value.{Value}
 use Rattle.sv_types.specs.Values.{bits}
-use Rattle.sv_types.specs.Layouts.{Layout, Part, stored, stacked, count_of}
+use Rattle.sv_types.specs.Layouts.{Layout, Part, stored, stacked, repeated, count_of}
 use Rattle.sv_types.specs.Surroundings.{Around, Tally, Sight, Use, Write, Parameter, Called}
 use Rattle.sv_types.specs.Meanings.{Meaning, Operand, Named, wide, signed, alone, by_itself, in_context, at_width, plain, most, total, values_all}
 
@@ -169,7 +169,7 @@ concat of at ms =
 
 unfoldable pub repeat : Layout → ℕ → ℕ → List Meaning → Meaning
 repeat of at n ms =
-    plain of at (n * width_of_all ms) false no_arithmetic (map by_itself ms) (λ w s a. ext w s (stacked (replicate n (joined ms a))))
+    plain of at (n * width_of_all ms) false no_arithmetic (map by_itself ms) (λ w s a. ext w s (repeated n (joined ms a)))
 
 -- what a value may be on the right of `inside`
 pub data Alternative : Type 0 where

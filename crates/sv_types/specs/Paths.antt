@@ -1,10 +1,10 @@
 -- Select paths, step by step (IEEE 1800-2017 clauses 7.2.1, 7.4.5, 7.4.6 and 11.5.1).
-use Rattle.std.specs.Prelude.{ℕ, ◌+◌, max, Bool, true, false, ◌&&◌, cond, ℤ, List, [], ◌∷◌, ◌++◌, length, replicate, Option, Some, None, slice_get}
+use Rattle.std.specs.Prelude.{ℕ, ◌+◌, max, Bool, true, false, ◌&&◌, cond, ℤ, List, [], ◌∷◌, ◌++◌, length, Option, Some, None, slice_get}
 use Rattle.std.specs.List.{list_all}
 use Rattle.b4_core.specs.declared.bit.Bit4.{Bit4}
 use Rattle.b4_core.specs.Vectors.{known, number}
 use Rattle.row_machine.specs.Places.{vector_at}
-use Rattle.sv_types.specs.Layouts.{Layout, Part, stacked, count_of}
+use Rattle.sv_types.specs.Layouts.{Layout, Part, repeated, count_of}
 use Rattle.sv_types.specs.Windows.{Window, whole, member_of, element_of, between, slide}
 use Rattle.sv_types.specs.Surroundings.{Around, Sight, Use, Tally, local_number}
 use Rattle.sv_types.specs.Meanings.{Meaning, Prefix, Path, Named, wide, signed, alone, selected, same_sign}
@@ -99,7 +99,7 @@ unlike_part of None = 1
 unlike_part of (Some m) = unlike of m.two_state m.signed
 
 abbrev pub elements_marks : Layout → ℕ → List Bool
-elements_marks of n = stacked (replicate n of.element.two_state)
+elements_marks of n = repeated n of.element.two_state
 
 unfoldable pub signal : Layout → ℕ → ℕ → Meaning
 signal of at n = selected of at (root_path n of)

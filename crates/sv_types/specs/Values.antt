@@ -4,8 +4,8 @@ use Rattle.b4_core.specs.declared.bit.Bit4.{Bit4}
 use Rattle.sv_types.specs.declared.types.Value.{Value, Value-F, fold-Value}
 use Rattle.sv_types.specs.declared.types.Value.TheVariants.{Bits, Items}
 use Rattle.sv_types.specs.declared.types.SvType.{SvType, SvType-F, fold-SvType}
-use Rattle.sv_types.specs.declared.types.Member.{Member-F}
-use Rattle.sv_types.specs.Layouts.{Layout, layout, width, stacked, count_of, stored, default_bits, widest}
+use Rattle.sv_types.specs.declared.types.Member.{Member, Member-F, fold-Member}
+use Rattle.sv_types.specs.Layouts.{Layout, layout, width_of, stacked, count_of, stored, default_bits}
 
 abbrev pub value_step : Value-F (List Bit4) → List Bit4
 value_step (Value-F.Bits bits) = bits
@@ -58,6 +58,9 @@ shape_member m = m.of
 abbrev pub shape : SvType → Shape
 shape = fold-SvType Shape Shape shape_step shape_member
 
+abbrev pub member_shape : Member → Shape
+member_shape = fold-Member Shape Shape shape_step shape_member
+
 -- the value that has these bits, as a type stores them
 abbrev pub of_bits : SvType → List Bit4 → Value
 of_bits t v = (shape t).value (stored (layout t).two_state v)
@@ -67,5 +70,5 @@ default t = (shape t).value (default_bits (layout t).two_state)
 
 -- a value of a type: it has the type's bits, and is what they make
 pub record IsOf (t : SvType) (v : Value) : Type 0 where
-  pub length : length (bits v) ≡ width t
+  pub length : length (bits v) ≡ width_of t
   pub value : v ≡ of_bits t (bits v)

@@ -1,12 +1,14 @@
 //! The elaborated language: types, values, typed expressions, statements and designs, and in `specs/` what they mean.
 #![tactic(auto)]
 
+mod convert;
 mod design;
 mod expression;
 mod frame;
 mod statement;
 mod types;
 
+pub use convert::width;
 pub use design::{
     Design, EdgeList, EdgeOn, Instance, InstancePort, InstancePorts, Instances, LinkedMember,
     LinkedMembers, Process, ProcessKind, Processes, Signal, SignalKind, Signals,
