@@ -24,15 +24,15 @@ abbrev pub total : List Shape → ℕ
 total [] = 0
 total (m ∷ ms) = m.width + total ms
 
--- each member takes its bits from above those that come behind it
+-- each member takes its bits from the top, and leaves the rest to those behind it
 abbrev pub cut : List Shape → List Bit4 → List Value
 cut [] v = []
-cut (m ∷ ms) v = m.value (take m.width (drop (total ms) v)) ∷ cut ms v
+cut (m ∷ ms) v = m.value (drop (total ms) v) ∷ cut ms (take (total ms) v)
 
 -- n elements, the leftmost one at the top
 abbrev pub cut_evenly : ℕ → Shape → List Bit4 → List Value
 cut_evenly zero item v = []
-cut_evenly (suc n) item v = item.value (take item.width (drop (n * item.width) v)) ∷ cut_evenly n item v
+cut_evenly (suc n) item v = item.value (drop (n * item.width) v) ∷ cut_evenly n item (take (n * item.width) v)
 
 abbrev pub most : List Shape → ℕ
 most [] = 0

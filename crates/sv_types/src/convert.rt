@@ -1,10 +1,13 @@
 //! Values as vectors, and vectors as values (IEEE 1800-2017 clauses 6.3, 6.8, 7.2 and 7.4).
 
-ghost use Rattle.std.specs.Prelude.{◌≡◌, ◌≤◌, ◌++◌, ◌*◌, min, length, map, drop, take, IfOk, OnOk};
+ghost use Rattle.std.specs.Prelude.{◌≡◌, ◌≤◌, ◌<◌, ◌++◌, ◌*◌, min, length, map, drop, take, IfOk, OnOk};
 ghost use Rattle.sv_types.specs.Layouts.{width_of, layout, count_of, stacked_marks, widest_marks, member_layout};
-ghost use Rattle.sv_types.specs.Values.{bits, shape, member_shape, total, most, of_bits, default};
+ghost use Rattle.sv_types.specs.Values.{bits, shape, member_shape, total, most, cut, cut_evenly, of_bits, default};
+ghost use Rattle.sv_types.specs.declared.types.Value.{Value};
 
-use crate::types::{Member, SvType};
+use crate::types::{Member, SvType, Value, Values};
+use b4_core::{Bit4, Vec4};
+use std::alloc::{AllocError, Global};
 
 // How many elements there are between two bounds, both included.
 fn count_between(left: i64, right: i64) -> u128
@@ -82,4 +85,71 @@ fn greatest_width(members: &[Member]) -> u32
         greatest = capped_width(&member.of).max(greatest);
     }
     greatest
+}
+
+// The value of a type that has these bits.
+#[cycle(value)]
+fn cut_value(alloc: Global, t: &SvType, v: &[Bit4]) -> Result<Value, AllocError>
+    requires same { length v.now ≡ (shape t.now).width }
+    requires narrow { length v.now ≤ 4194304 }
+    ensures value { IfOk result (λ r. r ≡ (shape t.now).value v.now) }
+    ensures back { IfOk result (λ r. bits r ≡ v.now) }
+{
+    match t {
+        SvType::Scalar { .. } => Ok(Value::Bits(Vec4::from_slice(alloc, v)?)),
+        SvType::PackedArray {
+            left, right, item, ..
+        } => cut_array(alloc, count_between(*left, *right), item.get(), v),
+        SvType::Struct { members, .. } => cut_struct(alloc, members.as_slice(), v),
+        SvType::Union { .. } => Ok(Value::Bits(Vec4::from_slice(alloc, v)?)),
+        SvType::Enum { .. } => Ok(Value::Bits(Vec4::from_slice(alloc, v)?)),
+        SvType::UnpackedArray { left, right, item } => {
+            cut_array(alloc, count_between(*left, *right), item.get(), v)
+        }
+    }
+}
+
+// The value of an array of so many elements, the leftmost one on top.
+#[cycle(value)]
+#[tactic(auto, using(crate::proofs::Cuts::cuts))]
+fn cut_array(
+    alloc: Global,
+    count: u128,
+    item: &SvType,
+    v: &[Bit4],
+) -> Result<Value, AllocError>
+    requires some { 0 < count }
+    requires same { length v.now ≡ count * (shape item.now).width }
+    requires narrow { length v.now ≤ 4194304 }
+    ensures value { IfOk result (λ r. r ≡ Value.Items (cut_evenly count (shape item.now) v.now)) }
+    ensures back { IfOk result (λ r. bits r ≡ v.now) }
+{
+    let width = (v.len() as u128 / count) as usize;
+    let mut items = Vec::new(alloc);
+    let mut rest = v;
+    for _i in 0..count {
+        let (below, top) = rest.split_at(rest.len() - width);
+        items.push(cut_value(alloc, item, top)?)?;
+        rest = below;
+    }
+    Ok(Value::Items(Values::from_vec(items)))
+}
+
+// The value of a struct, the first member on top.
+#[cycle(value)]
+#[tactic(auto, using(crate::proofs::Cuts::cuts))]
+fn cut_struct(alloc: Global, members: &[Member], v: &[Bit4]) -> Result<Value, AllocError>
+    requires same { length v.now ≡ total (map member_shape members.now) }
+    requires narrow { length v.now ≤ 4194304 }
+    ensures value { IfOk result (λ r. r ≡ Value.Items (cut (map member_shape members.now) v.now)) }
+    ensures back { IfOk result (λ r. bits r ≡ v.now) }
+{
+    let mut items = Vec::new(alloc);
+    let mut rest = v;
+    for member in members {
+        let (below, top) = rest.split_at(rest.len() - capped_width(&member.of) as usize);
+        items.push(cut_value(alloc, &member.of, top)?)?;
+        rest = below;
+    }
+    Ok(Value::Items(Values::from_vec(items)))
 }
