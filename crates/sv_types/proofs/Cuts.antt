@@ -56,7 +56,7 @@ array-items n i item rest items new all r h same more is before =
     let k = length rest - item.width in
     let later = cut_evenly (n - (i + 1)) item (take k rest) in
     let step : cut_evenly (n - i) item rest ≡ item.value (drop k rest) ∷ later =
-        cut_evenly-step (n - i) item rest (omega arith) same ∙ ap (λ j. item.value (drop k rest) ∷ cut_evenly j item (take k rest)) (sym f) in
+    cut_evenly-step (n - i) item rest (omega arith) same ∙ ap (λ j. item.value (drop k rest) ∷ cut_evenly j item (take k rest)) (sym f) in
     ap (λ vs. vs ++ later) more ∙ append_assoc items (r ∷ []) later ∙ ap (λ x. items ++ (x ∷ later)) is ∙ ap (λ vs. items ++ vs) (sym step) ∙ before
 
 -- and it lies on top of the rest
@@ -84,7 +84,7 @@ pub struct-items : (m : Member) (ms : List Member) (k : ℕ) (rest : List Bit4) 
 struct-items m ms k rest items new all r below more is before =
     let later = cut (map member_shape ms) (take k rest) in
     let step : cut (map member_shape (m ∷ ms)) rest ≡ (shape m.of).value (drop k rest) ∷ later =
-        ap (λ j. (member_shape m).value (drop j rest) ∷ cut (map member_shape ms) (take j rest)) (sym below) ∙ ap (λ x. x.value (drop k rest) ∷ later) (member-shape m) in
+    ap (λ j. (member_shape m).value (drop j rest) ∷ cut (map member_shape ms) (take j rest)) (sym below) ∙ ap (λ x. x.value (drop k rest) ∷ later) (member-shape m) in
     ap (λ vs. vs ++ later) more ∙ append_assoc items (r ∷ []) later ∙ ap (λ x. items ++ (x ∷ later)) is ∙ ap (λ vs. items ++ vs) (sym step) ∙ before
 
 pub ruleset cuts = (none-left, one_of_all)

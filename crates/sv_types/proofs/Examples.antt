@@ -1,6 +1,6 @@
 -- Small expressions and designs: the definitions compute. They are given by their layers, as the trees that they stand for.
-use Rattle.std.proofs.Common.{◌≡◌, ℕ, suc, ◌+◌, ◌==◌, Bool, true, false, List, [], ◌∷◌, ◌++◌, map, refl, if◌then◌else◌}
-use Rattle.std.specs.Prelude.{ℤ, pos, negsuc, ◌-ℤ◌, length, reverse, Option, Some, None, slice_index_or, codes}
+use Rattle.std.proofs.Common.{◌≡◌, ℕ, ◌==◌, Bool, true, false, List, [], ◌∷◌, ◌++◌, map, refl, if◌then◌else◌}
+use Rattle.std.specs.Prelude.{pos, ◌-ℤ◌, reverse, Some, None, slice_index_or, codes}
 use Rattle.b4_core.specs.declared.bit.Bit4.{Bit4}
 use Rattle.b4_core.specs.declared.bit.Bit4.TheVariants.{Zero, One, X, Z}
 use Rattle.b4_core.specs.declared.operators.BinOp.TheVariants as B
@@ -8,12 +8,10 @@ use Rattle.b4_core.specs.declared.operators.OrdOp.TheVariants as O
 use Rattle.b4_core.specs.declared.operators.EqOp.TheVariants as E
 use Rattle.b4_core.specs.declared.operators.ShiftOp.TheVariants as S
 use Rattle.row_machine.specs.Valuation.{Place, Valuation, has}
-use Rattle.row_machine.specs.Machine as M
 use Rattle.row_machine.specs.Runs.{trace_of}
 use Rattle.row_machine.specs.Places.{vector_at}
 use Rattle.sv_types.specs.declared.types.SvType.{SvType-F}
 use Rattle.sv_types.specs.declared.expression.Form.{Form-F}
-use Rattle.sv_types.specs.declared.statement.Stmt.{Stmt-F}
 use Rattle.sv_types.specs.declared.statement.Outcome.TheVariants.{Normal}
 use Rattle.sv_types.specs.declared.statement.Outcome.TheVariants as Out
 use Rattle.sv_types.specs.declared.statement.CaseKind.{CaseKind}
@@ -21,17 +19,16 @@ use Rattle.sv_types.specs.declared.statement.CaseKind.TheVariants as C
 use Rattle.b4_core.specs.Vectors.{vec}
 use Rattle.b4_core.specs.declared.operators.UnOp.TheVariants.{Not}
 use Rattle.sv_types.specs.declared.statement.Way.TheVariants.{Input, Output}
-use Rattle.sv_types.specs.declared.design.EdgeOn.{EdgeOn}
 use Rattle.sv_types.specs.declared.design.ProcessKind.{ProcessKind}
 use Rattle.sv_types.specs.declared.design.ProcessKind.TheVariants as K
 use Rattle.sv_types.specs.declared.design.SignalKind.{SignalKind}
 use Rattle.sv_types.specs.declared.design.SignalKind.TheVariants.{InputNet, OutputVar, Variable, Net}
 use Rattle.sv_types.specs.Layouts.{Layout, type_step, default_bits, repeated, as_a_whole}
-use Rattle.sv_types.specs.Surroundings.{Around, Parameter, Callee, Called, Tally}
-use Rattle.sv_types.specs.Meanings.{Meaning, alone, plain}
-use Rattle.sv_types.specs.Operators.{Alternative, unlimited, literal, fill, constant, unary, binary, reduce, negate, both, either, shift, power, order, equal, choose, concat, repeat, inside, cast, clog2, pattern, call, stream}
+use Rattle.sv_types.specs.Surroundings.{Around, Parameter, Callee}
+use Rattle.sv_types.specs.Meanings.{Meaning, alone}
+use Rattle.sv_types.specs.Operators.{Alternative, unlimited, literal, fill, unary, binary, shift, order, equal, concat, inside, cast, pattern, stream}
 use Rattle.sv_types.specs.Expressions.{form_step}
-use Rattle.sv_types.specs.Paths.{signal, local, member, index, part_select, sliding}
+use Rattle.sv_types.specs.Paths.{signal, local, member, index, sliding}
 use Rattle.sv_types.specs.Runs as R
 use Rattle.sv_types.specs.Runs.{value_given, turns}
 use Rattle.sv_types.specs.Flows as F
@@ -403,9 +400,9 @@ adder_formals =
 abbrev adder_body : Doing
 adder_body =
     block (D.counted (D.branching (same (loc 1 (vector 4)) (lit (vector 4) (codes "1111")))
-            (block (set (loc 2 (vector 4)) (lit (vector 4) (codes "0000")) ∷ set (loc 3 (vector 1)) (lit (vector 1) (codes "1")) ∷ D.counted (D.jumping Out.Return) ∷ [])) None)
-        ∷ set (loc 2 (vector 4)) (form_step (Form-F.Binary B.Add (loc 1 (vector 4)) (lit (vector 4) (codes "0001"))) (vector 4) 0)
-        ∷ set (loc 3 (vector 1)) (lit (vector 1) (codes "0")) ∷ [])
+    (block (set (loc 2 (vector 4)) (lit (vector 4) (codes "0000")) ∷ set (loc 3 (vector 1)) (lit (vector 1) (codes "1")) ∷ D.counted (D.jumping Out.Return) ∷ [])) None)
+    ∷ set (loc 2 (vector 4)) (form_step (Form-F.Binary B.Add (loc 1 (vector 4)) (lit (vector 4) (codes "0001"))) (vector 4) 0)
+    ∷ set (loc 3 (vector 1)) (lit (vector 1) (codes "0")) ∷ [])
 
 abbrev adder : Callee
 adder = callee_by adder_formals ((vector 1).two_state) adder_body (λ n. absent)

@@ -1,14 +1,13 @@
 -- How many bits types have, form by form.
-use Rattle.std.proofs.Common.{◌≡◌, ℕ, zero, suc, ◌+◌, ◌*◌, ◌≤◌, ◌<◌, min, Bool, true, false, cond, ℤ, List, [], ◌∷◌, ◌++◌, length, map, replicate, refl, arith, length-append, ap, sym, subst, ◌∙◌, inl, inr}
+use Rattle.std.proofs.Common.{◌≡◌, ℕ, zero, suc, ◌*◌, ◌≤◌, ◌<◌, min, Bool, true, false, cond, ℤ, List, [], ◌∷◌, length, map, replicate, refl, arith, length-append, ap, sym, ◌∙◌, inl, inr}
 use Rattle.std.proofs.Math.Nat.{suc-mul}
 use Rattle.std.proofs.lemmas.Bool.{cases_lt}
-use Rattle.std.specs.Prelude.{◌⊎◌}
 use Rattle.std.specs.List.{list_all}
-use Rattle.sv_types.specs.declared.types.SvType.{SvType, SvType-F, fold-SvType, fold-roll-SvType}
+use Rattle.sv_types.specs.declared.types.SvType.{SvType, SvType-F, fold-roll-SvType}
 use Rattle.sv_types.specs.declared.types.SvType.TheVariants.{Scalar, PackedArray, Struct, Union, Enum, UnpackedArray, rolls-Scalar, rolls-PackedArray, rolls-Struct, rolls-Union, rolls-Enum, rolls-UnpackedArray}
 use Rattle.sv_types.specs.declared.types.Member.{Member}
 use Rattle.sv_types.specs.declared.types.EnumName.{EnumName}
-use Rattle.sv_types.specs.Layouts.{Layout, layout, member_layout, type_step, member_step, width_of, count_of, stacked, stacked_marks, widest_marks, repeated, as_a_whole}
+use Rattle.sv_types.specs.Layouts.{Layout, layout, member_layout, type_step, member_step, width_of, count_of, stacked, stacked_marks, widest_marks, struct_marks, repeated, as_a_whole}
 
 pub length-stacked-replicate : {A : Type 0} (n : ℕ) (x : List A) → length (stacked (replicate n x)) ≡ n * length x
 length-stacked-replicate zero x = omega arith
@@ -63,12 +62,12 @@ width-PackedArray left right s item = ap marks (layout-PackedArray left right s 
 pub width-UnpackedArray : (left right : ℤ) (item : SvType) → width_of (UnpackedArray left right item) ≡ count_of left right * width_of item
 width-UnpackedArray left right item = ap marks (layout-UnpackedArray left right item) ∙ length-repeated (count_of left right) (layout item).two_state
 
-struct-marks : (packed s : Bool) (id : ℕ) (ls : List Layout) → marks (type_step (SvType-F.Struct id packed s ls)) ≡ length (stacked_marks ls)
-struct-marks true s id ls = length-as_a_whole (stacked_marks ls)
-struct-marks false s id ls = refl
+pub length-struct_marks : (packed : Bool) (ls : List Layout) → length (struct_marks packed ls) ≡ length (stacked_marks ls)
+length-struct_marks true ls = length-as_a_whole (stacked_marks ls)
+length-struct_marks false ls = refl
 
 pub width-Struct : (id : ℕ) (packed s : Bool) (ms : List Member) → width_of (Struct id packed s ms) ≡ length (stacked_marks (map member_layout ms))
-width-Struct id packed s ms = ap marks (layout-Struct id packed s ms) ∙ struct-marks packed s id (map member_layout ms)
+width-Struct id packed s ms = ap marks (layout-Struct id packed s ms) ∙ length-struct_marks packed (map member_layout ms)
 
 pub width-Union : (id : ℕ) (s : Bool) (ms : List Member) → width_of (Union id s ms) ≡ length (widest_marks (map member_layout ms))
 width-Union id s ms = ap marks (layout-Union id s ms) ∙ length-as_a_whole (widest_marks (map member_layout ms))

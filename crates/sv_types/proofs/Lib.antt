@@ -1,3 +1,5 @@
 pub mod Lengths
 pub mod Cuts
+pub mod Marks
+pub mod Stored
 mod Examples

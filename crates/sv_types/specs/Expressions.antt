@@ -1,5 +1,5 @@
 -- What typed expressions mean, form by form.
-use Rattle.std.specs.Prelude.{ℕ, ℤ}
+use Rattle.std.specs.Prelude.{ℕ}
 use Rattle.sv_types.specs.declared.expression.Expr.{Expr, Expr-F, fold-Expr}
 use Rattle.sv_types.specs.declared.expression.Form.{Form-F}
 use Rattle.sv_types.specs.declared.expression.Choice.{Choice-F}

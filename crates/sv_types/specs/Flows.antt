@@ -1,6 +1,6 @@
 -- What is known of a statement before it runs, by all its paths: what it reads and writes, bit by bit, loops being their
 -- unrolled lists. At each condition a path may go either way, also where the condition is a constant.
-use Rattle.std.specs.Prelude.{ℕ, zero, suc, ◌-◌, Bool, true, false, ◌&&◌, ◌||◌, ◌==◌, nat_le, nat_lt, not, cond, List, [], ◌∷◌, ◌++◌, length, map, flat_map, filter, Option, Some, None}
+use Rattle.std.specs.Prelude.{ℕ, zero, suc, Bool, true, false, ◌&&◌, ◌||◌, ◌==◌, nat_le, nat_lt, not, cond, List, [], ◌∷◌, ◌++◌, length, map, flat_map, filter, Option, Some, None}
 use Rattle.std.specs.List.{list_any}
 use Rattle.b4_core.specs.declared.bit.Bit4.{Bit4}
 use Rattle.row_machine.specs.Valuation.{Place, put}
@@ -9,7 +9,7 @@ use Rattle.sv_types.specs.declared.statement.Outcome.{Outcome}
 use Rattle.sv_types.specs.declared.statement.Outcome.TheVariants.{Normal, Break, Continue, Return}
 use Rattle.sv_types.specs.declared.statement.Way.{Way}
 use Rattle.sv_types.specs.declared.statement.Way.TheVariants as W
-use Rattle.sv_types.specs.Surroundings.{Around, Parameter, Use, Write, Sight, local_number}
+use Rattle.sv_types.specs.Surroundings.{Parameter, Use, Write, Sight, local_number}
 use Rattle.sv_types.specs.Meanings.{Meaning}
 use Rattle.sv_types.specs.Operators.{assigned_to}
 use Rattle.sv_types.specs.Runs.{is_normal, is_true, set_local, most_turns}

@@ -1,5 +1,5 @@
 -- Functions and tasks as they are called (IEEE 1800-2017 clauses 13.3 to 13.5).
-use Rattle.std.specs.Prelude.{ℕ, zero, suc, ◌+◌, Bool, false, List, [], ◌∷◌, length, map, zip, Option, Some, None, slice_get}
+use Rattle.std.specs.Prelude.{ℕ, zero, suc, Bool, false, List, [], ◌∷◌, length, map, Option, Some, None, slice_get}
 use Rattle.b4_core.specs.declared.bit.Bit4.{Bit4}
 use Rattle.b4_core.specs.declared.bit.Bit4.TheVariants.{X}
 use Rattle.row_machine.specs.Valuation.{Changes}
@@ -9,7 +9,7 @@ use Rattle.sv_types.specs.declared.statement.Formal.{Formal}
 use Rattle.sv_types.specs.declared.statement.Function.{Function}
 use Rattle.sv_types.specs.declared.statement.Outcome.TheVariants.{Normal}
 use Rattle.sv_types.specs.Layouts.{layout, stored, default_bits}
-use Rattle.sv_types.specs.Surroundings.{Around, Callee, Called, Parameter, Tally, local_number}
+use Rattle.sv_types.specs.Surroundings.{Around, Callee, Parameter, Tally, local_number}
 use Rattle.sv_types.specs.Runs.{State, current, set_local}
 use Rattle.sv_types.specs.Statements.{Doing, doing}
 

@@ -1,6 +1,6 @@
 -- How the bits of a type lie in a vector (IEEE 1800-2017 clauses 6.11, 7.2, 7.3 and 7.4): the first member or the leftmost
 -- element is the most significant one, of unpacked types too.
-use Rattle.std.specs.Prelude.{ℕ, ◌+◌, nat_lt, Bool, true, false, not, cond, ℤ, pos, ◌-ℤ◌, unsigned_abs, List, [], ◌∷◌, ◌++◌, length, map, replicate, zip}
+use Rattle.std.specs.Prelude.{ℕ, ◌+◌, nat_lt, Bool, true, false, ◌&&◌, not, cond, ℤ, pos, ◌-ℤ◌, unsigned_abs, List, [], ◌∷◌, ◌++◌, length, map, replicate, zip}
 use Rattle.std.specs.List.{list_all}
 use Rattle.b4_core.specs.declared.bit.Bit4.{Bit4}
 use Rattle.b4_core.specs.declared.bit.Bit4.TheVariants.{X}
@@ -72,9 +72,10 @@ with_bits signed members bits = record {
   element = record { below = 0; two_state = list_all (λ b. b) bits ∷ []; signed = false };
 }
 
-abbrev pub struct_layout : Bool → Bool → List Part → List Bool → Layout
-struct_layout true signed members bits = with_bits signed members (as_a_whole bits)
-struct_layout false signed members bits = with_bits false members bits
+-- the bits of a struct, packed or not
+abbrev pub struct_marks : Bool → List Layout → List Bool
+struct_marks true ms = as_a_whole (stacked_marks ms)
+struct_marks false ms = stacked_marks ms
 
 abbrev pub array_layout : ℤ → ℤ → Bool → Layout → Layout
 array_layout left right signed item = record {
@@ -89,7 +90,7 @@ array_layout left right signed item = record {
 abbrev pub type_step : SvType-F Layout Layout → Layout
 type_step (SvType-F.Scalar four signed) = with_bits signed [] (not four ∷ [])
 type_step (SvType-F.PackedArray left right signed item) = array_layout left right signed item
-type_step (SvType-F.Struct id packed signed ms) = struct_layout packed signed (above_the_next ms) (stacked_marks ms)
+type_step (SvType-F.Struct id packed signed ms) = with_bits (packed && signed) (above_the_next ms) (struct_marks packed ms)
 type_step (SvType-F.Union id signed ms) = with_bits signed (map at_the_bottom ms) (as_a_whole (widest_marks ms))
 type_step (SvType-F.Enum id base names) = base
 type_step (SvType-F.UnpackedArray left right item) = array_layout left right false item

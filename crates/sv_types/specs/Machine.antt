@@ -1,6 +1,6 @@
 -- An elaborated design as a machine over rows (IEEE 1800-2017 clauses 4, 6.5, 6.8, 9.2, 9.4 and 10.3): what its processes
 -- read, write and do, and what its bits hold before the first row and where no process assigns them.
-use Rattle.std.specs.Prelude.{ℕ, suc, Bool, true, false, ◌&&◌, ◌||◌, ◌==◌, not, cond, List, [], ◌∷◌, ◌++◌, length, map, flat_map, filter, Option, Some, None, slice_get, slice_index_or}
+use Rattle.std.specs.Prelude.{ℕ, suc, Bool, true, false, ◌&&◌, ◌||◌, ◌==◌, not, cond, List, [], ◌∷◌, ◌++◌, length, map, flat_map, filter, Some, None, slice_get, slice_index_or}
 use Rattle.std.specs.List.{list_any}
 use Rattle.b4_core.specs.declared.bit.Bit4.{Bit4}
 use Rattle.b4_core.specs.declared.bit.Bit4.TheVariants.{Zero, X, Z}
@@ -20,11 +20,11 @@ use Rattle.sv_types.specs.declared.design.Design.{Design}
 use Rattle.sv_types.specs.declared.statement.Outcome.TheVariants.{Normal}
 use Rattle.sv_types.specs.Layouts.{Layout, layout, default_bits}
 use Rattle.sv_types.specs.Values.{bits}
-use Rattle.sv_types.specs.Surroundings.{Around, Callee, Parameter, Sight, Tally, is_signal}
+use Rattle.sv_types.specs.Surroundings.{Callee, Parameter, Sight, is_signal}
 use Rattle.sv_types.specs.Operators.{unlimited}
 use Rattle.sv_types.specs.Meanings.{Named}
 use Rattle.sv_types.specs.Runs.{State}
-use Rattle.sv_types.specs.Flows.{Flow, covered, uses_of}
+use Rattle.sv_types.specs.Flows.{covered, uses_of}
 use Rattle.sv_types.specs.Statements.{Doing, doing}
 use Rattle.sv_types.specs.Functions.{callees}
 
@@ -118,7 +118,7 @@ module _ (d : Parts) where
   abbrev pub ran : Doing → Valuation → State
   ran p v =
       p.run (record { now = v; holds = λ n. true; callee = d.callee })
-          (record { written = unchanged; pending = unchanged; tally = unlimited; outcome = Normal })
+      (record { written = unchanged; pending = unchanged; tally = unlimited; outcome = Normal })
 
   abbrev pub comb : Bool → List Place → Doing → M.Process
   comb from_zero waits_for p = record {

@@ -1,15 +1,14 @@
 -- What an expression means: its value at each width and sign (IEEE 1800-2017 clauses 11.6 to 11.8), what it names as a
 -- select path, and what a process that values it reads.
-use Rattle.std.specs.Prelude.{ℕ, ◌+◌, ◌-◌, ◌*◌, max, Bool, true, false, not, ◌&&◌, ◌==◌, cond, List, [], ◌∷◌, ◌++◌, length, take, drop, map, flat_map, filter, Option, Some, None}
+use Rattle.std.specs.Prelude.{ℕ, ◌+◌, max, Bool, true, false, not, ◌&&◌, ◌==◌, cond, List, [], ◌∷◌, ◌++◌, length, take, map, flat_map, filter, Option, Some, None}
 use Rattle.std.specs.List.{list_all}
 use Rattle.b4_core.specs.declared.bit.Bit4.{Bit4}
 use Rattle.b4_core.specs.Vectors.{ext}
-use Rattle.row_machine.specs.Valuation.{Place, Changes}
-use Rattle.row_machine.specs.Places.{vector_at}
-use Rattle.row_machine.specs.Steps.{unchanged, then_changes}
-use Rattle.sv_types.specs.Layouts.{Layout, stored, stacked}
+use Rattle.row_machine.specs.Valuation.{Changes}
+use Rattle.row_machine.specs.Steps.{unchanged}
+use Rattle.sv_types.specs.Layouts.{Layout, stored}
 use Rattle.sv_types.specs.Windows.{Window, whole, seen, written}
-use Rattle.sv_types.specs.Surroundings.{Around, Tally, Stop, stopped, Use, Write, Sight, all_sure, is_signal, local_number, Parameter}
+use Rattle.sv_types.specs.Surroundings.{Around, Tally, Stop, stopped, Use, Write, Sight, all_sure, is_signal, Parameter}
 
 -- the longest prefix of a path whose indices are known, and whether it is the whole path
 pub record Prefix : Type 0 where

@@ -1,5 +1,5 @@
 -- What operators and other expressions that aren't paths mean (IEEE 1800-2017 clauses 5.7, 6.24, 10.9, 11 and 13.4).
-use Rattle.std.specs.Prelude.{ℕ, zero, suc, ◌+◌, ◌-◌, ◌*◌, ◌^◌, max, Bool, true, false, ◌&&◌, ◌||◌, nat_le, cond, pos, List, [], ◌∷◌, ◌++◌, length, take, drop, map, flat_map, replicate, zip, Option, Some, None}
+use Rattle.std.specs.Prelude.{ℕ, zero, suc, ◌-◌, ◌*◌, ◌^◌, max, Bool, true, false, ◌&&◌, ◌||◌, nat_le, cond, pos, List, [], ◌∷◌, ◌++◌, length, take, drop, map, flat_map, replicate, zip, None}
 use Rattle.b4_core.specs.declared.bit.Bit4.{Bit4}
 use Rattle.b4_core.specs.declared.bit.Bit4.TheVariants.{Zero, One, X, Z}
 use Rattle.b4_core.specs.declared.operators.UnOp.{UnOp}
@@ -26,8 +26,8 @@ use Rattle.row_machine.specs.Steps.{unchanged, then_changes}
 use Rattle.sv_types.specs.declared.types.Value.{Value}
 use Rattle.sv_types.specs.Values.{bits}
 use Rattle.sv_types.specs.Layouts.{Layout, Part, stored, stacked, repeated, count_of}
-use Rattle.sv_types.specs.Surroundings.{Around, Tally, Sight, Use, Write, Parameter, Called}
-use Rattle.sv_types.specs.Meanings.{Meaning, Operand, Named, wide, signed, alone, by_itself, in_context, at_width, plain, most, total, values_all}
+use Rattle.sv_types.specs.Surroundings.{Around, Tally, Parameter}
+use Rattle.sv_types.specs.Meanings.{Meaning, Operand, wide, signed, alone, by_itself, in_context, at_width, plain, most, total, values_all}
 
 abbrev pub no_arithmetic : ℕ → ℕ
 no_arithmetic w = 0

@@ -1,26 +1,24 @@
 -- What statements do (IEEE 1800-2017 clauses 9.3.1, 10.4, 12 and 13). A run goes over a fixed valuation, with what it has
 -- written so far.
-use Rattle.std.specs.Prelude.{ℕ, zero, suc, ◌-◌, max, Bool, true, false, ◌&&◌, ◌||◌, not, cond, List, [], ◌∷◌, ◌++◌, length, drop, map, flat_map, zip, Option, Some, None}
+use Rattle.std.specs.Prelude.{ℕ, zero, suc, ◌-◌, max, Bool, true, false, ◌&&◌, ◌||◌, not, cond, List, [], ◌∷◌, length, drop, flat_map, zip, Option, Some, None}
 use Rattle.std.specs.List.{list_any, list_all}
 use Rattle.b4_core.specs.declared.bit.Bit4.{Bit4}
 use Rattle.b4_core.specs.declared.bit.Bit4.TheVariants.{Zero, One, X, Z}
 use Rattle.b4_core.specs.Bits.{known4, is_one, same4}
 use Rattle.b4_core.specs.Vectors.{ext}
-use Rattle.row_machine.specs.Valuation.{Valuation, Changes, put}
+use Rattle.row_machine.specs.Valuation.{Changes, put}
 use Rattle.row_machine.specs.Steps.{then_changes}
 use Rattle.sv_types.specs.declared.statement.CaseKind.{CaseKind}
 use Rattle.sv_types.specs.declared.statement.CaseKind.TheVariants as K
 use Rattle.sv_types.specs.declared.statement.Outcome.{Outcome}
 use Rattle.sv_types.specs.declared.statement.Outcome.TheVariants.{Normal, Break, Continue, Return}
-use Rattle.sv_types.specs.declared.statement.Local.{Local}
 use Rattle.sv_types.specs.declared.statement.Way.{Way}
 use Rattle.sv_types.specs.declared.statement.Way.TheVariants as W
-use Rattle.sv_types.specs.Layouts.{Layout, layout, default_bits}
+use Rattle.sv_types.specs.Layouts.{default_bits}
 use Rattle.sv_types.specs.Windows.{whole, written}
-use Rattle.sv_types.specs.Surroundings.{Around, Callee, Called, Parameter, Tally, Stop, stopped, counted, local_number}
+use Rattle.sv_types.specs.Surroundings.{Around, Parameter, Tally, Stop, stopped, counted, local_number}
 use Rattle.sv_types.specs.Meanings.{Meaning, wide, signed, alone}
 use Rattle.sv_types.specs.Operators.{truth, width_of_all, puts_all, places_all, assigned_to}
-use Rattle.sv_types.specs.Expressions.{meaning}
 
 -- What a run has written by blocking assignments, what is pending of its nonblocking ones, what is left of it, and how it
 -- ends.

@@ -1,6 +1,5 @@
 -- What typed statements mean, form by form: what they do, and what is known of them before.
 use Rattle.std.specs.Prelude.{ℕ, ◌+◌, max, Bool, List, [], ◌∷◌, ◌++◌, map, flat_map, Option, Some, None}
-use Rattle.sv_types.specs.declared.expression.Expr.{Expr}
 use Rattle.sv_types.specs.declared.statement.CaseKind.{CaseKind}
 use Rattle.sv_types.specs.declared.statement.Outcome.{Outcome}
 use Rattle.sv_types.specs.declared.statement.Outcome.TheVariants.{Break, Continue, Return}
@@ -10,7 +9,7 @@ use Rattle.sv_types.specs.declared.statement.Way.TheVariants as W
 use Rattle.sv_types.specs.declared.statement.Stmt.{Stmt, Stmt-F, fold-Stmt}
 use Rattle.sv_types.specs.declared.statement.CaseItem.{CaseItem-F}
 use Rattle.sv_types.specs.Layouts.{layout}
-use Rattle.sv_types.specs.Surroundings.{Sight, Parameter}
+use Rattle.sv_types.specs.Surroundings.{Parameter}
 use Rattle.sv_types.specs.Meanings.{Meaning, Named, most, total, wide}
 use Rattle.sv_types.specs.Operators.{width_of_all, assigned_width}
 use Rattle.sv_types.specs.Expressions.{meaning}

@@ -1,11 +1,11 @@
 -- Values as trees of members and elements, and their bits.
-use Rattle.std.specs.Prelude.{◌≡◌, ℕ, zero, suc, ◌+◌, ◌*◌, max, List, [], ◌∷◌, ◌++◌, length, take, drop, map}
+use Rattle.std.specs.Prelude.{◌≡◌, ℕ, zero, suc, ◌+◌, ◌*◌, max, List, [], ◌∷◌, length, take, drop}
 use Rattle.b4_core.specs.declared.bit.Bit4.{Bit4}
 use Rattle.sv_types.specs.declared.types.Value.{Value, Value-F, fold-Value}
 use Rattle.sv_types.specs.declared.types.Value.TheVariants.{Bits, Items}
 use Rattle.sv_types.specs.declared.types.SvType.{SvType, SvType-F, fold-SvType}
 use Rattle.sv_types.specs.declared.types.Member.{Member, Member-F, fold-Member}
-use Rattle.sv_types.specs.Layouts.{Layout, layout, width_of, stacked, count_of, stored, default_bits}
+use Rattle.sv_types.specs.Layouts.{layout, width_of, stacked, count_of, stored, default_bits}
 
 abbrev pub value_step : Value-F (List Bit4) → List Bit4
 value_step (Value-F.Bits bits) = bits
@@ -62,8 +62,8 @@ abbrev pub member_shape : Member → Shape
 member_shape = fold-Member Shape Shape shape_step shape_member
 
 -- the value that has these bits, as a type stores them
-abbrev pub of_bits : SvType → List Bit4 → Value
-of_bits t v = (shape t).value (stored (layout t).two_state v)
+abbrev pub value_of_bits : SvType → List Bit4 → Value
+value_of_bits t v = (shape t).value (stored (layout t).two_state v)
 
 abbrev pub default : SvType → Value
 default t = (shape t).value (default_bits (layout t).two_state)
@@ -71,4 +71,4 @@ default t = (shape t).value (default_bits (layout t).two_state)
 -- a value of a type: it has the type's bits, and is what they make
 pub record IsOf (t : SvType) (v : Value) : Type 0 where
   pub length : length (bits v) ≡ width_of t
-  pub value : v ≡ of_bits t (bits v)
+  pub value : v ≡ value_of_bits t (bits v)

@@ -1,8 +1,8 @@
 -- The bits that a select path names (IEEE 1800-2017 clauses 7.4.5, 7.4.6 and 11.5.1).
-use Rattle.std.specs.Prelude.{ℕ, zero, suc, ◌+◌, ◌-◌, ◌*◌, max, min, Bool, true, false, ◌&&◌, ◌==◌, nat_le, nat_lt, cond, ℤ, pos, negsuc, ◌+ℤ◌, ◌-ℤ◌, ◌*ℤ◌, int_le, int_lt, List, [], ◌∷◌, length, map, Option, Some, None, slice_index_or}
+use Rattle.std.specs.Prelude.{ℕ, zero, suc, ◌-◌, ◌*◌, max, min, Bool, true, false, ◌&&◌, ◌==◌, nat_le, nat_lt, cond, ℤ, pos, negsuc, ◌+ℤ◌, ◌-ℤ◌, ◌*ℤ◌, int_le, int_lt, List, [], ◌∷◌, length, Option, Some, None, slice_index_or}
 use Rattle.b4_core.specs.declared.bit.Bit4.{Bit4}
 use Rattle.b4_core.specs.declared.bit.Bit4.TheVariants.{X}
-use Rattle.row_machine.specs.Valuation.{Place, Changes}
+use Rattle.row_machine.specs.Valuation.{Changes}
 use Rattle.sv_types.specs.Layouts.{Layout, Part, count_of}
 
 -- Bit j of a path is bit j + shift of the signal or local on which it stands, where that lies from low up to, but not

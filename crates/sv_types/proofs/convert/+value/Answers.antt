@@ -21,7 +21,7 @@ cut_array-loop-i-preserved t c =
       items =
           ap (λ r. c.push.new.self.items ++ cut_evenly (c.args.count - (l._i + 1)) item r) below
           ∙ array-items c.args.count l._i item rest l.items.items _ _ _ (omega arith) inv.left c.in_ok-push.ensures.items
-              (c.in_ok-cut_value.ensures.value ∙ ap item.value top) inv.items;
+          (c.in_ok-cut_value.ensures.value ∙ ap item.value top) inv.items;
       back =
           ap (λ r. r ++ stacked (map bits c.push.new.self.items)) below
           ∙ cut-back _ rest _ l.items.items _ _ c.in_ok-push.ensures.items (c.in_ok-cut_value.ensures.back ∙ top) inv.back;
@@ -55,7 +55,7 @@ cut_struct-loop-member-preserved t c =
       items =
           ap (λ r. c.push.new.self.items ++ cut (map member_shape later) r) low
           ∙ struct-items x later k l.rest.now l.items.items _ _ _ below c.in_ok-push.ensures.items (c.in_ok-cut_value.ensures.value ∙ ap (shape x.of).value top)
-              (subst (λ ys. l.items.items ++ cut (map member_shape ys) l.rest.now ≡ cut (map member_shape ms) c.args.v.now) here inv.items);
+          (subst (λ ys. l.items.items ++ cut (map member_shape ys) l.rest.now ≡ cut (map member_shape ms) c.args.v.now) here inv.items);
       back =
           ap (λ r. r ++ stacked (map bits c.push.new.self.items)) low
           ∙ cut-back k l.rest.now _ l.items.items _ _ c.in_ok-push.ensures.items (c.in_ok-cut_value.ensures.back ∙ top) inv.back;

@@ -1,5 +1,4 @@
-use Rattle.std.proofs.Common.{◌≡◌, ◌≤◌, ◌++◌, length, map, drop, ℕ, ◌-◌, ◌*◌}
-use Rattle.sv_types.specs.declared.types.Value.{Value}
+use Rattle.std.proofs.Common.{◌≡◌, ◌++◌, length, map, drop, ◌-◌, ◌*◌}
 use Rattle.sv_types.specs.Layouts.{stacked}
 use Rattle.sv_types.specs.Values.{bits, shape, member_shape, total, cut, cut_evenly}
 use Rattle.sv_types.proofs.convert.+value.Given as goal

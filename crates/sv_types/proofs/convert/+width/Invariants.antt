@@ -1,4 +1,4 @@
-use Rattle.std.proofs.Common.{◌≡◌, ◌≤◌, length, map, drop, ℕ, ◌+◌, max, min}
+use Rattle.std.proofs.Common.{◌≡◌, ◌≤◌, length, map, drop, ◌+◌, max, min}
 use Rattle.sv_types.specs.Layouts.{stacked_marks, widest_marks, member_layout}
 use Rattle.sv_types.specs.Values.{member_shape, total, most}
 use Rattle.sv_types.proofs.convert.+width.Given as goal
