@@ -24,7 +24,7 @@ use Rattle.sv_types.specs.declared.design.ProcessKind.TheVariants as K
 use Rattle.sv_types.specs.declared.design.SignalKind.{SignalKind}
 use Rattle.sv_types.specs.declared.design.SignalKind.TheVariants.{InputNet, OutputVar, Variable, Net}
 use Rattle.sv_types.specs.Layouts.{Layout, type_step, default_bits, repeated, as_a_whole}
-use Rattle.sv_types.specs.Surroundings.{Around, Parameter, Callee}
+use Rattle.sv_types.specs.Surroundings.{Around, Sight, Parameter, Callee}
 use Rattle.sv_types.specs.Meanings.{Meaning, alone}
 use Rattle.sv_types.specs.Operators.{Alternative, unlimited, literal, fill, unary, binary, shift, order, equal, concat, inside, cast, pattern, stream}
 use Rattle.sv_types.specs.Expressions.{form_step}
@@ -436,3 +436,51 @@ result_is_written = refl
 statements_are_counted : ended.tally.left ≡ Some 53
 unfolding repeated as_a_whole local literal binary order equal turns
 statements_are_counted = refl
+
+-- union packed { bit [3:0] b; logic [3:0] l; } u: one four-state member makes the whole four-state; its two-state member is
+-- converted when it is read
+abbrev mixed : Layout
+mixed = type_step (SvType-F.Union 3 false (array_of 4 false (bit_type false) ∷ vector 4 ∷ []))
+
+mixed_default : text_of (default_bits mixed.two_state) ≡ codes "xxxx"
+unfolding repeated
+mixed_default = refl
+
+abbrev mixed_member : ℕ → Layout → Meaning
+mixed_member k t = form_step (Form-F.Member (sig 0 mixed) k) t 0
+
+four_state_member : text_of (alone (mixed_member 1 (vector 4)) (holding (codes "1x0z" ∷ []))) ≡ codes "1x0z"
+unfolding repeated signal member
+four_state_member = refl
+
+two_state_member : text_of (alone (mixed_member 0 (array_of 4 false (bit_type false))) (holding (codes "1x0z" ∷ []))) ≡ codes "1000"
+unfolding repeated signal member
+two_state_member = refl
+
+-- for (int i = 0; i < 4; i++) i = 5: the variable is written
+abbrev unseen : Sight
+unseen = record { around = alone_with (λ n. absent); sure = λ q. false }
+
+abbrev writes_its_variable : Doing
+writes_its_variable = D.looping 2 (int_literal 0) (less (loc 2 int) (int_literal 4)) (plus_one 2) (set (loc 2 int) (int_literal 5))
+
+loops_are_bounded : writes_its_variable.bounded unseen ∷ outer_loop.bounded unseen ∷ [] ≡ false ∷ true ∷ []
+unfolding repeated local literal binary order equal
+loops_are_bounded = refl
+
+-- a select of a signal at a bad constant index still reads the signal
+abbrev past_a : Meaning
+past_a = form_step (Form-F.Index (sig 0 (vector 4)) (number_literal 9)) (bit_type true) 0
+
+past_is_no_constant : past_a.constant unseen ≡ false
+unfolding repeated signal index literal
+past_is_no_constant = refl
+
+-- behind a jump nothing is read
+
+behind_a_jump : (F.and_then (F.jumping Out.Break) (record F.nothing { unset = 7 ∷ [] })).unset ≡ []
+behind_a_jump = refl
+
+all_statements : known_before.statements ≡ 87
+unfolding repeated local literal binary order equal F.turns
+all_statements = refl

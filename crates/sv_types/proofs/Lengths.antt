@@ -69,8 +69,14 @@ length-struct_marks false ls = refl
 pub width-Struct : (id : ℕ) (packed s : Bool) (ms : List Member) → width_of (Struct id packed s ms) ≡ length (stacked_marks (map member_layout ms))
 width-Struct id packed s ms = ap marks (layout-Struct id packed s ms) ∙ length-struct_marks packed (map member_layout ms)
 
+length-union_marks-by : (b : Bool) (bits : List Bool) → length (cond b bits (map (λ b. false) bits)) ≡ length bits
+length-union_marks-by true bits = refl
+length-union_marks-by false bits = length-all_false bits
+
 pub width-Union : (id : ℕ) (s : Bool) (ms : List Member) → width_of (Union id s ms) ≡ length (widest_marks (map member_layout ms))
-width-Union id s ms = ap marks (layout-Union id s ms) ∙ length-as_a_whole (widest_marks (map member_layout ms))
+width-Union id s ms =
+    ap marks (layout-Union id s ms)
+    ∙ length-union_marks-by (list_all (λ b. b) (stacked_marks (map member_layout ms))) (widest_marks (map member_layout ms))
 
 small-product : (n w m : ℕ) → w < m → min (n * min w m) m ≡ min (n * w) m
 small-product n w m h = let e : min w m ≡ w = omega arith in ap (λ k. min (n * k) m) e

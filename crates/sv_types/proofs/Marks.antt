@@ -4,7 +4,7 @@ use Rattle.std.specs.List.{list_all}
 use Rattle.sv_types.specs.declared.types.SvType.{SvType}
 use Rattle.sv_types.specs.declared.types.SvType.TheVariants.{PackedArray, Struct, Union, UnpackedArray}
 use Rattle.sv_types.specs.declared.types.Member.{Member}
-use Rattle.sv_types.specs.Layouts.{Layout, layout, member_layout, count_of, stacked, widest_marks, struct_marks, repeated, as_a_whole}
+use Rattle.sv_types.specs.Layouts.{Layout, layout, member_layout, count_of, stacked, union_marks, struct_marks, repeated, as_a_whole}
 use Rattle.sv_types.proofs.Lengths.{layout-PackedArray, layout-UnpackedArray, layout-Struct, layout-Union}
 
 abbrev marks : Layout → List Bool
@@ -19,7 +19,7 @@ marks-UnpackedArray left right item = ap marks (layout-UnpackedArray left right 
 pub marks-Struct : (id : ℕ) (packed s : Bool) (ms : List Member) → (layout (Struct id packed s ms)).two_state ≡ struct_marks packed (map member_layout ms)
 marks-Struct id packed s ms = ap marks (layout-Struct id packed s ms)
 
-pub marks-Union : (id : ℕ) (s : Bool) (ms : List Member) → (layout (Union id s ms)).two_state ≡ as_a_whole (widest_marks (map member_layout ms))
+pub marks-Union : (id : ℕ) (s : Bool) (ms : List Member) → (layout (Union id s ms)).two_state ≡ union_marks (map member_layout ms)
 marks-Union id s ms = ap marks (layout-Union id s ms)
 
 pub stacked-same : {A : Type 0} (n : ℕ) (x : List A) → x ++ stacked (replicate n x) ≡ stacked (replicate n x) ++ x
@@ -56,6 +56,9 @@ none-kept (b ∷ bits) = ap (λ c. c ∷ map (λ (b : Bool). b && false) bits) (
 whole-by : (all : Bool) (bits : List Bool) → map (λ (b : Bool). b && all) bits ≡ cond all bits (map (λ b. false) bits)
 whole-by true bits = all-kept bits
 whole-by false bits = none-kept bits
+
+pub kept : (all : Bool) (bits : List Bool) → map (λ (b : Bool). b && all) bits ≡ cond all bits (map (λ b. false) bits)
+kept = whole-by
 
 pub whole : (all : Bool) (bits : List Bool) → all ≡ list_all (λ b. b) bits → map (λ (b : Bool). b && all) bits ≡ as_a_whole bits
 unfolding as_a_whole

@@ -1,6 +1,6 @@
 -- What is known of a statement before it runs, by all its paths: what it reads and writes, bit by bit, loops being their
 -- unrolled lists. At each condition a path may go either way, also where the condition is a constant.
-use Rattle.std.specs.Prelude.{ℕ, zero, suc, Bool, true, false, ◌&&◌, ◌||◌, ◌==◌, nat_le, nat_lt, not, cond, List, [], ◌∷◌, ◌++◌, length, map, flat_map, filter, Option, Some, None}
+use Rattle.std.specs.Prelude.{ℕ, zero, suc, ◌+◌, Bool, true, false, ◌&&◌, ◌||◌, ◌==◌, nat_le, nat_lt, not, cond, List, [], ◌∷◌, ◌++◌, length, map, flat_map, filter, Option, Some, None}
 use Rattle.std.specs.List.{list_any}
 use Rattle.b4_core.specs.declared.bit.Bit4.{Bit4}
 use Rattle.row_machine.specs.Valuation.{Place, put}
@@ -14,17 +14,20 @@ use Rattle.sv_types.specs.Meanings.{Meaning}
 use Rattle.sv_types.specs.Operators.{assigned_to}
 use Rattle.sv_types.specs.Runs.{is_normal, is_true, set_local, most_turns}
 
--- All reads, blocking writes and nonblocking writes, in order; whether a path that ends in some way leaves a bit unwritten;
--- the tokens at which a path reads a bit before it wrote it; those at which it reads a block's own local before it wrote
--- it; and whether all loops have turns that are known.
+-- All reads, blocking writes and nonblocking writes, in order; whether a path ends in some way, and whether one that does
+-- leaves a bit unwritten; the tokens at which a path reads a bit before it wrote it, and those at which it reads a block's
+-- own local before it wrote it; whether no loop makes more turns than are allowed; and how many statements run, each counted
+-- by itself.
 pub record Flow : Type 0 where
   pub reads : List Use
   pub writes : List Write
   pub later : List Write
+  pub ends : Outcome → Bool
   pub slips : Outcome → Place → Bool
   pub early : Place → List ℕ
   pub unset : List ℕ
   pub unrolls : Bool
+  pub statements : ℕ
 
 abbrev pub same_outcome : Outcome → Outcome → Bool
 same_outcome Normal Normal = true
@@ -48,7 +51,17 @@ abbrev pub surely_written : List Write → Place → Bool
 surely_written ws q = list_any (λ (w : Write). w.exact && covers w.of q) ws
 
 abbrev pub nothing : Flow
-nothing = record { reads = []; writes = []; later = []; slips = λ o q. is_normal o; early = λ q. []; unset = []; unrolls = true }
+nothing = record {
+  reads = [];
+  writes = [];
+  later = [];
+  ends = is_normal;
+  slips = λ o q. is_normal o;
+  early = λ q. [];
+  unset = [];
+  unrolls = true;
+  statements = 0;
+}
 
 abbrev pub reading : List Use → Flow
 reading us = record nothing { reads = us; early = λ q. map (λ (u : Use). u.at) (filter (λ u. covers u q) us) }
@@ -61,18 +74,20 @@ writing_later ws = record nothing { later = ws }
 
 -- a path that ends by a jump
 abbrev pub jumping : Outcome → Flow
-jumping j = record nothing { slips = λ o q. same_outcome o j }
+jumping j = record nothing { ends = λ o. same_outcome o j; slips = λ o q. same_outcome o j }
 
--- one statement and then another
+-- one statement and then another, which only the paths reach that end normally
 abbrev pub and_then : Flow → Flow → Flow
 and_then f g = record {
   reads = f.reads ++ g.reads;
   writes = f.writes ++ g.writes;
   later = f.later ++ g.later;
+  ends = λ o. (f.ends Normal && g.ends o) || (not (is_normal o) && f.ends o);
   slips = λ o q. (f.slips Normal q && g.slips o q) || (not (is_normal o) && f.slips o q);
   early = λ q. f.early q ++ cond (f.slips Normal q) (g.early q) [];
-  unset = f.unset ++ g.unset;
+  unset = f.unset ++ cond (f.ends Normal) g.unset [];
   unrolls = f.unrolls && g.unrolls;
+  statements = f.statements + g.statements;
 }
 
 -- one of two
@@ -81,15 +96,24 @@ or_else f g = record {
   reads = f.reads ++ g.reads;
   writes = f.writes ++ g.writes;
   later = f.later ++ g.later;
+  ends = λ o. f.ends o || g.ends o;
   slips = λ o q. f.slips o q || g.slips o q;
   early = λ q. f.early q ++ g.early q;
   unset = f.unset ++ g.unset;
   unrolls = f.unrolls && g.unrolls;
+  statements = f.statements + g.statements;
 }
+
+-- one more statement
+abbrev pub counted : Flow → Flow
+counted f = record f { statements = suc f.statements }
 
 -- a jump that ends here
 abbrev pub catching : Outcome → Flow → Flow
-catching j f = record f { slips = λ o q. (is_normal o && f.slips j q) || (not (same_outcome o j) && f.slips o q) }
+catching j f = record f {
+  ends = λ o. (is_normal o && f.ends j) || (not (same_outcome o j) && f.ends o);
+  slips = λ o q. (is_normal o && f.slips j q) || (not (same_outcome o j) && f.slips o q);
+}
 
 abbrev pub Flows : Type 0
 Flows = Sight → Flow

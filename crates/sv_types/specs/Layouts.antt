@@ -61,6 +61,10 @@ abbrev pub widest_marks : List Layout → List Bool
 widest_marks [] = []
 widest_marks (m ∷ ms) = let rest = widest_marks ms in cond (nat_lt (length m.two_state) (length rest)) rest m.two_state
 
+-- the bits of a union: it is two-state only if all its members are
+abbrev pub union_marks : List Layout → List Bool
+union_marks ms = cond (list_all (λ b. b) (stacked_marks ms)) (widest_marks ms) (map (λ b. false) (widest_marks ms))
+
 -- what can be selected from as from a packed array of one-bit elements (clause 7.2.1)
 abbrev pub with_bits : Bool → List Part → List Bool → Layout
 with_bits signed members bits = record {
@@ -91,7 +95,7 @@ abbrev pub type_step : SvType-F Layout Layout → Layout
 type_step (SvType-F.Scalar four signed) = with_bits signed [] (not four ∷ [])
 type_step (SvType-F.PackedArray left right signed item) = array_layout left right signed item
 type_step (SvType-F.Struct id packed signed ms) = with_bits (packed && signed) (above_the_next ms) (struct_marks packed ms)
-type_step (SvType-F.Union id signed ms) = with_bits signed (map at_the_bottom ms) (as_a_whole (widest_marks ms))
+type_step (SvType-F.Union id signed ms) = with_bits signed (map at_the_bottom ms) (union_marks ms)
 type_step (SvType-F.Enum id base names) = base
 type_step (SvType-F.UnpackedArray left right item) = array_layout left right false item
 

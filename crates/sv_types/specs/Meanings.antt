@@ -1,6 +1,6 @@
 -- What an expression means: its value at each width and sign (IEEE 1800-2017 clauses 11.6 to 11.8), what it names as a
 -- select path, and what a process that values it reads.
-use Rattle.std.specs.Prelude.{ℕ, ◌+◌, max, Bool, true, false, not, ◌&&◌, ◌==◌, cond, List, [], ◌∷◌, ◌++◌, length, take, map, flat_map, filter, Option, Some, None}
+use Rattle.std.specs.Prelude.{ℕ, ◌+◌, max, Bool, true, false, ◌&&◌, ◌==◌, cond, List, [], ◌∷◌, ◌++◌, length, take, map, flat_map, Option, Some, None}
 use Rattle.std.specs.List.{list_all}
 use Rattle.b4_core.specs.declared.bit.Bit4.{Bit4}
 use Rattle.b4_core.specs.Vectors.{ext}
@@ -8,7 +8,7 @@ use Rattle.row_machine.specs.Valuation.{Changes}
 use Rattle.row_machine.specs.Steps.{unchanged}
 use Rattle.sv_types.specs.Layouts.{Layout, stored}
 use Rattle.sv_types.specs.Windows.{Window, whole, seen, written}
-use Rattle.sv_types.specs.Surroundings.{Around, Tally, Stop, stopped, Use, Write, Sight, all_sure, is_signal, Parameter}
+use Rattle.sv_types.specs.Surroundings.{Around, Tally, Stop, stopped, Use, Write, Sight, is_signal, Parameter}
 
 -- the longest prefix of a path whose indices are known, and whether it is the whole path
 pub record Prefix : Type 0 where
@@ -50,6 +50,8 @@ pub record Meaning : Type 0 where
   -- the signals and locals that it names, and those that only its indices name
   pub names : List Named
   pub index_names : List Named
+  -- the signals and locals that it names as a target
+  pub roots : List ℕ
   -- the greatest widths: of arithmetic in a context, of an index, of any type; and how many types in it aren't those that
   -- its parts give it
   pub arithmetic : (ℕ → List Parameter) → ℕ → ℕ
@@ -135,6 +137,7 @@ plain of at w s own operands value =
       writes = λ k. [];
       names = flat_map (λ (p : Operand). p.of.names) operands;
       index_names = flat_map (λ (p : Operand). p.of.names) operands;
+      roots = [];
       arithmetic = λ fs c. max (own c) (most (map (λ (p : Operand). p.of.arithmetic fs (p.at c)) operands));
       indexing = most (map (λ (p : Operand). p.of.indexing) operands);
       widest = max n (most (map (λ (p : Operand). p.of.widest) operands));
@@ -146,9 +149,14 @@ abbrev pub use_of : Option ℕ → ℕ → Prefix → List Use
 use_of None at p = []
 use_of (Some n) at p = record { number = n; low = p.window.low; high = p.window.high; at = at } ∷ []
 
--- of these, those that aren't sure
-abbrev pub unsure : Sight → List Use → List Use
-unsure k us = filter (λ u. not (all_sure k u)) us
+-- whether all that a path stands on is sure: a loop variable is sure whole or not at all
+abbrev pub root_sure : Option ℕ → Sight → Bool
+root_sure None k = true
+root_sure (Some n) k = k.sure (record { signal = n; bit = 0 })
+
+abbrev pub roots_of : Option ℕ → List ℕ
+roots_of None = []
+roots_of (Some n) = n ∷ []
 
 abbrev pub writes_of : Bool → List Use → List Write
 writes_of exact us = map (λ u. record { of = u; exact = exact }) us
@@ -196,13 +204,14 @@ selected of at p =
       puts = λ a b. written_at p.root (p.window a) (stored of.two_state b);
       values = λ a t. p.places a (reads_root p.root at a t);
       places = p.places;
-      constant = λ k. (p.prefix k).exact && (p.constant_base k && list_all (all_sure k) (use_of p.root at (p.prefix k)));
+      constant = λ k. (p.prefix k).exact && (p.constant_base k && root_sure p.root k);
       prefix = p.prefix;
-      reads = λ k. unsure k (use_of p.root at (p.prefix k)) ++ p.indices k;
+      reads = λ k. cond (root_sure p.root k) [] (use_of p.root at (p.prefix k)) ++ p.indices k;
       indices = p.indices;
       writes = λ k. writes_of (p.prefix k).exact (use_of p.root at (p.prefix k));
       names = p.root_names ++ p.index_names;
       index_names = p.index_names;
+      roots = roots_of p.root;
       arithmetic = λ fs c. p.arithmetic fs;
       indexing = p.indexing;
       widest = max n p.widest;

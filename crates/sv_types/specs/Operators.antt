@@ -1,5 +1,6 @@
 -- What operators and other expressions that aren't paths mean (IEEE 1800-2017 clauses 5.7, 6.24, 10.9, 11 and 13.4).
-use Rattle.std.specs.Prelude.{ℕ, zero, suc, ◌-◌, ◌*◌, ◌^◌, max, Bool, true, false, ◌&&◌, ◌||◌, nat_le, cond, pos, List, [], ◌∷◌, ◌++◌, length, take, drop, map, flat_map, replicate, zip, None}
+use Rattle.std.specs.Prelude.{ℕ, zero, suc, ◌+◌, ◌-◌, ◌*◌, ◌^◌, max, Bool, true, false, ◌&&◌, ◌||◌, nat_le, cond, pos, List, [], ◌∷◌, ◌++◌, length, take, drop, map, flat_map, replicate, zip, None}
+use Rattle.std.specs.List.{list_any}
 use Rattle.b4_core.specs.declared.bit.Bit4.{Bit4}
 use Rattle.b4_core.specs.declared.bit.Bit4.TheVariants.{Zero, One, X, Z}
 use Rattle.b4_core.specs.declared.operators.UnOp.{UnOp}
@@ -43,6 +44,10 @@ fill of at b = plain of at 1 false no_arithmetic [] (λ w s a. replicate w b)
 unfoldable pub constant : Layout → ℕ → Value → Meaning
 constant of at v = plain of at (length (bits v)) of.signed no_arithmetic [] (λ w s a. ext w s (bits v))
 
+-- the value of an operator is four-state
+abbrev pub four_state : Meaning → Meaning
+four_state m = record m { misfits = m.misfits + cond (list_any (λ b. b) m.of.two_state) 1 0 }
+
 -- the operators that work by whole numbers
 abbrev pub unary_arithmetic : UnOp → ℕ → ℕ
 unary_arithmetic U.Not w = 0
@@ -61,16 +66,16 @@ binary_arithmetic B.Rem w = w
 
 unfoldable pub unary : Layout → ℕ → UnOp → Meaning → Meaning
 unary of at op m =
-    plain of at (wide m) (signed m) (unary_arithmetic op) (in_context m ∷ []) (λ w s a. unary_value op (m.value w s a))
+    four_state (plain of at (wide m) (signed m) (unary_arithmetic op) (in_context m ∷ []) (λ w s a. unary_value op (m.value w s a)))
 
 unfoldable pub binary : Layout → ℕ → BinOp → Meaning → Meaning → Meaning
 binary of at op l r =
-    plain of at (max (wide l) (wide r)) (signed l && signed r) (binary_arithmetic op) (in_context l ∷ in_context r ∷ [])
-    (λ w s a. binary_value op s (l.value w s a) (r.value w s a))
+    four_state (plain of at (max (wide l) (wide r)) (signed l && signed r) (binary_arithmetic op) (in_context l ∷ in_context r ∷ [])
+    (λ w s a. binary_value op s (l.value w s a) (r.value w s a)))
 
 -- one bit in its context
 abbrev pub one_bit : Layout → ℕ → (ℕ → ℕ) → List Operand → (Around → Bit4) → Meaning
-one_bit of at own operands b = plain of at 1 false own operands (λ w s a. ext w s (b a ∷ []))
+one_bit of at own operands b = four_state (plain of at 1 false own operands (λ w s a. ext w s (b a ∷ [])))
 
 unfoldable pub reduce : Layout → ℕ → RedOp → Meaning → Meaning
 reduce of at op m = one_bit of at no_arithmetic (by_itself m ∷ []) (λ a. reduction op (alone m a))
@@ -90,12 +95,12 @@ either of at l r = one_bit of at no_arithmetic (by_itself l ∷ by_itself r ∷ 
 
 unfoldable pub shift : Layout → ℕ → ShiftOp → Meaning → Meaning → Meaning
 shift of at op l r =
-    plain of at (wide l) (signed l) no_arithmetic (in_context l ∷ by_itself r ∷ []) (λ w s a. shift_value op s (l.value w s a) (alone r a))
+    four_state (plain of at (wide l) (signed l) no_arithmetic (in_context l ∷ by_itself r ∷ []) (λ w s a. shift_value op s (l.value w s a) (alone r a)))
 
 unfoldable pub power : Layout → ℕ → Meaning → Meaning → Meaning
 power of at l r =
-    plain of at (wide l) (signed l) (λ w. max w (wide r)) (in_context l ∷ by_itself r ∷ [])
-    (λ w s a. power_value s (signed r) (l.value w s a) (alone r a))
+    four_state (plain of at (wide l) (signed l) (λ w. max w (wide r)) (in_context l ∷ by_itself r ∷ [])
+    (λ w s a. power_value s (signed r) (l.value w s a) (alone r a)))
 
 -- both operands of a comparison have the larger width, and a sign only if both have one
 abbrev pub both_wide : Meaning → Meaning → ℕ
@@ -161,15 +166,16 @@ with_parts ms order m = record m {
   indices = λ k. flat_map (λ (p : Meaning). p.indices k) ms;
   writes = λ k. flat_map (λ (p : Meaning). p.writes k) ms;
   index_names = flat_map (λ (p : Meaning). p.index_names) ms;
+  roots = flat_map (λ (p : Meaning). p.roots) ms;
 }
 
 unfoldable pub concat : Layout → ℕ → List Meaning → Meaning
 concat of at ms =
-    with_parts ms (λ v. v) (plain of at (width_of_all ms) false no_arithmetic (map by_itself ms) (λ w s a. ext w s (joined ms a)))
+    with_parts ms (λ v. v) (four_state (plain of at (width_of_all ms) false no_arithmetic (map by_itself ms) (λ w s a. ext w s (joined ms a))))
 
 unfoldable pub repeat : Layout → ℕ → ℕ → List Meaning → Meaning
 repeat of at n ms =
-    plain of at (n * width_of_all ms) false no_arithmetic (map by_itself ms) (λ w s a. ext w s (repeated n (joined ms a)))
+    four_state (plain of at (n * width_of_all ms) false no_arithmetic (map by_itself ms) (λ w s a. ext w s (repeated n (joined ms a))))
 
 -- what a value may be on the right of `inside`
 pub data Alternative : Type 0 where
@@ -181,9 +187,14 @@ abbrev pub is_inside : Meaning → Around → Alternative → Bit4
 is_inside m a (Only v) = equals Wild m v a
 is_inside m a (From low high) = and4 (in_order GreaterEqual m low a) (in_order LessEqual m high a)
 
+-- the width at which the left operand is compared, and the other operands
+abbrev pub inside_width : Meaning → Alternative → ℕ
+inside_width m (Only v) = both_wide m v
+inside_width m (From low high) = max (both_wide m low) (both_wide m high)
+
 abbrev pub inside_operands : Meaning → Alternative → List Operand
-inside_operands m (Only v) = compared m v
-inside_operands m (From low high) = compared m low ++ compared m high
+inside_operands m (Only v) = at_width (both_wide m v) v ∷ []
+inside_operands m (From low high) = at_width (both_wide m low) low ∷ at_width (both_wide m high) high ∷ []
 
 abbrev pub inside_arithmetic : Meaning → Alternative → ℕ
 inside_arithmetic m (Only v) = 0
@@ -191,7 +202,8 @@ inside_arithmetic m (From low high) = max (both_wide m low) (both_wide m high)
 
 unfoldable pub inside : Layout → ℕ → Meaning → List Alternative → Meaning
 inside of at m cs =
-    one_bit of at (λ w. most (map (inside_arithmetic m) cs)) (flat_map (inside_operands m) cs) (λ a. any4 (map (is_inside m a) cs))
+    one_bit of at (λ w. most (map (inside_arithmetic m) cs)) (at_width (most (map (inside_width m) cs)) m ∷ flat_map (inside_operands m) cs)
+    (λ a. any4 (map (is_inside m a) cs))
 
 -- The inside of a cast is valued alone, and then converts as an assignment does.
 unfoldable pub cast : Layout → ℕ → Meaning → Meaning
@@ -208,7 +220,7 @@ abbrev pub clog2_of : List Bit4 → List Bit4
 clog2_of v = cond (known v) (vec 32 (pos (log_from (length v) 0 (num v)))) (unknown 32)
 
 unfoldable pub clog2 : Layout → ℕ → Meaning → Meaning
-clog2 of at m = plain of at 32 true no_arithmetic (by_itself m ∷ []) (λ w s a. ext w s (clog2_of (alone m a)))
+clog2 of at m = four_state (plain of at 32 true no_arithmetic (by_itself m ∷ []) (λ w s a. ext w s (clog2_of (alone m a))))
 
 -- what is assigned to a member, a formal or a local with these bits
 abbrev pub assigned_to : List Bool → Meaning → Around → List Bit4

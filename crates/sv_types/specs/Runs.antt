@@ -254,8 +254,8 @@ call_routine f ms a s =
     let done = callee.run (all_taken_in callee.formals ms e) (all_take_in callee.formals ms e s.tally) in
     copies_out callee.formals ms done.finals a (with_tally done.tally s)
 
--- what stands for a replaced call counts as its body does
+-- statements that don't count
 abbrev pub uncounted : Run → Run
 uncounted r a s =
-    let after = r a s in
-    record after { tally = record { left = s.tally.left; stop = after.tally.stop } }
+    let after = r a (with_tally (record { left = None; stop = s.tally.stop }) s) in
+    with_tally (record { left = s.tally.left; stop = after.tally.stop }) after

@@ -1,5 +1,6 @@
 -- What typed statements mean, form by form: what they do, and what is known of them before.
-use Rattle.std.specs.Prelude.{ℕ, ◌+◌, max, Bool, List, [], ◌∷◌, ◌++◌, map, flat_map, Option, Some, None}
+use Rattle.std.specs.Prelude.{ℕ, ◌+◌, max, Bool, ◌&&◌, ◌==◌, not, List, [], ◌∷◌, ◌++◌, map, flat_map, Option, Some, None}
+use Rattle.std.specs.List.{list_all, list_any}
 use Rattle.sv_types.specs.declared.statement.CaseKind.{CaseKind}
 use Rattle.sv_types.specs.declared.statement.Outcome.{Outcome}
 use Rattle.sv_types.specs.declared.statement.Outcome.TheVariants.{Break, Continue, Return}
@@ -9,21 +10,24 @@ use Rattle.sv_types.specs.declared.statement.Way.TheVariants as W
 use Rattle.sv_types.specs.declared.statement.Stmt.{Stmt, Stmt-F, fold-Stmt}
 use Rattle.sv_types.specs.declared.statement.CaseItem.{CaseItem-F}
 use Rattle.sv_types.specs.Layouts.{layout}
-use Rattle.sv_types.specs.Surroundings.{Parameter}
+use Rattle.sv_types.specs.Surroundings.{Parameter, Sight, local_number}
 use Rattle.sv_types.specs.Meanings.{Meaning, Named, most, total, wide}
-use Rattle.sv_types.specs.Operators.{width_of_all, assigned_width}
+use Rattle.sv_types.specs.Operators.{width_of_all, assigned_to, assigned_width}
 use Rattle.sv_types.specs.Expressions.{meaning}
 use Rattle.sv_types.specs.Runs as R
 use Rattle.sv_types.specs.Runs.{Run, ItemRun}
 use Rattle.sv_types.specs.Flows as F
 use Rattle.sv_types.specs.Flows.{Flow, Flows}
 
--- What a statement does; what is known of it before; the signals and locals that it names, targets left out; and the
--- greatest widths, as of expressions.
+-- What a statement does; what is known of it before; whether the loops in it have bounds that are known and leave their
+-- variables alone, whatever turns they make; the signals and locals that it names, targets left out, and those that it names
+-- as targets; and the greatest widths, as of expressions.
 pub record Doing : Type 0 where
   pub run : Run
   pub flow : Flows
+  pub bounded : Sight → Bool
   pub names : (ℕ → List Parameter) → List Named
+  pub targets : (ℕ → List Parameter) → List ℕ
   pub arithmetic : (ℕ → List Parameter) → ℕ
   pub indexing : ℕ
   pub widest : ℕ
@@ -73,7 +77,9 @@ abbrev pub composed : Run → Flows → Limits → List Doing → Doing
 composed run flow own parts = record {
   run = run;
   flow = flow;
+  bounded = λ k. list_all (λ (d : Doing). d.bounded k) parts;
   names = λ fs. own.names ++ flat_map (λ (d : Doing). d.names fs) parts;
+  targets = λ fs. flat_map (λ (d : Doing). d.targets fs) parts;
   arithmetic = λ fs. max (own.arithmetic fs) (most (map (λ (d : Doing). d.arithmetic fs) parts));
   indexing = max own.indexing (most (map (λ (d : Doing). d.indexing) parts));
   widest = max own.widest (most (map (λ (d : Doing). d.widest) parts));
@@ -111,22 +117,20 @@ local_limits l = elim (initial_of l) [ None ↦ no_limits | Some m ↦ limits_at
 abbrev pub starts : List Local → List Run
 starts ls = map (λ (l : Local). R.start l.number (marks_of l) (initial_of l)) ls
 
-abbrev pub starting : List Local → List Flows
-starting ls = map (λ (l : Local). F.starting l.number (marks_of l) (initial_of l)) ls
-
--- the flow of a block, in which locals without a written value are unset
-abbrev pub unset_in : List Local → Flow → Flow
-unset_in [] f = f
-unset_in (l ∷ ls) f = F.unset_in l.number (marks_of l) (initial_of l) (unset_in ls f)
+-- the flow of a block: a local without a written value isn't to be read before it is assigned
+abbrev pub scope_flow : List Local → Flows → Flows
+scope_flow [] f k = f k
+scope_flow (l ∷ ls) f k =
+    F.and_then (F.starting l.number (marks_of l) (initial_of l) k) (F.unset_in l.number (marks_of l) (initial_of l) (scope_flow ls f k))
 
 -- statements in a scope of these locals
 abbrev pub scope : List Local → List Doing → Doing
 scope ls ds =
-    composed (R.in_turn (starts ls ++ runs ds)) (λ k. F.and_then (F.in_turn (starting ls) k) (unset_in ls (F.in_turn (flows ds) k)))
+    composed (R.in_turn (starts ls ++ runs ds)) (scope_flow ls (F.in_turn (flows ds)))
     (all_limits (map local_limits ls)) ds
 
 abbrev pub counted : Doing → Doing
-counted d = record d { run = R.statement d.run }
+counted d = record d { run = R.statement d.run; flow = λ k. F.counted (d.flow k) }
 
 abbrev pub branching : Meaning → Doing → Option Doing → Doing
 branching on body other =
@@ -145,16 +149,32 @@ selecting kind on is other =
     (λ k. F.and_then (F.reading (on.reads k ++ F.all_reads values k)) (F.any_of (map (λ (i : Item). i.does.flow) is) (flow_or_nothing other k) k))
     (all_limits (map (limits_at w) (on ∷ values))) (map (λ (i : Item). i.does) is ++ none_or other)
 
+-- the sight of a turn, in which the variable is known
+abbrev pub in_loop : ℕ → Meaning → Sight → Sight
+in_loop n first k = F.knowing n first.of.two_state (assigned_to first.of.two_state first k.around) k
+
+-- the bounds are known, and the body doesn't write the variable
+abbrev pub is_bounded : ℕ → Meaning → Meaning → Meaning → Doing → Sight → Bool
+is_bounded n first test step body k =
+    let j = in_loop n first k in
+    (first.constant k && (test.constant j && step.constant j))
+    && (not (list_any (λ (m : ℕ). m == local_number n) (body.targets (λ f. (k.around.callee f).formals))) && body.bounded j)
+
 abbrev pub looping : ℕ → Meaning → Meaning → Meaning → Doing → Doing
 looping n first test step body =
-    composed (R.loop n first test step body.run) (F.looping n first test step body.flow)
+    record (composed (R.loop n first test step body.run) (F.looping n first test step body.flow)
     (all_limits (limits_at (assigned_width first.of.two_state first) first ∷ limits_alone test ∷ limits_at (assigned_width first.of.two_state step) step ∷ []))
-    (body ∷ [])
+    (body ∷ [])) {
+      bounded = is_bounded n first test step body;
+      targets = λ fs. local_number n ∷ body.targets fs;
+    }
 
 abbrev pub assigning : List Meaning → Meaning → Bool → Doing
 assigning to value later =
-    composed (R.assign later to value) (F.assigning later to value)
-    (both_limits (all_limits (map limits_as_target to)) (limits_at (max (width_of_all to) (wide value)) value)) []
+    record (composed (R.assign later to value) (F.assigning later to value)
+    (both_limits (all_limits (map limits_as_target to)) (limits_at (max (width_of_all to) (wide value)) value)) []) {
+      targets = λ fs. flat_map (λ (m : Meaning). m.roots) to;
+    }
 
 -- an actual, by the way of its formal
 abbrev pub names_by_way : Way → Meaning → List Named
@@ -172,22 +192,38 @@ actual_arithmetic fs [] ms = 0
 actual_arithmetic fs (p ∷ ps) [] = 0
 actual_arithmetic fs (p ∷ ps) (m ∷ ms) = max (m.arithmetic fs (assigned_width p.two_state m)) (actual_arithmetic fs ps ms)
 
+abbrev pub roots_by_way : Way → Meaning → List ℕ
+roots_by_way W.Input m = []
+roots_by_way W.Output m = m.roots
+roots_by_way W.Inout m = m.roots
+
+abbrev pub actual_roots : List Parameter → List Meaning → List ℕ
+actual_roots [] ms = []
+actual_roots (p ∷ ps) [] = []
+actual_roots (p ∷ ps) (m ∷ ms) = roots_by_way p.way m ++ actual_roots ps ms
+
 abbrev pub calling : ℕ → List Meaning → Doing
 calling f ms = record (composed (R.call_routine f ms) (F.calling f ms) (all_limits (map limits_alone ms)) []) {
   names = λ fs. actual_names (fs f) ms;
+  targets = λ fs. actual_roots (fs f) ms;
   arithmetic = λ fs. actual_arithmetic fs (fs f) ms;
 }
 
 abbrev pub jumping : Outcome → Doing
 jumping o = composed (R.jump o) (λ k. F.jumping o) no_limits []
 
+-- statements that don't count
+abbrev pub uncounted : Doing → Doing
+uncounted d = record d { run = R.uncounted d.run; flow = λ k. record (d.flow k) { statements = 0 } }
+
 -- what stands for a replaced call: it counts as its body, or as one statement
 abbrev pub made : List Local → List Doing → Option Doing → Doing
-made ls before None = let d = scope ls before in record d { run = R.statement (R.uncounted d.run) }
+made ls before None = counted (uncounted (scope ls before))
 made ls before (Some body) =
-    let first = record (scope ls before) { run = R.uncounted (scope ls before).run } in
-    composed (R.in_turn (first.run ∷ body.run ∷ [])) (λ k. F.and_then (F.in_turn (starting ls) k) (unset_in ls (F.in_turn (flows (before ++ body ∷ [])) k)))
-    (all_limits (map local_limits ls)) (before ++ body ∷ [])
+    record (scope ls (before ++ body ∷ [])) {
+      run = R.in_turn (R.uncounted (R.in_turn (starts ls ++ runs before)) ∷ body.run ∷ []);
+      flow = scope_flow ls (λ k. F.and_then (record (F.in_turn (flows before) k) { statements = 0 }) (body.flow k));
+    }
 
 abbrev pub item_step : CaseItem-F Doing Item → Item
 item_step i = record { values = map meaning i.values; does = i.body }

@@ -1,10 +1,8 @@
 -- What an expression or a statement stands in: what signals and locals hold, the functions that can be called, and how
 -- much of its run is left.
-use Rattle.std.specs.Prelude.{ℕ, zero, suc, ◌+◌, ◌-◌, ◌^◌, nat_lt, Bool, List, Option, Some, None}
-use Rattle.std.specs.List.{list_all}
+use Rattle.std.specs.Prelude.{ℕ, zero, suc, ◌+◌, ◌^◌, nat_lt, Bool, List, Option, Some, None}
 use Rattle.b4_core.specs.declared.bit.Bit4.{Bit4}
 use Rattle.row_machine.specs.Valuation.{Place, Valuation}
-use Rattle.row_machine.specs.Places.{places_from}
 use Rattle.sv_types.specs.declared.statement.Way.{Way}
 
 -- Signals and locals have one numbering: the locals stand behind all signals, whose numbers are below 2^32.
@@ -81,7 +79,3 @@ pub record Write : Type 0 where
 pub record Sight : Type 0 where
   pub around : Around
   pub sure : Place → Bool
-
--- whether all bits of a use are sure
-abbrev pub all_sure : Sight → Use → Bool
-all_sure s u = list_all s.sure (places_from u.number u.low (u.high - u.low))

@@ -1,8 +1,8 @@
 //! Values as vectors, and vectors as values (IEEE 1800-2017 clauses 6.3, 6.8, 7.2 and 7.4).
 
-ghost use Rattle.std.specs.Prelude.{◌≡◌, ◌≤◌, ◌<◌, ◌++◌, ◌*◌, min, length, map, drop, take, IfOk, OnOk};
+ghost use Rattle.std.specs.Prelude.{cond, false, ◌≡◌, ◌≤◌, ◌<◌, ◌++◌, ◌*◌, min, length, map, drop, take, IfOk, OnOk};
 ghost use Rattle.std.specs.List.{list_all};
-ghost use Rattle.sv_types.specs.Layouts.{width_of, layout, count_of, stacked, stacked_marks, widest_marks, struct_marks, member_layout, repeated, as_a_whole, stored, stored_bit, default_bits};
+ghost use Rattle.sv_types.specs.Layouts.{width_of, layout, count_of, stacked, stacked_marks, widest_marks, struct_marks, union_marks, member_layout, repeated, as_a_whole, stored, stored_bit, default_bits};
 ghost use Rattle.sv_types.specs.Values.{bits, shape, member_shape, total, most, cut, cut_evenly, value_of_bits, default};
 ghost use Rattle.sv_types.specs.declared.types.Value.{Value};
 
@@ -245,12 +245,11 @@ fn is_two_state(marks: &[bool]) -> bool
     marks.iter().all(|two| *two)
 }
 
-// Adds the marks of a packed type, which is two-state only if all of it is.
-#[tactic(auto, using(crate::proofs::Marks::whole))]
-fn push_whole(marks: Vec<bool>, to: &mut Vec<bool>) -> Result<(), AllocError>
-    ensures { OnOk result (to.new.items ≡ to.old.items ++ as_a_whole marks.items) }
+// Adds these marks where all is two-state, else as many that aren't.
+#[tactic(auto, using(crate::proofs::Marks::kept))]
+fn push_if(all: bool, marks: Vec<bool>, to: &mut Vec<bool>) -> Result<(), AllocError>
+    ensures { OnOk result (to.new.items ≡ to.old.items ++ cond all marks.items (map (λ b. false) marks.items)) }
 {
-    let all = is_two_state(&marks);
     for two in marks.iter() {
         to.push(*two && all)?;
     }
@@ -259,6 +258,7 @@ fn push_whole(marks: Vec<bool>, to: &mut Vec<bool>) -> Result<(), AllocError>
 
 // Adds the marks of a struct.
 #[cycle(marks)]
+#[tactic(auto, unfolding(crate::specs::Layouts::as_a_whole))]
 fn push_struct(
     alloc: Global,
     packed: bool,
@@ -269,7 +269,8 @@ fn push_struct(
 {
     let mut marks = member_marks(alloc, members)?;
     if packed {
-        push_whole(marks, to)
+        let all = is_two_state(&marks);
+        push_if(all, marks, to)
     } else {
         to.append(&mut marks)
     }
@@ -278,9 +279,10 @@ fn push_struct(
 // Adds the marks of a union.
 #[cycle(marks)]
 fn push_union(alloc: Global, members: &[Member], to: &mut Vec<bool>) -> Result<(), AllocError>
-    ensures { OnOk result (to.new.items ≡ to.old.items ++ as_a_whole (widest_marks (map member_layout members.now))) }
+    ensures { OnOk result (to.new.items ≡ to.old.items ++ union_marks (map member_layout members.now)) }
 {
-    push_whole(widest_member(alloc, members)?, to)
+    let marks = member_marks(alloc, members)?;
+    push_if(is_two_state(&marks), widest_member(alloc, members)?, to)
 }
 
 // For each bit of a type, whether it is two-state.

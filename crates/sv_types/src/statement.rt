@@ -57,11 +57,11 @@ pub enum Stmt {
     Loop {
         /// The number of the variable.
         local: u32,
-        /// Its first value.
+        /// Its first value, of the variable's type.
         first: Expr,
         /// Whether another turn is made.
         test: Expr,
-        /// Its value in the next turn.
+        /// Its value in the next turn, which is assigned to it.
         step: Expr,
         /// What a turn runs.
         body: Boxed<Stmt>,
