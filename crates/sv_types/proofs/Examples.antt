@@ -24,12 +24,13 @@ use Rattle.sv_types.specs.declared.design.ProcessKind.TheVariants as K
 use Rattle.sv_types.specs.declared.design.SignalKind.{SignalKind}
 use Rattle.sv_types.specs.declared.design.SignalKind.TheVariants.{InputNet, OutputVar, Variable, Net}
 use Rattle.sv_types.specs.Layouts.{Layout, type_step, default_bits, repeated, as_a_whole}
-use Rattle.sv_types.specs.Surroundings.{Around, Sight, Parameter, Callee}
+use Rattle.sv_types.specs.Surroundings.{Around, Sight, Parameter, Callee, Tally}
 use Rattle.sv_types.specs.Meanings.{Meaning, alone}
-use Rattle.sv_types.specs.Operators.{Alternative, unlimited, literal, fill, unary, binary, shift, order, equal, concat, inside, cast, pattern, stream}
+use Rattle.sv_types.specs.Operators.{Alternative, literal, fill, unary, binary, shift, order, equal, concat, inside, cast, pattern, stream}
 use Rattle.sv_types.specs.Expressions.{form_step}
 use Rattle.sv_types.specs.Paths.{signal, local, member, index, sliding}
 use Rattle.sv_types.specs.Runs as R
+use Rattle.sv_types.specs.Efforts as Taken
 use Rattle.sv_types.specs.Runs.{value_given, turns}
 use Rattle.sv_types.specs.Flows as F
 use Rattle.sv_types.specs.Statements as D
@@ -207,7 +208,7 @@ slices_reversed = refl
 
 -- the bits of a signal after a run
 abbrev started : List (List ℕ) → R.State
-started vs = record { written = λ q. None; pending = λ q. None; tally = unlimited; outcome = Normal }
+started vs = record { written = λ q. None; pending = λ q. None; outcome = Normal }
 
 abbrev after : Doing → List (List ℕ) → ℕ → ℕ → List ℕ
 after d vs n w = text_of (vector_at (R.current (holding vs) (d.run (holding vs) (started vs))).now n w)
@@ -275,7 +276,7 @@ abbrev function_body : Doing
 function_body = block (set (loc 1 (vector 8)) (lit (vector 8) (codes "00000000")) ∷ outer_loop ∷ set (loc 0 (vector 8)) (lit (vector 8) (codes "11111111")) ∷ [])
 
 abbrev ended : R.State
-ended = function_body.run (alone_with (λ n. absent)) (begun [] [] (record { left = Some 100; stop = None }))
+ended = function_body.run (alone_with (λ n. absent)) (begun [] [])
 
 nested_loops : text_of (final (R.current (alone_with (λ n. absent)) ended) 0 (vector 8).two_state) ≡ codes "00001001"
 unfolding repeated as_a_whole local literal binary order equal turns
@@ -433,8 +434,11 @@ result_is_written : known_before.slips Out.Normal result_bit ∷ known_before.sl
 unfolding repeated as_a_whole local literal binary order equal F.turns
 result_is_written = refl
 
-statements_are_counted : ended.tally.left ≡ Some 53
-unfolding repeated as_a_whole local literal binary order equal turns
+abbrev taken : Tally
+taken = function_body.effort (alone_with (λ n. absent)) (begun [] []) (record { left = Some 100; stop = None })
+
+statements_are_counted : taken.left ≡ Some 53
+unfolding repeated as_a_whole local literal binary order equal turns Taken.turns
 statements_are_counted = refl
 
 -- union packed { bit [3:0] b; logic [3:0] l; } u: one four-state member makes the whole four-state; its two-state member is

@@ -9,7 +9,7 @@ use Rattle.sv_types.specs.declared.statement.Formal.{Formal}
 use Rattle.sv_types.specs.declared.statement.Function.{Function}
 use Rattle.sv_types.specs.declared.statement.Outcome.TheVariants.{Normal}
 use Rattle.sv_types.specs.Layouts.{layout, stored, default_bits}
-use Rattle.sv_types.specs.Surroundings.{Around, Callee, Parameter, Tally, local_number}
+use Rattle.sv_types.specs.Surroundings.{Around, Callee, Parameter, local_number}
 use Rattle.sv_types.specs.Runs.{State, current, set_local}
 use Rattle.sv_types.specs.Statements.{Doing, doing}
 
@@ -36,17 +36,17 @@ finals_of ps a = map (λ (p : Parameter). final a p.number p.two_state) ps
 abbrev pub alone_with : (ℕ → Callee) → Around
 alone_with callee = record { now = λ q. X; holds = λ n. false; callee = callee }
 
-abbrev pub begun : List Parameter → List (List Bit4) → Tally → State
-begun ps vs t = record { written = bound ps vs; pending = unchanged; tally = t; outcome = Normal }
+abbrev pub begun : List Parameter → List (List Bit4) → State
+begun ps vs = record { written = bound ps vs; pending = unchanged; outcome = Normal }
 
 -- A function by its formals, the type of its result, which is local 0, and its body.
 abbrev pub callee_by : List Parameter → List Bool → Doing → (ℕ → Callee) → Callee
 callee_by ps result body callee = record {
   formals = ps;
-  run = λ vs t.
-      let s = body.run (alone_with callee) (begun ps vs t) in
-      let e = current (alone_with callee) s in
-      record { result = final e 0 result; finals = finals_of ps e; tally = s.tally };
+  run = λ vs.
+      let e = current (alone_with callee) (body.run (alone_with callee) (begun ps vs)) in
+      record { result = final e 0 result; finals = finals_of ps e };
+  effort = λ vs. body.effort (alone_with callee) (begun ps vs);
 }
 
 abbrev pub callee_of : (ℕ → Callee) → Function → Callee
@@ -56,12 +56,12 @@ callee_of callee f = callee_by (parameters f) (layout f.of).two_state (doing f.b
 abbrev pub not_run : Function → Callee
 not_run f = record {
   formals = parameters f;
-  run = λ vs t.
-      record { result = default_bits (layout f.of).two_state; finals = map (λ (p : Parameter). default_bits p.two_state) (parameters f); tally = t };
+  run = λ vs. record { result = default_bits (layout f.of).two_state; finals = map (λ (p : Parameter). default_bits p.two_state) (parameters f) };
+  effort = λ vs t. t;
 }
 
 abbrev pub absent : Callee
-absent = record { formals = []; run = λ vs t. record { result = []; finals = []; tally = t } }
+absent = record { formals = []; run = λ vs. record { result = []; finals = [] }; effort = λ vs t. t }
 
 abbrev pub callee_or_absent : (Function → Callee) → Option Function → Callee
 callee_or_absent c None = absent

@@ -7,6 +7,7 @@ pub mod Paths
 pub mod Operators
 pub mod Expressions
 pub mod Runs
+pub mod Efforts
 pub mod Flows
 pub mod Statements
 pub mod Functions

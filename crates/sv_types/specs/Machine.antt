@@ -21,7 +21,6 @@ use Rattle.sv_types.specs.declared.statement.Outcome.TheVariants.{Normal}
 use Rattle.sv_types.specs.Layouts.{Layout, layout, default_bits}
 use Rattle.sv_types.specs.Values.{bits}
 use Rattle.sv_types.specs.Surroundings.{Callee, Parameter, Sight, is_signal}
-use Rattle.sv_types.specs.Operators.{unlimited}
 use Rattle.sv_types.specs.Meanings.{Named}
 use Rattle.sv_types.specs.Runs.{State}
 use Rattle.sv_types.specs.Flows.{covered, uses_of}
@@ -118,7 +117,7 @@ module _ (d : Parts) where
   abbrev pub ran : Doing → Valuation → State
   ran p v =
       p.run (record { now = v; holds = λ n. true; callee = d.callee })
-      (record { written = unchanged; pending = unchanged; tally = unlimited; outcome = Normal })
+      (record { written = unchanged; pending = unchanged; outcome = Normal })
 
   abbrev pub comb : Bool → List Place → Doing → M.Process
   comb from_zero waits_for p = record {

@@ -8,7 +8,7 @@ use Rattle.row_machine.specs.Valuation.{Changes}
 use Rattle.row_machine.specs.Steps.{unchanged}
 use Rattle.sv_types.specs.Layouts.{Layout, stored}
 use Rattle.sv_types.specs.Windows.{Window, whole, seen, written}
-use Rattle.sv_types.specs.Surroundings.{Around, Tally, Stop, stopped, Use, Write, Sight, is_signal, Parameter}
+use Rattle.sv_types.specs.Surroundings.{Around, Tally, Stop, stopped, onward, Use, Write, Sight, is_signal, Parameter}
 
 -- the longest prefix of a path whose indices are known, and whether it is the whole path
 pub record Prefix : Type 0 where
@@ -94,7 +94,7 @@ at_width n m = record { of = m; at = λ w. n }
 -- operands are valued from left to right
 abbrev pub values_all : List Operand → Around → Tally → Tally
 values_all [] a t = t
-values_all (p ∷ ps) a t = values_all ps a (p.of.values a t)
+values_all (p ∷ ps) a t = onward (values_all ps a) (p.of.values a t)
 
 abbrev pub most : List ℕ → ℕ
 most [] = 0
@@ -202,7 +202,7 @@ selected of at p =
       base = p.base;
       window = p.window;
       puts = λ a b. written_at p.root (p.window a) (stored of.two_state b);
-      values = λ a t. p.places a (reads_root p.root at a t);
+      values = λ a t. onward (p.places a) (reads_root p.root at a t);
       places = p.places;
       constant = λ k. (p.prefix k).exact && (p.constant_base k && root_sure p.root k);
       prefix = p.prefix;

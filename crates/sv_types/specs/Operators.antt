@@ -27,7 +27,7 @@ use Rattle.row_machine.specs.Steps.{unchanged, then_changes}
 use Rattle.sv_types.specs.declared.types.Value.{Value}
 use Rattle.sv_types.specs.Values.{bits}
 use Rattle.sv_types.specs.Layouts.{Layout, Part, stored, stacked, repeated, count_of}
-use Rattle.sv_types.specs.Surroundings.{Around, Tally, Parameter}
+use Rattle.sv_types.specs.Surroundings.{onward, Around, Tally, Parameter}
 use Rattle.sv_types.specs.Meanings.{Meaning, Operand, wide, signed, alone, by_itself, in_context, at_width, plain, most, total, values_all}
 
 abbrev pub no_arithmetic : ℕ → ℕ
@@ -156,7 +156,7 @@ puts_all (m ∷ ms) a v = then_changes (m.puts a (take (wide m) (drop (width_of_
 
 abbrev pub places_all : List Meaning → Around → Tally → Tally
 places_all [] a t = t
-places_all (m ∷ ms) a t = places_all ms a (m.places a t)
+places_all (m ∷ ms) a t = onward (places_all ms a) (m.places a t)
 
 -- an expression whose parts can be written
 abbrev pub with_parts : List Meaning → (List Bit4 → List Bit4) → Meaning → Meaning
@@ -250,14 +250,12 @@ unlimited = record { left = None; stop = None }
 
 -- a call runs the function once its actuals are valued
 abbrev pub calls : ℕ → List Meaning → Around → Tally → Tally
-calls f ms a t =
-    let callee = a.callee f in
-    (callee.run (passed callee.formals ms a) (values_all (map by_itself ms) a t)).tally
+calls f ms a t = onward ((a.callee f).effort (passed (a.callee f).formals ms a)) (values_all (map by_itself ms) a t)
 
 unfoldable pub call : Layout → ℕ → ℕ → List Meaning → Meaning
 call of at f ms =
     record (plain of at (length of.two_state) of.signed no_arithmetic (map by_itself ms)
-    (λ w s a. let callee = a.callee f in ext w s (callee.run (passed callee.formals ms a) unlimited).result)) {
+    (λ w s a. ext w s ((a.callee f).run (passed (a.callee f).formals ms a)).result)) {
       values = calls f ms;
       places = calls f ms;
       arithmetic = λ fs c. most (map (λ p. p.1.arithmetic fs (assigned_width p.0.two_state p.1)) (zip (fs f) ms));

@@ -4,7 +4,7 @@ use Rattle.b4_core.specs.Vectors.{known, number}
 use Rattle.row_machine.specs.Places.{vector_at}
 use Rattle.sv_types.specs.Layouts.{Layout, Part, repeated, count_of}
 use Rattle.sv_types.specs.Windows.{Window, whole, member_of, element_of, between, slide}
-use Rattle.sv_types.specs.Surroundings.{Around, local_number}
+use Rattle.sv_types.specs.Surroundings.{onward, Around, local_number}
 use Rattle.sv_types.specs.Meanings.{Meaning, Prefix, Path, Named, wide, signed, alone, selected, same_sign}
 
 -- a whole signal or local
@@ -39,8 +39,8 @@ names_of_root (Some n) [] = []
 names_of_root (Some n) (x ∷ names) = x ∷ []
 
 -- a prefix goes on while it is exact
-abbrev pub onward : (Window → Window) → Prefix → Prefix
-onward step p = cond p.exact (record { window = step p.window; exact = true }) p
+abbrev pub narrowed : (Window → Window) → Prefix → Prefix
+narrowed step p = cond p.exact (record { window = step p.window; exact = true }) p
 
 -- a step that needs no index, from what it selects
 abbrev pub fixed_step : (Window → Window) → ℕ → Meaning → Path
@@ -48,7 +48,7 @@ fixed_step step misfits from = record {
   root = from.root;
   base = from.base;
   window = λ a. step (from.window a);
-  prefix = λ k. onward step (from.prefix k);
+  prefix = λ k. narrowed step (from.prefix k);
   places = from.places;
   constant_base = λ k. known_base from.root (from.constant k);
   indices = from.indices;
@@ -70,8 +70,8 @@ indexed_step step misfits from i = record {
   root = from.root;
   base = from.base;
   window = λ a. step (index_of i a) (from.window a);
-  prefix = λ k. cond (i.constant k) (onward (step (index_of i k.around)) (from.prefix k)) (record { window = (from.prefix k).window; exact = false });
-  places = λ a t. i.values a (from.places a t);
+  prefix = λ k. cond (i.constant k) (narrowed (step (index_of i k.around)) (from.prefix k)) (record { window = (from.prefix k).window; exact = false });
+  places = λ a t. onward (i.values a) (from.places a t);
   constant_base = λ k. known_base from.root (from.constant k);
   indices = λ k. from.indices k ++ i.reads k;
   index_names = from.index_names ++ i.names;

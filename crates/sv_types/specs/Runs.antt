@@ -1,6 +1,6 @@
 -- What statements do (IEEE 1800-2017 clauses 9.3.1, 10.4, 12 and 13). A run goes over a fixed valuation, with what it has
 -- written so far.
-use Rattle.std.specs.Prelude.{ℕ, zero, suc, ◌-◌, max, Bool, true, false, ◌&&◌, ◌||◌, not, cond, List, [], ◌∷◌, length, drop, flat_map, zip, Option, Some, None}
+use Rattle.std.specs.Prelude.{ℕ, zero, suc, ◌-◌, max, Bool, true, false, ◌&&◌, ◌||◌, not, cond, List, [], ◌∷◌, length, drop, zip, Option, Some, None}
 use Rattle.std.specs.List.{list_any, list_all}
 use Rattle.b4_core.specs.declared.bit.Bit4.{Bit4}
 use Rattle.b4_core.specs.declared.bit.Bit4.TheVariants.{Zero, One, X, Z}
@@ -16,16 +16,14 @@ use Rattle.sv_types.specs.declared.statement.Way.{Way}
 use Rattle.sv_types.specs.declared.statement.Way.TheVariants as W
 use Rattle.sv_types.specs.Layouts.{default_bits}
 use Rattle.sv_types.specs.Windows.{whole, written}
-use Rattle.sv_types.specs.Surroundings.{Around, Parameter, Tally, Stop, stopped, counted, local_number}
+use Rattle.sv_types.specs.Surroundings.{Around, Parameter, local_number}
 use Rattle.sv_types.specs.Meanings.{Meaning, wide, signed, alone}
-use Rattle.sv_types.specs.Operators.{truth, width_of_all, puts_all, places_all, assigned_to}
+use Rattle.sv_types.specs.Operators.{truth, width_of_all, puts_all, assigned_to}
 
--- What a run has written by blocking assignments, what is pending of its nonblocking ones, what is left of it, and how it
--- ends.
+-- What a run has written by blocking assignments, what is pending of its nonblocking ones, and how it ends.
 pub record State : Type 0 where
   pub written : Changes
   pub pending : Changes
-  pub tally : Tally
   pub outcome : Outcome
 
 abbrev pub Run : Type 0
@@ -40,13 +38,6 @@ is_normal Normal = true
 is_normal Break = false
 is_normal Continue = false
 is_normal Return = false
-
-abbrev pub with_tally : Tally → State → State
-with_tally t s = record s { tally = t }
-
--- one statement of those that are counted
-abbrev pub statement : Run → Run
-statement r a s = r a (with_tally (counted s.tally) s)
 
 abbrev pub idle : Run
 idle a s = s
@@ -81,25 +72,16 @@ value_given to value a =
 abbrev pub changes_of : List Meaning → Meaning → Around → Changes
 changes_of to value a = puts_all to a (value_given to value a)
 
-abbrev pub assignment_tally : List Meaning → Meaning → Around → Tally → Tally
-assignment_tally to value a t = value.values a (places_all to a t)
-
 abbrev pub assign : Bool → List Meaning → Meaning → Run
-assign false to value a s =
-    let e = current a s in
-    assign_now (changes_of to value e) (with_tally (assignment_tally to value e s.tally) s)
-assign true to value a s =
-    let e = current a s in
-    assign_later (changes_of to value e) (with_tally (assignment_tally to value e s.tally) s)
+assign false to value a s = assign_now (changes_of to value (current a s)) s
+assign true to value a s = assign_later (changes_of to value (current a s)) s
 
 -- a condition is true where a bit of it is 1
 abbrev pub is_true : Meaning → Around → Bool
 is_true m a = is_one (truth m a)
 
 abbrev pub branch : Meaning → Run → Run → Run
-branch on body other a s =
-    let e = current a s in
-    one_of (is_true on e) body other a (with_tally (on.values e s.tally) s)
+branch on body other a s = one_of (is_true on (current a s)) body other a s
 
 -- whether a place of a selector and one of an item match (clause 12.5.1)
 abbrev pub is_z : Bit4 → Bool
@@ -116,30 +98,25 @@ match4 K.X p q = same4 p q || not (known4 p && known4 q)
 abbrev pub agree : CaseKind → List Bit4 → List Bit4 → Bool
 agree kind u v = list_all (λ p. match4 kind p.0 p.1) (zip u v)
 
-pub record Tried : Type 0 where
-  pub found : Bool
-  pub tally : Tally
+-- a selector as it is compared: how, at which width and sign, and its value
+pub record Selector : Type 0 where
+  pub kind : CaseKind
+  pub width : ℕ
+  pub signed : Bool
+  pub value : List Bit4
 
--- the values of an item, one after the other, until one matches
-abbrev pub tried : (List Bit4 → Bool) → ℕ → Bool → List Meaning → Around → Tally → Tried
-tried test w s [] a t = record { found = false; tally = t }
-tried test w s (m ∷ ms) a t =
-    let rest = tried test w s ms a (m.values a t) in
-    cond (test (m.value w s a)) (record { found = true; tally = m.values a t }) rest
+abbrev pub matches : Selector → Around → Meaning → Bool
+matches on a m = agree on.kind on.value (m.value on.width on.signed a)
 
 -- an item of a `case`: its values and what it runs
 pub record ItemRun : Type 0 where
   pub values : List Meaning
   pub run : Run
 
-abbrev pub first_match : (List Bit4 → Bool) → ℕ → Bool → List ItemRun → Run → Run
-first_match test w s [] other a u = other a u
-first_match test w s (i ∷ is) other a u =
-    let r = tried test w s i.values (current a u) u.tally in
-    one_of r.found i.run (first_match test w s is other) a (with_tally r.tally u)
-
-abbrev pub values_of : List ItemRun → List Meaning
-values_of is = flat_map (λ (i : ItemRun). i.values) is
+-- the first item of which a value matches
+abbrev pub first_match : Selector → List ItemRun → Run → Run
+first_match on [] other a u = other a u
+first_match on (i ∷ is) other a u = one_of (list_any (matches on (current a u)) i.values) i.run (first_match on is other) a u
 
 -- the selector and all items have the largest width, and a sign only if all have one
 abbrev pub widest_of : List Meaning → ℕ
@@ -149,12 +126,14 @@ widest_of (m ∷ ms) = max (wide m) (widest_of ms)
 abbrev pub all_signed : List Meaning → Bool
 all_signed ms = list_all signed ms
 
-abbrev pub select : CaseKind → Meaning → List ItemRun → Run → Run
-select kind on is other a u =
-    let e = current a u in
-    let w = widest_of (on ∷ values_of is) in
-    let s = all_signed (on ∷ values_of is) in
-    first_match (agree kind (on.value w s e)) w s is other a (with_tally (on.values e u.tally) u)
+abbrev pub selector : CaseKind → Meaning → List Meaning → Around → Selector
+selector kind on values a =
+    let w = widest_of (on ∷ values) in
+    let s = all_signed (on ∷ values) in
+    record { kind = kind; width = w; signed = s; value = on.value w s a }
+
+abbrev pub select : CaseKind → Meaning → List Meaning → List ItemRun → Run → Run
+select kind on values is other a u = first_match (selector kind on values (current a u)) is other a u
 
 -- writes all bits of a local
 abbrev pub set_local : ℕ → List Bool → List Bit4 → Changes
@@ -165,21 +144,13 @@ abbrev pub start_of : List Bool → Option Meaning → Around → List Bit4
 start_of two_state None a = default_bits two_state
 start_of two_state (Some m) a = assigned_to two_state m a
 
-abbrev pub start_tally : Option Meaning → Around → Tally → Tally
-start_tally None a t = t
-start_tally (Some m) a t = m.values a t
-
 -- a local starts anew each time
 abbrev pub start : ℕ → List Bool → Option Meaning → Run
-start n two_state first a s =
-    let e = current a s in
-    assign_now (set_local n two_state (start_of two_state first e)) (with_tally (start_tally first e s.tally) s)
+start n two_state first a s = assign_now (set_local n two_state (start_of two_state first (current a s))) s
 
 -- an assignment to the variable of a loop, which has the type of its first value
 abbrev pub set_variable : ℕ → List Bool → Meaning → Run
-set_variable n two_state m a s =
-    let e = current a s in
-    assign_now (set_local n two_state (assigned_to two_state m e)) (with_tally (m.values e s.tally) s)
+set_variable n two_state m a s = assign_now (set_local n two_state (assigned_to two_state m (current a s))) s
 
 -- what follows a turn: a `break` ends the loop, and a `return` the function
 abbrev pub after_turn : Outcome → Run → Run
@@ -188,15 +159,12 @@ after_turn Continue next a s = next a (record s { outcome = Normal })
 after_turn Break next a s = record s { outcome = Normal }
 after_turn Return next a s = s
 
--- the loops with their turns, which are at most so many
+-- the turns of a loop, which are at most so many
 unfoldable pub turns : ℕ → Meaning → Run → Run → Run
-turns zero test body step a s =
-    let e = current a s in
-    one_of (is_true test e) (λ b u. with_tally (stopped Stop.Turns u.tally) u) idle a (with_tally (test.values e s.tally) s)
+turns zero test body step a s = s
 turns (suc n) test body step a s =
-    let e = current a s in
-    one_of (is_true test e) (λ b u. let after = body b u in after_turn after.outcome (λ c v. turns n test body step c (step c v)) b after) idle
-    a (with_tally (test.values e s.tally) s)
+    one_of (is_true test (current a s))
+    (λ b u. let after = body b u in after_turn after.outcome (λ c v. turns n test body step c (step c v)) b after) idle a s
 
 -- no loop makes more turns
 abbrev pub most_turns : ℕ
@@ -213,26 +181,14 @@ taken_in W.Input two_state m a = assigned_to two_state m a
 taken_in W.Output two_state m a = default_bits two_state
 taken_in W.Inout two_state m a = assigned_to two_state m a
 
-abbrev pub takes_in : Way → Meaning → Around → Tally → Tally
-takes_in W.Input m a t = m.values a t
-takes_in W.Output m a t = t
-takes_in W.Inout m a t = m.values a t
-
 abbrev pub all_taken_in : List Parameter → List Meaning → Around → List (List Bit4)
 all_taken_in [] ms a = []
 all_taken_in (p ∷ ps) [] a = []
 all_taken_in (p ∷ ps) (m ∷ ms) a = taken_in p.way p.two_state m a ∷ all_taken_in ps ms a
 
-abbrev pub all_take_in : List Parameter → List Meaning → Around → Tally → Tally
-all_take_in [] ms a t = t
-all_take_in (p ∷ ps) [] a t = t
-all_take_in (p ∷ ps) (m ∷ ms) a t = all_take_in ps ms a (takes_in p.way m a t)
-
 -- the formal's last value is assigned to the actual
 abbrev pub copy_out : Parameter → Meaning → List Bit4 → Run
-copy_out p m v a s =
-    let e = current a s in
-    assign_now (m.puts e (ext (wide m) p.signed v)) (with_tally (m.places e s.tally) s)
+copy_out p m v a s = assign_now (m.puts (current a s) (ext (wide m) p.signed v)) s
 
 abbrev pub copied_out : Way → Run → Run
 copied_out W.Input r = idle
@@ -249,13 +205,5 @@ copies_out (p ∷ ps) (m ∷ ms) (v ∷ vs) a s = copies_out ps ms vs a (copied_
 -- outputs are assigned in the order of the formals.
 abbrev pub call_routine : ℕ → List Meaning → Run
 call_routine f ms a s =
-    let e = current a s in
     let callee = a.callee f in
-    let done = callee.run (all_taken_in callee.formals ms e) (all_take_in callee.formals ms e s.tally) in
-    copies_out callee.formals ms done.finals a (with_tally done.tally s)
-
--- statements that don't count
-abbrev pub uncounted : Run → Run
-uncounted r a s =
-    let after = r a (with_tally (record { left = None; stop = s.tally.stop }) s) in
-    with_tally (record { left = s.tally.left; stop = after.tally.stop }) after
+    copies_out callee.formals ms (callee.run (all_taken_in callee.formals ms (current a s))).finals a s

@@ -16,14 +16,17 @@ use Rattle.sv_types.specs.Operators.{width_of_all, assigned_to, assigned_width}
 use Rattle.sv_types.specs.Expressions.{meaning}
 use Rattle.sv_types.specs.Runs as R
 use Rattle.sv_types.specs.Runs.{Run, ItemRun}
+use Rattle.sv_types.specs.Efforts as E
+use Rattle.sv_types.specs.Efforts.{Effort, Step, ItemEffort}
 use Rattle.sv_types.specs.Flows as F
 use Rattle.sv_types.specs.Flows.{Flow, Flows}
 
--- What a statement does; what is known of it before; whether the loops in it have bounds that are known and leave their
+-- What a statement does; what of a run it takes; what is known of it before; whether the loops in it have bounds that are known and leave their
 -- variables alone, whatever turns they make; the signals and locals that it names, targets left out, and those that it names
 -- as targets; and the greatest widths, as of expressions.
 pub record Doing : Type 0 where
   pub run : Run
+  pub effort : Effort
   pub flow : Flows
   pub bounded : Sight → Bool
   pub names : (ℕ → List Parameter) → List Named
@@ -73,9 +76,10 @@ all_limits [] = no_limits
 all_limits (x ∷ xs) = both_limits x (all_limits xs)
 
 -- a statement with these expressions and these parts
-abbrev pub composed : Run → Flows → Limits → List Doing → Doing
-composed run flow own parts = record {
+abbrev pub composed : Run → Effort → Flows → Limits → List Doing → Doing
+composed run effort flow own parts = record {
   run = run;
+  effort = effort;
   flow = flow;
   bounded = λ k. list_all (λ (d : Doing). d.bounded k) parts;
   names = λ fs. own.names ++ flat_map (λ (d : Doing). d.names fs) parts;
@@ -86,8 +90,8 @@ composed run flow own parts = record {
   misfits = own.misfits + total (map (λ (d : Doing). d.misfits) parts);
 }
 
-abbrev pub runs : List Doing → List Run
-runs ds = map (λ (d : Doing). d.run) ds
+abbrev pub steps : List Doing → List Step
+steps ds = map (λ (d : Doing). record { run = d.run; effort = d.effort }) ds
 
 abbrev pub flows : List Doing → List Flows
 flows ds = map (λ (d : Doing). d.flow) ds
@@ -99,6 +103,10 @@ none_or (Some d) = d ∷ []
 abbrev pub run_or_idle : Option Doing → Run
 run_or_idle None = R.idle
 run_or_idle (Some d) = d.run
+
+abbrev pub effort_or_none : Option Doing → Effort
+effort_or_none None = E.no_effort
+effort_or_none (Some d) = d.effort
 
 abbrev pub flow_or_nothing : Option Doing → Flows
 flow_or_nothing None k = F.nothing
@@ -114,8 +122,12 @@ marks_of l = (layout l.of).two_state
 abbrev pub local_limits : Local → Limits
 local_limits l = elim (initial_of l) [ None ↦ no_limits | Some m ↦ limits_at (assigned_width (marks_of l) m) m ]
 
-abbrev pub starts : List Local → List Run
-starts ls = map (λ (l : Local). R.start l.number (marks_of l) (initial_of l)) ls
+abbrev pub starts : List Local → List Step
+starts ls =
+    map (λ (l : Local). record { run = R.start l.number (marks_of l) (initial_of l); effort = E.start (initial_of l) }) ls
+
+abbrev pub runs : List Step → List Run
+runs ds = map (λ (d : Step). d.run) ds
 
 -- the flow of a block: a local without a written value isn't to be read before it is assigned
 abbrev pub scope_flow : List Local → Flows → Flows
@@ -126,26 +138,30 @@ scope_flow (l ∷ ls) f k =
 -- statements in a scope of these locals
 abbrev pub scope : List Local → List Doing → Doing
 scope ls ds =
-    composed (R.in_turn (starts ls ++ runs ds)) (scope_flow ls (F.in_turn (flows ds)))
-    (all_limits (map local_limits ls)) ds
+    let all = starts ls ++ steps ds in
+    composed (R.in_turn (runs all)) (E.in_turn all) (scope_flow ls (F.in_turn (flows ds))) (all_limits (map local_limits ls)) ds
 
 abbrev pub counted : Doing → Doing
-counted d = record d { run = R.statement d.run; flow = λ k. F.counted (d.flow k) }
+counted d = record d { effort = E.statement d.effort; flow = λ k. F.counted (d.flow k) }
 
 abbrev pub branching : Meaning → Doing → Option Doing → Doing
 branching on body other =
-    composed (R.branch on body.run (run_or_idle other))
+    composed (R.branch on body.run (run_or_idle other)) (E.branch on body.effort (effort_or_none other))
     (λ k. F.and_then (F.reading (on.reads k)) (F.or_else (body.flow k) (flow_or_nothing other k)))
     (limits_alone on) (body ∷ none_or other)
 
 abbrev pub item_runs : List Item → List ItemRun
 item_runs is = map (λ (i : Item). record { values = i.values; run = i.does.run }) is
 
+abbrev pub item_efforts : List Item → List ItemEffort
+item_efforts is = map (λ (i : Item). record { values = i.values; effort = i.does.effort }) is
+
 abbrev pub selecting : CaseKind → Meaning → List Item → Option Doing → Doing
 selecting kind on is other =
     let values = flat_map (λ (i : Item). i.values) is in
     let w = R.widest_of (on ∷ values) in
-    composed (R.select kind on (item_runs is) (run_or_idle other))
+    composed (R.select kind on values (item_runs is) (run_or_idle other))
+    (E.select (R.selector kind on values) on (item_efforts is) (effort_or_none other))
     (λ k. F.and_then (F.reading (on.reads k ++ F.all_reads values k)) (F.any_of (map (λ (i : Item). i.does.flow) is) (flow_or_nothing other k) k))
     (all_limits (map (limits_at w) (on ∷ values))) (map (λ (i : Item). i.does) is ++ none_or other)
 
@@ -162,7 +178,7 @@ is_bounded n first test step body k =
 
 abbrev pub looping : ℕ → Meaning → Meaning → Meaning → Doing → Doing
 looping n first test step body =
-    record (composed (R.loop n first test step body.run) (F.looping n first test step body.flow)
+    record (composed (R.loop n first test step body.run) (E.loop n first test step (record { run = body.run; effort = body.effort })) (F.looping n first test step body.flow)
     (all_limits (limits_at (assigned_width first.of.two_state first) first ∷ limits_alone test ∷ limits_at (assigned_width first.of.two_state step) step ∷ []))
     (body ∷ [])) {
       bounded = is_bounded n first test step body;
@@ -171,7 +187,7 @@ looping n first test step body =
 
 abbrev pub assigning : List Meaning → Meaning → Bool → Doing
 assigning to value later =
-    record (composed (R.assign later to value) (F.assigning later to value)
+    record (composed (R.assign later to value) (E.assign to value) (F.assigning later to value)
     (both_limits (all_limits (map limits_as_target to)) (limits_at (max (width_of_all to) (wide value)) value)) []) {
       targets = λ fs. flat_map (λ (m : Meaning). m.roots) to;
     }
@@ -203,25 +219,28 @@ actual_roots (p ∷ ps) [] = []
 actual_roots (p ∷ ps) (m ∷ ms) = roots_by_way p.way m ++ actual_roots ps ms
 
 abbrev pub calling : ℕ → List Meaning → Doing
-calling f ms = record (composed (R.call_routine f ms) (F.calling f ms) (all_limits (map limits_alone ms)) []) {
+calling f ms = record (composed (R.call_routine f ms) (E.call_routine f ms) (F.calling f ms) (all_limits (map limits_alone ms)) []) {
   names = λ fs. actual_names (fs f) ms;
   targets = λ fs. actual_roots (fs f) ms;
   arithmetic = λ fs. actual_arithmetic fs (fs f) ms;
 }
 
 abbrev pub jumping : Outcome → Doing
-jumping o = composed (R.jump o) (λ k. F.jumping o) no_limits []
+jumping o = composed (R.jump o) E.no_effort (λ k. F.jumping o) no_limits []
 
 -- statements that don't count
 abbrev pub uncounted : Doing → Doing
-uncounted d = record d { run = R.uncounted d.run; flow = λ k. record (d.flow k) { statements = 0 } }
+uncounted d = record d { effort = E.uncounted d.effort; flow = λ k. record (d.flow k) { statements = 0 } }
 
 -- what stands for a replaced call: it counts as its body, or as one statement
 abbrev pub made : List Local → List Doing → Option Doing → Doing
 made ls before None = counted (uncounted (scope ls before))
 made ls before (Some body) =
+    let all = starts ls ++ steps before in
+    let first : Step = record { run = R.in_turn (runs all); effort = E.uncounted (E.in_turn all) } in
     record (scope ls (before ++ body ∷ [])) {
-      run = R.in_turn (R.uncounted (R.in_turn (starts ls ++ runs before)) ∷ body.run ∷ []);
+      run = R.in_turn (first.run ∷ body.run ∷ []);
+      effort = E.in_turn (first ∷ steps (body ∷ []));
       flow = scope_flow ls (λ k. F.and_then (record (F.in_turn (flows before) k) { statements = 0 }) (body.flow k));
     }
 

@@ -46,16 +46,21 @@ pub record Parameter : Type 0 where
   pub signed : Bool
   pub way : Way
 
+-- a run that stopped goes no further
+abbrev pub onward : (Tally → Tally) → Tally → Tally
+onward f t = elim t.stop [ None ↦ f t | Some s ↦ t ]
+
 -- what a call gives: the bits of the result, and those of each formal in order
 pub record Called : Type 0 where
   pub result : List Bit4
   pub finals : List (List Bit4)
-  pub tally : Tally
 
--- a function or task, by its place in the list of functions
+-- a function or task, by its place in the list of functions: what it gives for what its formals are given, and what of a run
+-- it takes
 pub record Callee : Type 0 where
   pub formals : List Parameter
-  pub run : List (List Bit4) → Tally → Called
+  pub run : List (List Bit4) → Called
+  pub effort : List (List Bit4) → Tally → Tally
 
 -- What signals and locals hold, which signals are held at all, and the functions.
 pub record Around : Type 0 where

@@ -25,13 +25,18 @@ abbrev pub at_least_0 : ℤ → ℕ
 at_least_0 (pos n) = n
 at_least_0 (negsuc n) = 0
 
+-- a window without a bit is nowhere
+abbrev pub trimmed : Window → Window
+trimmed path = cond (nat_lt path.low path.high) path nowhere
+
 -- w bits of a path from its bit number o on; some of them may be out of range
 abbrev pub part : ℤ → ℕ → Window → Window
-part o w path = record {
-  shift = path.shift +ℤ o;
-  low = max path.low (at_least_0 (path.shift +ℤ o));
-  high = min path.high (at_least_0 (path.shift +ℤ o +ℤ pos w));
-}
+part o w path =
+    trimmed (record {
+      shift = path.shift +ℤ o;
+      low = max path.low (at_least_0 (path.shift +ℤ o));
+      high = min path.high (at_least_0 (path.shift +ℤ o +ℤ pos w));
+    })
 
 abbrev pub within : Window → ℕ → Bool
 within path k = nat_le path.low k && nat_lt k path.high
