@@ -1,6 +1,6 @@
 //! Values as vectors, and vectors as values (IEEE 1800-2017 clauses 6.3, 6.8, 7.2 and 7.4).
 
-ghost use Rattle.std.specs.Prelude.{cond, false, ◌≡◌, ◌≤◌, ◌<◌, ◌++◌, ◌*◌, min, length, map, drop, take, IfOk, OnOk};
+ghost use Rattle.std.specs.Prelude.{cond, false, ◌↔◌, IsTrue, ◌≡◌, ◌≤◌, ◌<◌, ◌++◌, ◌*◌, min, length, map, drop, take, IfOk, OnOk};
 ghost use Rattle.std.specs.List.{list_all};
 ghost use Rattle.sv_types.specs.Layouts.{width_of, layout, count_of, stacked, stacked_marks, widest_marks, struct_marks, union_marks, member_layout, repeated, as_a_whole, stored, stored_bit, default_bits};
 ghost use Rattle.sv_types.specs.Values.{bits, shape, member_shape, total, most, cut, cut_evenly, value_of_bits, default};
@@ -23,6 +23,13 @@ pub const MOST_BITS: u32 = 4194304;
 
 // One more than that stands for every larger number.
 const TOO_MANY: u128 = 4194305;
+
+/// Whether a type has at most 2^22 bits, as the other calls here ask of it. It takes no memory.
+pub fn is_narrow(t: &SvType) -> bool
+    ensures { IsTrue result ↔ (width_of t.now ≤ 4194304) }
+{
+    capped_width(t) <= MOST_BITS
+}
 
 /// How many bits a type has, which are at most 2^22. It takes no memory.
 pub fn width(t: &SvType) -> u32
