@@ -31,6 +31,10 @@ pub record FailedAt (sink : Put_on) (bytes : List ℕ) : Type 0 where
   pub front : GainsFront sink.before sink.after bytes
   pub rose : Rose sink.faults_before sink.faults_after
 
+-- a count of faults is as it was, unless this status is answered
+abbrev pub LevelUnless : Status → Status → ℕ → ℕ → Type 0
+LevelUnless failing status before now = ((status ≡ failing → ⊥) → now ≡ before)
+
 -- the line of an answer, and its status
 abbrev pub line_of : Stop → List ℕ
 line_of S.Usage = usage_line

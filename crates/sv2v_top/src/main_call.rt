@@ -1,10 +1,10 @@
 //! The top call: from words, files and sinks to a status.
 
 ghost use Rattle.std.specs.Prelude.{◌≡◌, ◌≤◌, map, string_bytes};
-ghost use Rattle.sv2v_top.specs.Endings.{Says, Writes, Runs, line_of, status_of};
+ghost use Rattle.sv2v_top.specs.Endings.{Says, Writes, Runs, LevelUnless, line_of, status_of};
 ghost use Rattle.sv2v_top.specs.Promises.{call, sink, OnDone, OnRefused, OnUsage, OnMemory, OnFileFault, OnSinkFault, UsageComes, DoneComes, RefusalComes, NeverUnsettled};
 ghost use Rattle.sv_source.specs.Putting.{Gains, PutCause};
-ghost use Rattle.sv2v_top.specs.declared.status.Status.TheVariants.{SinkFault};
+ghost use Rattle.sv2v_top.specs.declared.status.Status.TheVariants.{Done, SinkFault};
 
 use crate::run::{Stop, run};
 use crate::status::Status;
@@ -31,7 +31,8 @@ fn put_line<E: Sink>(stop: &Stop, err: &mut E) -> Put
 
 /// The status of a stop.
 fn stop_status(stop: &Stop) -> Status
-    ensures { result ≡ status_of stop.now }
+    ensures is { result ≡ status_of stop.now }
+    ensures undone { result ≡ Done → ⊥ }
 {
     match stop {
         Stop::Usage => Status::Usage,
@@ -43,8 +44,10 @@ fn stop_status(stop: &Stop) -> Status
 
 /// Says a stop on the error stream, and answers its status, or `SinkFault` where the stream fails.
 fn say<E: Sink>(stop: &Stop, err: &mut E) -> Status
-    ensures says { Says (record { before = E.written err.old; after = E.written err.new; faults_before = E.faults err.old; faults_after = E.faults err.new }) (line_of stop.now) (status_of stop.now) result }
+    ensures says { Says (sink E.written E.faults err.old err.new) (line_of stop.now) (status_of stop.now) result }
     ensures later { E.faults err.old ≤ E.faults err.new }
+    ensures level { LevelUnless SinkFault result (E.faults err.old) (E.faults err.new) }
+    ensures undone { result ≡ Done → ⊥ }
 {
     match put_line(stop, err) {
         Put::Ok => stop_status(stop),
@@ -54,9 +57,11 @@ fn say<E: Sink>(stop: &Stop, err: &mut E) -> Status
 
 /// Writes the text, and answers `Done`, or says a write fault and answers `SinkFault`.
 fn write_out<O: Sink, E: Sink>(text: &Text, out: &mut O, err: &mut E) -> Status
-    ensures writes { Writes (record { before = O.written out.old; after = O.written out.new; faults_before = O.faults out.old; faults_after = O.faults out.new }) (record { before = E.written err.old; after = E.written err.new; faults_before = E.faults err.old; faults_after = E.faults err.new }) text.now result }
+    ensures writes { Writes (sink O.written O.faults out.old out.new) (sink E.written E.faults err.old err.new) text.now result }
     ensures out_later { O.faults out.old ≤ O.faults out.new }
     ensures err_later { E.faults err.old ≤ E.faults err.new }
+    ensures out_level { LevelUnless SinkFault result (O.faults out.old) (O.faults out.new) }
+    ensures err_level { LevelUnless SinkFault result (E.faults err.old) (E.faults err.new) }
 {
     match put_all(out, text.as_bytes()) {
         Put::Ok => Status::Done,
@@ -75,10 +80,13 @@ fn answer<F: Files, O: Sink, E: Sink>(
     out: &mut O,
     err: &mut E,
 ) -> Status
-    ensures runs { Runs (map string_bytes words.now) (F.contents files.old) (F.faults files.old) (F.faults files.new) (sink (O.written out.old) (O.written out.new) (O.faults out.old) (O.faults out.new)) (sink (E.written err.old) (E.written err.new) (E.faults err.old) (E.faults err.new)) result }
+    ensures runs { Runs (map string_bytes words.now) (F.contents files.old) (F.faults files.old) (F.faults files.new) (sink O.written O.faults out.old out.new) (sink E.written E.faults err.old err.new) result }
     ensures files_later { F.faults files.old ≤ F.faults files.new }
     ensures out_later { O.faults out.old ≤ O.faults out.new }
     ensures err_later { E.faults err.old ≤ E.faults err.new }
+    ensures out_level { LevelUnless SinkFault result (O.faults out.old) (O.faults out.new) }
+    ensures err_level { LevelUnless SinkFault result (E.faults err.old) (E.faults err.new) }
+    ensures files_level { result ≡ Done → F.faults files.new ≡ F.faults files.old }
 {
     match run(alloc, words, files) {
         Ok(text) => write_out(&text, out, err),
@@ -99,28 +107,33 @@ pub fn translate_main<F: Files, O: Sink, E: Sink>(
     err: &mut E,
 ) -> Status
     // A right translation of the files is on the output, whole.
-    ensures done { OnDone (call (map string_bytes words.now) (F.contents files.old) (F.faults files.old) (F.faults files.new) (sink (O.written out.old) (O.written out.new) (O.faults out.old) (O.faults out.new)) (sink (E.written err.old) (E.written err.new) (E.faults err.old) (E.faults err.new))) result }
+    ensures done { OnDone (call (map string_bytes words.now) F.contents F.faults files.old files.new (sink O.written O.faults out.old out.new) (sink E.written E.faults err.old err.new)) result }
     // The first break of the files is said, with its rule, place and word, and the output is as it was.
-    ensures refused { OnRefused (call (map string_bytes words.now) (F.contents files.old) (F.faults files.old) (F.faults files.new) (sink (O.written out.old) (O.written out.new) (O.faults out.old) (O.faults out.new)) (sink (E.written err.old) (E.written err.new) (E.faults err.old) (E.faults err.new))) result }
+    ensures refused { OnRefused (call (map string_bytes words.now) F.contents F.faults files.old files.new (sink O.written O.faults out.old out.new) (sink E.written E.faults err.old err.new)) result }
     // The words aren't of the form, and the usage line is said.
-    ensures usage { OnUsage (call (map string_bytes words.now) (F.contents files.old) (F.faults files.old) (F.faults files.new) (sink (O.written out.old) (O.written out.new) (O.faults out.old) (O.faults out.new)) (sink (E.written err.old) (E.written err.new) (E.faults err.old) (E.faults err.new))) result }
+    ensures usage { OnUsage (call (map string_bytes words.now) F.contents F.faults files.old files.new (sink O.written O.faults out.old out.new) (sink E.written E.faults err.old err.new)) result }
     // Want of memory is said.
-    ensures memory { OnMemory (call (map string_bytes words.now) (F.contents files.old) (F.faults files.old) (F.faults files.new) (sink (O.written out.old) (O.written out.new) (O.faults out.old) (O.faults out.new)) (sink (E.written err.old) (E.written err.new) (E.faults err.old) (E.faults err.new))) result }
+    ensures memory { OnMemory (call (map string_bytes words.now) F.contents F.faults files.old files.new (sink O.written O.faults out.old out.new) (sink E.written E.faults err.old err.new)) result }
     // The load of a file that the expansion looks for failed, and its path is said.
-    ensures file_fault { OnFileFault (call (map string_bytes words.now) (F.contents files.old) (F.faults files.old) (F.faults files.new) (sink (O.written out.old) (O.written out.new) (O.faults out.old) (O.faults out.new)) (sink (E.written err.old) (E.written err.new) (E.faults err.old) (E.faults err.new))) result }
+    ensures file_fault { OnFileFault (call (map string_bytes words.now) F.contents F.faults files.old files.new (sink O.written O.faults out.old out.new) (sink E.written E.faults err.old err.new)) result }
     // A sink failed, with a front of what it was given.
-    ensures sink_fault { OnSinkFault (call (map string_bytes words.now) (F.contents files.old) (F.faults files.old) (F.faults files.new) (sink (O.written out.old) (O.written out.new) (O.faults out.old) (O.faults out.new)) (sink (E.written err.old) (E.written err.new) (E.faults err.old) (E.faults err.new))) result }
+    ensures sink_fault { OnSinkFault (call (map string_bytes words.now) F.contents F.faults files.old files.new (sink O.written O.faults out.old out.new) (sink E.written E.faults err.old err.new)) result }
     // Words that aren't of the form are answered so.
-    ensures usage_comes { UsageComes (call (map string_bytes words.now) (F.contents files.old) (F.faults files.old) (F.faults files.new) (sink (O.written out.old) (O.written out.new) (O.faults out.old) (O.faults out.new)) (sink (E.written err.old) (E.written err.new) (E.faults err.old) (E.faults err.new))) result }
+    ensures usage_comes { UsageComes (call (map string_bytes words.now) F.contents F.faults files.old files.new (sink O.written O.faults out.old out.new) (sink E.written E.faults err.old err.new)) result }
     // Files without a break are translated.
-    ensures done_comes { DoneComes (call (map string_bytes words.now) (F.contents files.old) (F.faults files.old) (F.faults files.new) (sink (O.written out.old) (O.written out.new) (O.faults out.old) (O.faults out.new)) (sink (E.written err.old) (E.written err.new) (E.faults err.old) (E.faults err.new))) result }
+    ensures done_comes { DoneComes (call (map string_bytes words.now) F.contents F.faults files.old files.new (sink O.written O.faults out.old out.new) (sink E.written E.faults err.old err.new)) result }
     // Files with a break are refused with their first one.
-    ensures refusal_comes { RefusalComes (call (map string_bytes words.now) (F.contents files.old) (F.faults files.old) (F.faults files.new) (sink (O.written out.old) (O.written out.new) (O.faults out.old) (O.faults out.new)) (sink (E.written err.old) (E.written err.new) (E.faults err.old) (E.faults err.new))) result }
+    ensures refusal_comes { RefusalComes (call (map string_bytes words.now) F.contents F.faults files.old files.new (sink O.written O.faults out.old out.new) (sink E.written E.faults err.old err.new)) result }
     // No design is run.
     ensures never_unsettled { NeverUnsettled result }
     ensures files_later { F.faults files.old ≤ F.faults files.new }
     ensures out_later { O.faults out.old ≤ O.faults out.new }
     ensures err_later { E.faults err.old ≤ E.faults err.new }
+    // Where it doesn't answer `SinkFault`, the counts of both sinks are as they were.
+    ensures out_level { LevelUnless SinkFault result (O.faults out.old) (O.faults out.new) }
+    ensures err_level { LevelUnless SinkFault result (E.faults err.old) (E.faults err.new) }
+    // Where it answers `Done`, the count of the files is as it was.
+    ensures files_level { result ≡ Done → F.faults files.new ≡ F.faults files.old }
 {
     answer(alloc, words, files, out, err)
 }

@@ -78,6 +78,7 @@ fn expand_and_translate<F: Files>(alloc: Global, asked: &Asked, files: &mut F) -
     requires bodies { BodiesAreSimple asked.now.settings.defines }
     ensures gives { AskedGives asked.now (F.contents files.old) (F.faults files.old) (F.faults files.new) result }
     ensures later { F.faults files.old ≤ F.faults files.new }
+    ensures level { IfOk result (λ _. F.faults files.new ≡ F.faults files.old) }
 {
     match expand(alloc, &asked.settings, files) {
         Ok(expanded) => translated(alloc, asked.top.as_bytes(), expanded),
@@ -91,6 +92,7 @@ fn expand_and_translate<F: Files>(alloc: Global, asked: &Asked, files: &mut F) -
 pub fn run<F: Files>(alloc: Global, words: &[String], files: &mut F) -> Result<Text, Stop>
     ensures gives { RunGives (map string_bytes words.now) (F.contents files.old) (F.faults files.old) (F.faults files.new) result }
     ensures later { F.faults files.old ≤ F.faults files.new }
+    ensures level { IfOk result (λ _. F.faults files.new ≡ F.faults files.old) }
 {
     match read_words(alloc, words)? {
         None => Err(Stop::Usage),

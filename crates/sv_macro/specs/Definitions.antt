@@ -1,5 +1,6 @@
 -- The text of a macro's definition (IEEE 1800-2017 clause 22.5.1).
-use Rattle.std.specs.Prelude.{ℕ, ◌+◌, ◌==◌, ◌&&◌, Bool, true, false, List, [], ◌∷◌, ◌++◌, drop, length, Option, Some, None, if◌then◌else◌, codes}
+use Rattle.std.specs.Prelude.{ℕ, ◌+◌, ◌==◌, ◌&&◌, Bool, true, false, List, [], ◌∷◌, ◌++◌, drop, take, length, Option, Some, None, if◌then◌else◌, codes}
+use Rattle.std.specs.Str.{bytes_eq}
 use Rattle.sv_source.specs.declared.token.Kind.{Kind}
 use Rattle.sv_source.specs.declared.token.Kind.TheVariants.{Cut, Directive}
 use Rattle.sv_source.specs.declared.token.Token.{Token}
@@ -97,14 +98,20 @@ with_formals name behind Ends = BreaksList
 abbrev pub touches : Token → Token → Bool
 touches t u = (t.place.line == u.place.line) && (t.place.col + length t.text == u.place.col)
 
--- a parenthesis directly behind the name begins a list of formals
+-- a token that begins with a parenthesis directly behind the name begins a list of formals: `(`, and not `(*` or `(*)`
+abbrev pub begins_parenthesis : Token → Bool
+begins_parenthesis t = bytes_eq (take 1 t.text) (codes "(")
+
 abbrev pub has_formals : Token → List Token → Bool
 has_formals name [] = false
-has_formals name (t ∷ ts) = is t (codes "(") && touches name t
+has_formals name (t ∷ ts) = begins_parenthesis t && touches name t
+
+abbrev pub with_list : Token → List Token → Defining
+with_list name [] = IllFormed
+with_list name (t ∷ ts) = if is t (codes "(") then with_formals name.text ts (formals_of ts) else BreaksAt 203 t
 
 abbrev pub behind_name : Token → List Token → Defining
-behind_name name ts =
-    if has_formals name ts then with_formals name.text (drop 1 ts) (formals_of (drop 1 ts)) else of_body name.text None [] ts
+behind_name name ts = if has_formals name ts then with_list name ts else of_body name.text None [] ts
 
 -- what the line behind `define says
 abbrev pub defining : List Token → Defining

@@ -225,12 +225,21 @@ fn touches(first: &Token, second: &Token) -> bool
     }
 }
 
+fn begins_parenthesis(token: &Token) -> bool
+    ensures { result ≡ spec.begins_parenthesis token.now }
+{
+    match token.text.as_bytes() {
+        [first, ..] => *first == b'(',
+        [] => false,
+    }
+}
+
 // Whether a list of formals begins directly behind the name.
 fn has_formals(name: &Token, behind: &[Token]) -> bool
     ensures { result ≡ spec.has_formals name.now behind.now }
 {
     match behind {
-        [token, ..] => is(token, b"(") && touches(name, token),
+        [token, ..] => begins_parenthesis(token) && touches(name, token),
         [] => false,
     }
 }
@@ -249,6 +258,17 @@ fn with_formals(alloc: Global, name: &Text, behind: &[Token]) -> Result<Defining
     }
 }
 
+// A macro whose list of formals stands behind its name.
+fn with_list(alloc: Global, name: &Token, behind: &[Token]) -> Result<Defining, AllocError>
+    ensures { IfOk result (λ d. d ≡ spec.with_list name.now behind.now) }
+{
+    match behind {
+        [] => Ok(Defining::IllFormed),
+        [token, behind @ ..] if is(token, b"(") => with_formals(alloc, &name.text, behind),
+        [token, ..] => Ok(Defining::BreaksAt(203, copy_of(alloc, token)?)),
+    }
+}
+
 /// What the line behind `` `define `` says.
 pub fn read_definition(alloc: Global, line: &[Token]) -> Result<Defining, AllocError>
     ensures { IfOk result (λ d. d ≡ spec.defining line.now) }
@@ -259,11 +279,8 @@ pub fn read_definition(alloc: Global, line: &[Token]) -> Result<Defining, AllocE
     if !is_name(name) {
         return Ok(Defining::IllFormed);
     }
-    if !has_formals(name, behind) {
-        return of_body(alloc, &name.text, None, &[], behind);
+    if has_formals(name, behind) {
+        return with_list(alloc, name, behind);
     }
-    let [_, behind @ ..] = behind else {
-        return Ok(Defining::IllFormed);
-    };
-    with_formals(alloc, &name.text, behind)
+    of_body(alloc, &name.text, None, &[], behind)
 }

@@ -8,7 +8,7 @@ use Rattle.sv_source.specs.declared.token.Token.{Token}
 use Rattle.sv_lexer.specs.Lexing.{tokens_of}
 use Rattle.sv_macro.specs.Tokens.{is, is_name, moved}
 use Rattle.sv_macro.specs.Macros.{Macros, defined, undefined, marked, is_paste_kind, formal_or_plain, part_by, formal_number, parts_of, replaced, text_of, only_token, pasted, joined, with_part, with_parts, placed}
-use Rattle.sv_macro.specs.Definitions.{barred, first_barred, unless_barred, of_body, one_longer, with_formal, formals_from, with_formals, formals_of, has_formals, behind_name, defining}
+use Rattle.sv_macro.specs.Definitions.{barred, first_barred, unless_barred, of_body, one_longer, with_formal, formals_from, with_formals, formals_of, has_formals, with_list, behind_name, defining}
 use Rattle.sv_macro.specs.declared.macros.Part.{Part}
 use Rattle.sv_macro.specs.declared.macros.Part.TheVariants.{Plain, Formal, Join}
 use Rattle.sv_macro.specs.declared.macros.Macro.{Macro}
@@ -143,11 +143,13 @@ module _ (K : Token → Type 0) where
   by_choice true x y p q = p
   by_choice false x y p q = q
 
+  with_list_keeps : (name : Token) (ts : List Token) → All K ts → DefiningKeeps K (with_list name ts)
+  with_list_keeps name [] all = tt
+  with_list_keeps name (t ∷ ts) all =
+      by_choice (is t (codes "(")) _ (BreaksAt 203 t) (formals_keep name.text ts (formals_of ts) (All-tail K t ts all) (formals_of_keeps ts (All-tail K t ts all))) (All-head K t ts all)
+
   behind_name_keeps : (name : Token) (ts : List Token) → All K ts → DefiningKeeps K (behind_name name ts)
-  behind_name_keeps name ts all =
-      by_choice (has_formals name ts) _ _
-      (formals_keep name.text (drop 1 ts) (formals_of (drop 1 ts)) (All-drop K 1 ts all) (formals_of_keeps (drop 1 ts) (All-drop K 1 ts all)))
-      (of_body_keeps name.text None [] ts all)
+  behind_name_keeps name ts all = by_choice (has_formals name ts) _ _ (with_list_keeps name ts all) (of_body_keeps name.text None [] ts all)
 
   pub defining_keeps : (line : List Token) → All K line → DefiningKeeps K (defining line)
   defining_keeps [] all = tt

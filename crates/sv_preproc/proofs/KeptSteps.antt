@@ -44,39 +44,32 @@ module _ (P : Token → Type 0) (steady : Steady P) where
   if_named_keeps s file files t wanted None i = tt
   if_named_keeps s file files t wanted (Some name) i = i
 
-  if_keeps : (s : State) (file : OpenFile) (files : List OpenFile) (t : Token) (wanted : Bool) → StateKeeps P s → Goes (branches.if_begins s file files t wanted)
-  if_keeps s file files t wanted i = by_test (StateKeeps P) (branches.skips_in file.conditionals) _ _ (λ _. i) (λ _.
-      if_named_keeps (behind_next s) file files t wanted (next_name s) (behind_next_keeps P steady s i))
+  elsif_keeps : (s : State) (file : OpenFile) (files : List OpenFile) (cs : List Conditional) (t : Token) (name : List ℕ) → StateKeeps P s → Goes (branches.elsif_in s file files cs t name)
+  elsif_keeps s file files [] t name i = tt
+  elsif_keeps s file files (c ∷ cs) t name i = by_test (StateKeeps P) c.last _ _ (λ _. tt) (λ _. i)
 
-  elsif_named_keeps : (s : State) (file : OpenFile) (files : List OpenFile) (c : Conditional) (cs : List Conditional) (t : Token) (name : Option (List ℕ)) → StateKeeps P s → Goes (branches.elsif_named s file files c cs t name)
-  elsif_named_keeps s file files c cs t None i = tt
-  elsif_named_keeps s file files c cs t (Some name) i = i
+  elsif_named_keeps : (s : State) (file : OpenFile) (files : List OpenFile) (t : Token) (name : Option (List ℕ)) → StateKeeps P s → Goes (branches.elsif_named s file files t name)
+  elsif_named_keeps s file files t None i = tt
+  elsif_named_keeps s file files t (Some name) i = elsif_keeps s file files file.conditionals t name i
 
-  elsif_keeps : (s : State) (file : OpenFile) (files : List OpenFile) (c : Conditional) (cs : List Conditional) (t : Token) (b : Branch) → StateKeeps P s → Goes (branches.elsif_in s file files c cs t b)
-  elsif_keeps s file files c cs t Waiting i = elsif_named_keeps (behind_next s) file files c cs t (next_name s) (behind_next_keeps P steady s i)
-  elsif_keeps s file files c cs t Taken i = i
-  elsif_keeps s file files c cs t Over i = i
+  else_keeps : (s : State) (file : OpenFile) (files : List OpenFile) (cs : List Conditional) (t : Token) → StateKeeps P s → Goes (branches.else_in s file files cs t)
+  else_keeps s file files [] t i = tt
+  else_keeps s file files (c ∷ cs) t i = by_test (StateKeeps P) c.last _ _ (λ _. tt) (λ _. i)
 
-  conditional_keeps : (s : State) (file : OpenFile) (files : List OpenFile) (c : Conditional) (cs : List Conditional) (t : Token) (word : Condition) → StateKeeps P s → Goes (branches.in_conditional s file files c cs t word)
-  conditional_keeps s file files c cs t Elsif i = by_test (StateKeeps P) c.last _ _ (λ _. tt) (λ _. elsif_keeps s file files c cs t c.branch i)
-  conditional_keeps s file files c cs t Else i = by_test (StateKeeps P) c.last _ _ (λ _. tt) (λ _. i)
-  conditional_keeps s file files c cs t Endif i = i
-  conditional_keeps s file files c cs t Ifdef i = i
-  conditional_keeps s file files c cs t Ifndef i = i
+  endif_keeps : (s : State) (file : OpenFile) (files : List OpenFile) (cs : List Conditional) (t : Token) → StateKeeps P s → Goes (branches.endif_in s file files cs t)
+  endif_keeps s file files [] t i = tt
+  endif_keeps s file files (c ∷ cs) t i = i
 
-  branching_keeps : (s : State) (file : OpenFile) (files : List OpenFile) (cs : List Conditional) (t : Token) (word : Condition) → StateKeeps P s → Goes (branches.branching s file files cs t word)
-  branching_keeps s file files cs t Ifdef i = if_keeps s file files t true i
-  branching_keeps s file files cs t Ifndef i = if_keeps s file files t false i
-  branching_keeps s file files [] t Elsif i = tt
-  branching_keeps s file files [] t Else i = tt
-  branching_keeps s file files [] t Endif i = tt
-  branching_keeps s file files (c ∷ cs) t Elsif i = conditional_keeps s file files c cs t Elsif i
-  branching_keeps s file files (c ∷ cs) t Else i = conditional_keeps s file files c cs t Else i
-  branching_keeps s file files (c ∷ cs) t Endif i = conditional_keeps s file files c cs t Endif i
+  branching_keeps : (s : State) (file : OpenFile) (files : List OpenFile) (t : Token) (word : Condition) → StateKeeps P s → Goes (branches.branching s file files t word)
+  branching_keeps s file files t Ifdef i = if_named_keeps (behind_next s) file files t true (next_name s) (behind_next_keeps P steady s i)
+  branching_keeps s file files t Ifndef i = if_named_keeps (behind_next s) file files t false (next_name s) (behind_next_keeps P steady s i)
+  branching_keeps s file files t Elsif i = elsif_named_keeps (behind_next s) file files t (next_name s) (behind_next_keeps P steady s i)
+  branching_keeps s file files t Else i = else_keeps s file files file.conditionals t i
+  branching_keeps s file files t Endif i = endif_keeps s file files file.conditionals t i
 
   in_files_keeps : (s : State) (files : List OpenFile) (t : Token) (word : Condition) → StateKeeps P s → Goes (branches.branching_in s files t word)
   in_files_keeps s [] t word i = tt
-  in_files_keeps s (file ∷ files) t word i = branching_keeps s file files file.conditionals t word i
+  in_files_keeps s (file ∷ files) t word i = branching_keeps s file files t word i
 
   branches_keep : (s : State) (t : Token) (word : Condition) → StateKeeps P s → Goes (branches.branches s t word)
   branches_keep s t word i = in_files_keeps s s.files t word i

@@ -27,55 +27,47 @@ module _ (count : ℕ) where
   if_named_placed s file files t wanted None i all f k = k
   if_named_placed s file files t wanted (Some name) i all f k = begins_placed s file files t _ i all f k
 
-  if_placed : (s : State) (file : OpenFile) (files : List OpenFile) (t : Token) (wanted : Bool) → Placed s → All (FileIn (length s.names)) files →
-      FileIn (length s.names) file → In (length s.names) t → Tells count (branches.if_begins s file files t wanted)
-  if_placed s file files t wanted i all f k = by_test count (branches.skips_in file.conditionals) _ _ (begins_placed s file files t Over i all f k)
-      (if_named_placed (behind_next s) file files t wanted (next_name s) (behind_next_placed s i) all f k)
-
   branch_placed : (s : State) (file : OpenFile) (files : List OpenFile) (c : Conditional) (cs : List Conditional) (b : Branch) (last : Bool) → Placed s → All (FileIn (length s.names)) files →
       FirstIn (length s.names) c → All (FirstIn (length s.names)) cs → Tells count (branches.branch_begins s file files c cs b last)
   branch_placed s file files c cs b last i all f firsts = conditionals_placed s file files _ i all (All-cons (FirstIn (length s.names)) _ cs f firsts)
 
-  elsif_named_placed : (s : State) (file : OpenFile) (files : List OpenFile) (c : Conditional) (cs : List Conditional) (t : Token) (name : Option (List ℕ)) → Placed s → All (FileIn (length s.names)) files →
-      FirstIn (length s.names) c → All (FirstIn (length s.names)) cs → In (length s.names) t → Tells count (branches.elsif_named s file files c cs t name)
-  elsif_named_placed s file files c cs t None i all f firsts k = k
-  elsif_named_placed s file files c cs t (Some name) i all f firsts k = branch_placed s file files c cs _ false i all f firsts
+  behind_first_placed : (s : State) (file : OpenFile) (files : List OpenFile) (c : Conditional) (cs : List Conditional) (b : Branch) (last : Bool) → Placed s → All (FileIn (length s.names)) files →
+      All (FirstIn (length s.names)) (c ∷ cs) → Tells count (branches.branch_begins s file files c cs b last)
+  behind_first_placed s file files c cs b last i all firsts =
+      branch_placed s file files c cs b last i all (All-head (FirstIn (length s.names)) c cs firsts) (All-tail (FirstIn (length s.names)) c cs firsts)
 
-  elsif_placed : (s : State) (file : OpenFile) (files : List OpenFile) (c : Conditional) (cs : List Conditional) (t : Token) (b : Branch) → Placed s → All (FileIn (length s.names)) files →
-      FirstIn (length s.names) c → All (FirstIn (length s.names)) cs → In (length s.names) t → Tells count (branches.elsif_in s file files c cs t b)
-  elsif_placed s file files c cs t Waiting i all f firsts k = elsif_named_placed (behind_next s) file files c cs t (next_name s) (behind_next_placed s i) all f firsts k
-  elsif_placed s file files c cs t Taken i all f firsts k = branch_placed s file files c cs Over false i all f firsts
-  elsif_placed s file files c cs t Over i all f firsts k = branch_placed s file files c cs Over false i all f firsts
+  elsif_placed : (s : State) (file : OpenFile) (files : List OpenFile) (cs : List Conditional) (t : Token) (name : List ℕ) → Placed s → All (FileIn (length s.names)) files →
+      All (FirstIn (length s.names)) cs → In (length s.names) t → Tells count (branches.elsif_in s file files cs t name)
+  elsif_placed s file files [] t name i all firsts k = k
+  elsif_placed s file files (c ∷ cs) t name i all firsts k = by_test count c.last _ _ k (behind_first_placed s file files c cs _ false i all firsts)
 
-  conditional_placed : (s : State) (file : OpenFile) (files : List OpenFile) (c : Conditional) (cs : List Conditional) (t : Token) (word : Condition) → Placed s → All (FileIn (length s.names)) files →
-      FirstIn (length s.names) c → All (FirstIn (length s.names)) cs → In (length s.names) t → Tells count (branches.in_conditional s file files c cs t word)
-  conditional_placed s file files c cs t Elsif i all f firsts k = by_test count c.last _ _ k (elsif_placed s file files c cs t c.branch i all f firsts k)
-  conditional_placed s file files c cs t Else i all f firsts k = by_test count c.last _ _ k (branch_placed s file files c cs _ true i all f firsts)
-  conditional_placed s file files c cs t Endif i all f firsts k = conditionals_placed s file files cs i all firsts
-  conditional_placed s file files c cs t Ifdef i all f firsts k = conditionals_placed s file files cs i all firsts
-  conditional_placed s file files c cs t Ifndef i all f firsts k = conditionals_placed s file files cs i all firsts
+  elsif_named_placed : (s : State) (file : OpenFile) (files : List OpenFile) (t : Token) (name : Option (List ℕ)) → Placed s → All (FileIn (length s.names)) files →
+      FileIn (length s.names) file → In (length s.names) t → Tells count (branches.elsif_named s file files t name)
+  elsif_named_placed s file files t None i all f k = k
+  elsif_named_placed s file files t (Some name) i all f k = elsif_placed s file files file.conditionals t name i all f k
 
-  behind_first_placed : (s : State) (file : OpenFile) (files : List OpenFile) (c : Conditional) (cs : List Conditional) (t : Token) (word : Condition) → Placed s → All (FileIn (length s.names)) files →
-      All (FirstIn (length s.names)) (c ∷ cs) → In (length s.names) t → Tells count (branches.in_conditional s file files c cs t word)
-  behind_first_placed s file files c cs t word i all firsts k =
-      conditional_placed s file files c cs t word i all (All-head (FirstIn (length s.names)) c cs firsts) (All-tail (FirstIn (length s.names)) c cs firsts) k
+  else_placed : (s : State) (file : OpenFile) (files : List OpenFile) (cs : List Conditional) (t : Token) → Placed s → All (FileIn (length s.names)) files →
+      All (FirstIn (length s.names)) cs → In (length s.names) t → Tells count (branches.else_in s file files cs t)
+  else_placed s file files [] t i all firsts k = k
+  else_placed s file files (c ∷ cs) t i all firsts k = by_test count c.last _ _ k (behind_first_placed s file files c cs _ true i all firsts)
 
-  branching_placed : (s : State) (file : OpenFile) (files : List OpenFile) (cs : List Conditional) (t : Token) (word : Condition) → Placed s → All (FileIn (length s.names)) files →
-      FileIn (length s.names) file → All (FirstIn (length s.names)) cs → In (length s.names) t → Tells count (branches.branching s file files cs t word)
-  branching_placed s file files cs t Ifdef i all f firsts k = if_placed s file files t true i all f k
-  branching_placed s file files cs t Ifndef i all f firsts k = if_placed s file files t false i all f k
-  branching_placed s file files [] t Elsif i all f firsts k = k
-  branching_placed s file files [] t Else i all f firsts k = k
-  branching_placed s file files [] t Endif i all f firsts k = k
-  branching_placed s file files (c ∷ cs) t Elsif i all f firsts k = behind_first_placed s file files c cs t Elsif i all firsts k
-  branching_placed s file files (c ∷ cs) t Else i all f firsts k = behind_first_placed s file files c cs t Else i all firsts k
-  branching_placed s file files (c ∷ cs) t Endif i all f firsts k = behind_first_placed s file files c cs t Endif i all firsts k
+  endif_placed : (s : State) (file : OpenFile) (files : List OpenFile) (cs : List Conditional) (t : Token) → Placed s → All (FileIn (length s.names)) files →
+      All (FirstIn (length s.names)) cs → In (length s.names) t → Tells count (branches.endif_in s file files cs t)
+  endif_placed s file files [] t i all firsts k = k
+  endif_placed s file files (c ∷ cs) t i all firsts k = conditionals_placed s file files cs i all (All-tail (FirstIn (length s.names)) c cs firsts)
+
+  branching_placed : (s : State) (file : OpenFile) (files : List OpenFile) (t : Token) (word : Condition) → Placed s → All (FileIn (length s.names)) files →
+      FileIn (length s.names) file → In (length s.names) t → Tells count (branches.branching s file files t word)
+  branching_placed s file files t Ifdef i all f k = if_named_placed (behind_next s) file files t true (next_name s) (behind_next_placed s i) all f k
+  branching_placed s file files t Ifndef i all f k = if_named_placed (behind_next s) file files t false (next_name s) (behind_next_placed s i) all f k
+  branching_placed s file files t Elsif i all f k = elsif_named_placed (behind_next s) file files t (next_name s) (behind_next_placed s i) all f k
+  branching_placed s file files t Else i all f k = else_placed s file files file.conditionals t i all f k
+  branching_placed s file files t Endif i all f k = endif_placed s file files file.conditionals t i all f k
 
   in_files_placed : (s : State) (files : List OpenFile) (t : Token) (word : Condition) → Placed s → All (FileIn (length s.names)) files → In (length s.names) t → Tells count (branches.branching_in s files t word)
   in_files_placed s [] t word i all k = k
   in_files_placed s (file ∷ files) t word i all k =
-      let f = All-head (FileIn (length s.names)) file files all in
-      branching_placed s file files file.conditionals t word i (All-tail (FileIn (length s.names)) file files all) f f k
+      branching_placed s file files t word i (All-tail (FileIn (length s.names)) file files all) (All-head (FileIn (length s.names)) file files all) k
 
   pub branches_placed : (s : State) (t : Token) (word : Condition) → Placed s → In (length s.names) t → Tells count (branches.branches s t word)
   branches_placed s t word i k = in_files_placed s s.files t word i i.opens k

@@ -45,44 +45,37 @@ named_falls count w s file files t wanted None i = tt
 named_falls count w s file files t wanted (Some name) i = begins_falls count w s file files t _ i
 
 if_falls : (count w : ℕ) (s : State) (file : OpenFile) (files : List OpenFile) (t : Token) (wanted : Bool) → Within count w s → Falls count w (branches.if_begins s file files t wanted)
-if_falls count w s file files t wanted i = by_test count w (branches.skips_in file.conditionals) _ _ (λ _. begins_falls count w s file files t Over i) (λ _.
-    named_falls count w (behind_next s) file files t wanted (next_name s) (next_within count w s i))
+if_falls count w s file files t wanted i = named_falls count w (behind_next s) file files t wanted (next_name s) (next_within count w s i)
 
 branch_falls : (count w : ℕ) (s : State) (file : OpenFile) (files : List OpenFile) (c : Conditional) (cs : List Conditional) (b : Branch) (last : Bool) → Within count w s → Falls count w (branches.branch_begins s file files c cs b last)
 branch_falls count w s file files c cs b last i = settled count w s _ i (omega arith) i.spent i.loaded (omega arith) (omega arith)
 
-elsif_named_falls : (count w : ℕ) (s : State) (file : OpenFile) (files : List OpenFile) (c : Conditional) (cs : List Conditional) (t : Token) (name : Option (List ℕ)) → Within count w s → Falls count w (branches.elsif_named s file files c cs t name)
-elsif_named_falls count w s file files c cs t None i = tt
-elsif_named_falls count w s file files c cs t (Some name) i = branch_falls count w s file files c cs _ false i
+elsif_falls : (count w : ℕ) (s : State) (file : OpenFile) (files : List OpenFile) (cs : List Conditional) (t : Token) (name : List ℕ) → Within count w s → Falls count w (branches.elsif_in s file files cs t name)
+elsif_falls count w s file files [] t name i = tt
+elsif_falls count w s file files (c ∷ cs) t name i = by_test count w c.last _ _ (λ _. tt) (λ _. branch_falls count w s file files c cs _ false i)
 
-elsif_falls : (count w : ℕ) (s : State) (file : OpenFile) (files : List OpenFile) (c : Conditional) (cs : List Conditional) (t : Token) (b : Branch) → Within count w s → Falls count w (branches.elsif_in s file files c cs t b)
-elsif_falls count w s file files c cs t Waiting i = elsif_named_falls count w (behind_next s) file files c cs t (next_name s) (next_within count w s i)
-elsif_falls count w s file files c cs t Taken i = branch_falls count w s file files c cs Over false i
-elsif_falls count w s file files c cs t Over i = branch_falls count w s file files c cs Over false i
+elsif_named_falls : (count w : ℕ) (s : State) (file : OpenFile) (files : List OpenFile) (t : Token) (name : Option (List ℕ)) → Within count w s → Falls count w (branches.elsif_named s file files t name)
+elsif_named_falls count w s file files t None i = tt
+elsif_named_falls count w s file files t (Some name) i = elsif_falls count w s file files file.conditionals t name i
 
-closed_falls : (count w : ℕ) (s : State) (file : OpenFile) (files : List OpenFile) (cs : List Conditional) → Within count w s → Falls count w (goes (branches.with_conditionals s file files cs))
-closed_falls count w s file files cs i = settled count w s _ i (omega arith) i.spent i.loaded (omega arith) (omega arith)
+else_falls : (count w : ℕ) (s : State) (file : OpenFile) (files : List OpenFile) (cs : List Conditional) (t : Token) → Within count w s → Falls count w (branches.else_in s file files cs t)
+else_falls count w s file files [] t i = tt
+else_falls count w s file files (c ∷ cs) t i = by_test count w c.last _ _ (λ _. tt) (λ _. branch_falls count w s file files c cs _ true i)
 
-conditional_falls : (count w : ℕ) (s : State) (file : OpenFile) (files : List OpenFile) (c : Conditional) (cs : List Conditional) (t : Token) (word : Condition) → Within count w s → Falls count w (branches.in_conditional s file files c cs t word)
-conditional_falls count w s file files c cs t Elsif i = by_test count w c.last _ _ (λ _. tt) (λ _. elsif_falls count w s file files c cs t c.branch i)
-conditional_falls count w s file files c cs t Else i = by_test count w c.last _ _ (λ _. tt) (λ _. branch_falls count w s file files c cs _ true i)
-conditional_falls count w s file files c cs t Endif i = closed_falls count w s file files cs i
-conditional_falls count w s file files c cs t Ifdef i = closed_falls count w s file files cs i
-conditional_falls count w s file files c cs t Ifndef i = closed_falls count w s file files cs i
+endif_falls : (count w : ℕ) (s : State) (file : OpenFile) (files : List OpenFile) (cs : List Conditional) (t : Token) → Within count w s → Falls count w (branches.endif_in s file files cs t)
+endif_falls count w s file files [] t i = tt
+endif_falls count w s file files (c ∷ cs) t i = settled count w s _ i (omega arith) i.spent i.loaded (omega arith) (omega arith)
 
-branching_falls : (count w : ℕ) (s : State) (file : OpenFile) (files : List OpenFile) (cs : List Conditional) (t : Token) (word : Condition) → Within count w s → Falls count w (branches.branching s file files cs t word)
-branching_falls count w s file files cs t Ifdef i = if_falls count w s file files t true i
-branching_falls count w s file files cs t Ifndef i = if_falls count w s file files t false i
-branching_falls count w s file files [] t Elsif i = tt
-branching_falls count w s file files [] t Else i = tt
-branching_falls count w s file files [] t Endif i = tt
-branching_falls count w s file files (c ∷ cs) t Elsif i = conditional_falls count w s file files c cs t Elsif i
-branching_falls count w s file files (c ∷ cs) t Else i = conditional_falls count w s file files c cs t Else i
-branching_falls count w s file files (c ∷ cs) t Endif i = conditional_falls count w s file files c cs t Endif i
+branching_falls : (count w : ℕ) (s : State) (file : OpenFile) (files : List OpenFile) (t : Token) (word : Condition) → Within count w s → Falls count w (branches.branching s file files t word)
+branching_falls count w s file files t Ifdef i = if_falls count w s file files t true i
+branching_falls count w s file files t Ifndef i = if_falls count w s file files t false i
+branching_falls count w s file files t Elsif i = elsif_named_falls count w (behind_next s) file files t (next_name s) (next_within count w s i)
+branching_falls count w s file files t Else i = else_falls count w s file files file.conditionals t i
+branching_falls count w s file files t Endif i = endif_falls count w s file files file.conditionals t i
 
 in_files_falls : (count w : ℕ) (s : State) (files : List OpenFile) (t : Token) (word : Condition) → Within count w s → Falls count w (branches.branching_in s files t word)
 in_files_falls count w s [] t word i = tt
-in_files_falls count w s (file ∷ files) t word i = branching_falls count w s file files file.conditionals t word i
+in_files_falls count w s (file ∷ files) t word i = branching_falls count w s file files t word i
 
 branches_falls : (count w : ℕ) (s : State) (t : Token) (word : Condition) → Within count w s → Falls count w (branches.branches s t word)
 branches_falls count w s t word i = in_files_falls count w s s.files t word i

@@ -1,5 +1,6 @@
 // Conditionals (IEEE 1800-2017 clause 22.6).
 ghost use Rattle.std.specs.Prelude.{◌≡◌, ◌∷◌, OnOk};
+ghost use Rattle.sv_macro.specs.declared.words.Condition.TheVariants.{Elsif};
 ghost use Rattle.sv_preproc.specs.Branches as spec;
 ghost use Rattle.sv_preproc.specs.States.{behind_next, next_name};
 ghost use Rattle.sv_preproc.specs.Code.{seen, Turns};
@@ -73,15 +74,15 @@ impl State {
     fn begin_if(&mut self, file: OpenFile, first: Token, wanted: bool) -> Result<Turn, Fail>
         ensures { Turns (spec.if_begins (seen self.old) file self.old.files first wanted) (seen self.new) result }
     {
-        if file.skips() {
-            return self.begin_conditional(file, first, Branch::Over);
-        }
         let Some(name) = take_name(&mut self.coming)? else {
             return Err(broken(201, first));
         };
-        let known = self.macros.has(&name);
-        let test = if wanted { known } else { !known };
-        self.begin_conditional(file, first, branch_if(test))
+        let branch = if file.skips() {
+            Branch::Over
+        } else {
+            branch_if(self.macros.has(&name) == wanted)
+        };
+        self.begin_conditional(file, first, branch)
     }
 
     // The innermost conditional goes on with this branch.
@@ -105,42 +106,51 @@ impl State {
     }
 
     // Another branch with a test.
-    fn elsif(&mut self, file: OpenFile, innermost: Conditional, token: Token) -> Result<Turn, Fail>
-        ensures { Turns (spec.elsif_in (seen self.old) file self.old.files innermost file.conditionals token innermost.branch) (seen self.new) result }
+    fn elsif(&mut self, file: OpenFile, token: Token) -> Result<Turn, Fail>
+        ensures { Turns (spec.branching (seen self.old) file self.old.files token Elsif) (seen self.new) result }
     {
-        if innermost.branch != Branch::Waiting {
-            return self.next_branch(file, innermost, Branch::Over, false);
-        }
         let Some(name) = take_name(&mut self.coming)? else {
             return Err(broken(201, token));
         };
-        let branch = branch_if(self.macros.has(&name));
+        let mut file = file;
+        let Some(innermost) = file.conditionals.pop() else {
+            return Err(broken(205, token));
+        };
+        if innermost.last {
+            return Err(broken(205, token));
+        }
+        let branch = match innermost.branch {
+            Branch::Waiting => branch_if(self.macros.has(&name)),
+            Branch::Taken | Branch::Over => Branch::Over,
+        };
         self.next_branch(file, innermost, branch, false)
     }
 
-    // A directive that belongs to the innermost conditional.
-    fn go_on_conditional(
-        &mut self,
-        file: OpenFile,
-        innermost: Conditional,
-        token: Token,
-        word: Condition,
-    ) -> Result<Turn, Fail>
-        ensures { Turns (spec.in_conditional (seen self.old) file self.old.files innermost file.conditionals token word) (seen self.new) result }
+    // The last branch.
+    fn last_branch(&mut self, file: OpenFile, token: Token) -> Result<Turn, Fail>
+        ensures { Turns (spec.else_in (seen self.old) file self.old.files file.conditionals token) (seen self.new) result }
     {
-        match word {
-            Condition::Elsif if innermost.last => Err(broken(205, token)),
-            Condition::Elsif => self.elsif(file, innermost, token),
-            Condition::Else if innermost.last => Err(broken(205, token)),
-            Condition::Else => {
-                let branch = branch_of_else(innermost.branch);
-                self.next_branch(file, innermost, branch, true)
-            }
-            _ => {
-                self.files.push(file)?;
-                Ok(Turn::Go)
-            }
+        let mut file = file;
+        let Some(innermost) = file.conditionals.pop() else {
+            return Err(broken(205, token));
+        };
+        if innermost.last {
+            return Err(broken(205, token));
         }
+        let branch = branch_of_else(innermost.branch);
+        self.next_branch(file, innermost, branch, true)
+    }
+
+    // A conditional ends.
+    fn end_conditional(&mut self, file: OpenFile, token: Token) -> Result<Turn, Fail>
+        ensures { Turns (spec.endif_in (seen self.old) file self.old.files file.conditionals token) (seen self.new) result }
+    {
+        let mut file = file;
+        let Some(_innermost) = file.conditionals.pop() else {
+            return Err(broken(205, token));
+        };
+        self.files.push(file)?;
+        Ok(Turn::Go)
     }
 
     /// A directive that selects branches.
@@ -148,18 +158,14 @@ impl State {
         ensures { Turns (spec.branches (seen self.old) token word) (seen self.new) result }
     {
         let Some(file) = self.files.pop() else {
-            return Err(broken(205, token));
+            return Err(broken(201, token));
         };
         match word {
             Condition::Ifdef => self.begin_if(file, token, true),
             Condition::Ifndef => self.begin_if(file, token, false),
-            word => {
-                let mut file = file;
-                let Some(innermost) = file.conditionals.pop() else {
-                    return Err(broken(205, token));
-                };
-                self.go_on_conditional(file, innermost, token, word)
-            }
+            Condition::Elsif => self.elsif(file, token),
+            Condition::Else => self.last_branch(file, token),
+            Condition::Endif => self.end_conditional(file, token),
         }
     }
 }
