@@ -11,17 +11,42 @@ const CASES: &[(&str, &str, &str, &str)] = &[
     ("two", "z", "0", "0"),
     ("four packed 3 0", "1x0z", "[1 x 0 z]", "xxxx"),
     ("two packed 0 3", "1x01", "[1 0 0 1]", "0000"),
-    ("four packed 1 0 packed 0 1", "1x0z", "[[1 x] [0 z]]", "xxxx"),
+    (
+        "four packed 1 0 packed 0 1",
+        "1x0z",
+        "[[1 x] [0 z]]",
+        "xxxx",
+    ),
     ("two four struct 2", "xz", "[x z]", "xx"),
     ("two two struct 2", "xz", "[0 0]", "00"),
     ("two four plain 2", "xz", "[0 z]", "0x"),
-    ("two packed 1 0 four struct 2 packed 1 0", "xz1x00", "[[[x z] 1] [[x 0] 0]]", "xxxxxx"),
+    (
+        "two packed 1 0 four struct 2 packed 1 0",
+        "xz1x00",
+        "[[[x z] 1] [[x 0] 0]]",
+        "xxxxxx",
+    ),
     ("two packed 1 0 four packed 1 0 union 2", "xz", "xz", "xx"),
     ("two packed 1 0 two packed 1 0 union 2", "xz", "00", "00"),
     ("two packed 2 0 enum", "1x1", "101", "000"),
-    ("four packed 1 0 enum array 0 2", "x01101", "[x0 11 01]", "xxxxxx"),
-    ("two four plain 2 array 1 0", "xxzz", "[[0 x] [0 z]]", "0x0x"),
-    ("four packed -1 -2 array -3 -2", "01xz", "[[0 1] [x z]]", "xxxx"),
+    (
+        "four packed 1 0 enum array 0 2",
+        "x01101",
+        "[x0 11 01]",
+        "xxxxxx",
+    ),
+    (
+        "two four plain 2 array 1 0",
+        "xxzz",
+        "[[0 x] [0 z]]",
+        "0x0x",
+    ),
+    (
+        "four packed -1 -2 array -3 -2",
+        "01xz",
+        "[[0 1] [x z]]",
+        "xxxx",
+    ),
 ];
 
 fn bit(c: u8) -> Bit4 {
@@ -120,7 +145,10 @@ fn widths(rt: HostRuntime) -> Result<(), Fail> {
     assert!(rt; is_narrow(&most));
     let wide = type_of(alloc, "four packed 4194304 0")?;
     assert!(rt; !is_narrow(&wide));
-    let widest = type_of(alloc, "four packed 9223372036854775807 -9223372036854775808 array 1 65536")?;
+    let widest = type_of(
+        alloc,
+        "four packed 9223372036854775807 -9223372036854775808 array 1 65536",
+    )?;
     assert!(rt; !is_narrow(&widest));
     Ok(())
 }
