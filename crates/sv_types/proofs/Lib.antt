@@ -2,4 +2,7 @@ pub mod Lengths
 pub mod Cuts
 pub mod Marks
 pub mod Stored
+pub mod Picks
+pub mod Components
+pub mod ReadLaws
 mod Examples

@@ -12,3 +12,4 @@ pub mod Flows
 pub mod Statements
 pub mod Functions
 pub mod Machine
+pub mod Laws

@@ -5,6 +5,7 @@ mod convert;
 mod design;
 mod expression;
 mod frame;
+mod laws;
 mod statement;
 mod types;
 
@@ -18,6 +19,7 @@ pub use frame::{
     Binding, Frame, ParamType, ParamTypes, ParamValue, ParamValues, PortBinding, PortBindings,
     SignalId, SignalIds,
 };
+pub use laws::{element_is_read, member_is_read, outside_is_unknown, whole_is_read};
 pub use statement::{
     CaseItem, CaseItems, CaseKind, Formal, Formals, Function, FunctionKind, Functions, Local,
     Locals, Outcome, Spots, Stmt, Stmts, Way,

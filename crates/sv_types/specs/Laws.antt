@@ -1,0 +1,52 @@
+-- What select paths read, said of values as lists of members and elements (IEEE 1800-2017 clauses 7.2.1, 7.4.5 and 7.4.6). Each
+-- law is the contract of a function of this crate.
+use Rattle.std.specs.Prelude.{◌≡◌, ◌⊎◌, ℕ, ◌+◌, ◌<◌, ◌*◌, Bool, ℤ, ◌-ℤ◌, ◌≤ℤ◌, ◌<ℤ◌, unsigned_abs, ⊤, List, [], ◌∷◌, length, Option, Some, None, slice_get, replicate}
+use Rattle.std.specs.List.{AllZip}
+use Rattle.b4_core.specs.declared.bit.Bit4.{Bit4}
+use Rattle.b4_core.specs.declared.bit.Bit4.TheVariants.{X}
+use Rattle.sv_types.specs.declared.types.Member.{Member}
+use Rattle.sv_types.specs.declared.types.SvType.TheVariants.{Struct}
+use Rattle.sv_types.specs.declared.types.Value.{Value}
+use Rattle.sv_types.specs.declared.types.Value.TheVariants.{Items}
+use Rattle.sv_types.specs.Layouts.{Layout, layout, width_of, count_of}
+use Rattle.sv_types.specs.Values.{bits}
+use Rattle.sv_types.specs.Windows.{Window, whole, seen, member_of, element_of}
+
+-- the path reads this value
+abbrev pub Reads : List Bit4 → Window → Value → Type 0
+Reads held path v = seen held path (length (bits v)) ≡ bits v
+
+-- a value as wide as a member
+abbrev pub FitsMember : Member → Value → Type 0
+FitsMember m v = length (bits v) ≡ width_of m.of
+
+-- a whole signal or local reads what it holds
+abbrev pub WholeIsRead : Type 0
+WholeIsRead = (v : Value) → Reads (bits v) (whole (length (bits v))) v
+
+-- where a path reads a struct, its step to member k reads component k
+abbrev pub MemberIsRead : Type 0
+MemberIsRead = (id : ℕ) (packed signed : Bool) (ms : List Member) (vs : List Value) (held : List Bit4) (path : Window) (k : ℕ) (v : Value)
+    → AllZip FitsMember ms vs → Reads held path (Items vs) → slice_get vs k ≡ Some v
+    → Reads held (member_of (slice_get (layout (Struct id packed signed ms)).members k) path) v
+
+-- the index lies between the bounds
+abbrev pub Between : Layout → ℤ → Type 0
+Between of i = ((of.right ≤ℤ i) × (i ≤ℤ of.left)) ⊎ ((of.left ≤ℤ i) × (i ≤ℤ of.right))
+
+-- each element has this many bits
+abbrev pub EachIsWide : ℕ → List Value → Type 0
+EachIsWide w [] = ⊤
+EachIsWide w (v ∷ vs) = (length (bits v) ≡ w) × EachIsWide w vs
+
+-- where a path reads an array, its step by an index between the bounds reads the element that stands so far from the left bound
+abbrev pub ElementIsRead : Type 0
+ElementIsRead = (of : Layout) (vs : List Value) (held : List Bit4) (path : Window) (i : ℤ) (v : Value)
+    → EachIsWide (length of.element.two_state) vs → count_of of.left of.right ≡ length vs → Between of i
+    → Reads held path (Items vs) → slice_get vs (unsigned_abs (of.left -ℤ i)) ≡ Some v → Reads held (element_of of (Some i) path) v
+
+-- outside of them, and where it is unknown, each bit is x, as in the default of a four-state element
+abbrev pub OutsideIsUnknown : Type 0
+OutsideIsUnknown = (of : Layout) (held : List Bit4) (path : Window) (n : ℕ)
+    → (seen held (element_of of None path) n ≡ replicate n X)
+      × ((i : ℤ) → (Between of i → ⊥) → seen held (element_of of (Some i) path) n ≡ replicate n X)
