@@ -5,4 +5,5 @@ pub mod Stored
 pub mod Picks
 pub mod Components
 pub mod ReadLaws
+pub mod WriteLaws
 mod Examples

@@ -1,25 +1,23 @@
 -- What select paths read: the laws of the crate's contracts.
-use Rattle.std.proofs.Common.{◌≡◌, ◌⊎◌, inl, inr, ℕ, zero, suc, ◌+◌, ◌-◌, ◌*◌, ◌<◌, ◌≤◌, Bool, true, false, ◌&&◌, cond, ℤ, pos, negsuc, ◌+ℤ◌, ◌-ℤ◌, ◌*ℤ◌, ◌≤ℤ◌, ◌<ℤ◌, List, [], ◌∷◌, ◌++◌, length, map, take, drop, replicate, Option, Some, None, refl, arith, ap, sym, ◌∙◌, subst}
+use Rattle.std.proofs.Common.{◌≡◌, inl, inr, ℕ, zero, suc, ◌+◌, ◌*◌, ◌<◌, ◌≤◌, Bool, true, false, ◌&&◌, cond, ℤ, pos, ◌+ℤ◌, ◌-ℤ◌, List, [], ◌∷◌, length, map, take, drop, replicate, Some, None, refl, arith, ap, sym, ◌∙◌, subst}
 use Rattle.std.specs.Prelude.{slice_get, slice_index_or, unsigned_abs, int_le, int_lt}
-use Rattle.std.specs.List.{AllZip}
 use Rattle.std.proofs.lemmas.Int.{ints}
 use Rattle.std.proofs.lemmas.Bool.Decides.{nat_tests}
 use Rattle.b4_core.specs.declared.bit.Bit4.{Bit4}
 use Rattle.b4_core.specs.declared.bit.Bit4.TheVariants.{X}
-use Rattle.sv_types.specs.declared.types.Member.{Member}
 use Rattle.sv_types.specs.declared.types.SvType.TheVariants.{Struct}
 use Rattle.sv_types.specs.declared.types.Value.{Value}
 use Rattle.sv_types.specs.declared.types.Value.TheVariants.{Items}
-use Rattle.sv_types.specs.Layouts.{Layout, Part, layout, member_layout, stacked, above_the_next, count_of}
+use Rattle.sv_types.specs.Layouts.{Layout, layout, stacked, count_of}
 use Rattle.sv_types.specs.Values.{bits}
 use Rattle.sv_types.specs.Windows.{Window, whole, nowhere, seen, picked, bit_at, tabulated, part, member_of, element_of, elements, rank, falls}
-use Rattle.sv_types.specs.Laws.{Reads, FitsMember, EachIsWide, Between, WholeIsRead, MemberIsRead, ElementIsRead, OutsideIsUnknown}
+use Rattle.sv_types.specs.Laws.{Reads, Between, WholeIsRead, MemberIsRead, ElementIsRead, OutsideIsUnknown}
 use Rattle.sv_types.proofs.Lengths.{layout-Struct}
 use Rattle.sv_types.proofs.Cuts.{bits-Items}
 use Rattle.sv_types.proofs.Picks.{seen-part, tabulated-same, nothing-there}
-use Rattle.sv_types.proofs.Components.{member-there, element-there, Component, Element}
+use Rattle.sv_types.proofs.Components.{member-there, element-there}
 
-tabulated-list : (xs : List Bit4) → tabulated (length xs) (λ j. slice_index_or xs j X) ≡ xs
+pub tabulated-list : (xs : List Bit4) → tabulated (length xs) (λ j. slice_index_or xs j X) ≡ xs
 tabulated-list [] = refl
 tabulated-list (x ∷ xs) = ap (λ ys. x ∷ ys) (tabulated-list xs)
 
@@ -56,7 +54,7 @@ pub record Ranked (of : Layout) (i : ℤ) : Type 0 where
   pub is : rank of i ≡ pos below
   pub count : unsigned_abs (of.left -ℤ i) + below + 1 ≡ count_of of.left of.right
 
-ranked-by : (b : Bool) (of : Layout) (i : ℤ) → falls of ≡ b → Between of i → Ranked of i
+pub ranked-by : (b : Bool) (of : Layout) (i : ℤ) → falls of ≡ b → Between of i → Ranked of i
 ranked-by true of i is between = record {
   below = unsigned_abs (i -ℤ of.right);
   is = ap (λ b. cond b (i -ℤ of.right) (of.right -ℤ i)) is ∙ grind (arith, ints);
@@ -107,6 +105,14 @@ outside-by : (b : Bool) (of : Layout) (held : List Bit4) (path : Window) (n : �
     → seen held (cond b (elements of (rank of i) 1 path) nowhere) n ≡ replicate n X
 outside-by true of held path n i out is = absurd (out (between-by (falls of) of i refl is))
 outside-by false of held path n i out is = nowhere-read held n
+
+nowhere-by : (b : Bool) (of : Layout) (path : Window) (i : ℤ) → (Between of i → ⊥)
+    → (int_le (pos 0) (rank of i) && int_lt (rank of i) (pos (count_of of.left of.right))) ≡ b → cond b (elements of (rank of i) 1 path) nowhere ≡ nowhere
+nowhere-by true of path i out is = absurd (out (between-by (falls of) of i refl is))
+nowhere-by false of path i out is = refl
+
+pub outside-nowhere : (of : Layout) (path : Window) (i : ℤ) → (Between of i → ⊥) → element_of of (Some i) path ≡ nowhere
+outside-nowhere of path i out = nowhere-by (int_le (pos 0) (rank of i) && int_lt (rank of i) (pos (count_of of.left of.right))) of path i out refl
 
 pub outside_is_unknown : OutsideIsUnknown
 outside_is_unknown of held path n =

@@ -19,7 +19,10 @@ pub use frame::{
     Binding, Frame, ParamType, ParamTypes, ParamValue, ParamValues, PortBinding, PortBindings,
     SignalId, SignalIds,
 };
-pub use laws::{element_is_read, member_is_read, outside_is_unknown, whole_is_read};
+pub use laws::{
+    element_is_read, element_is_written, member_is_read, member_is_written, others_are_kept,
+    outside_is_unknown, whole_is_read,
+};
 pub use statement::{
     CaseItem, CaseItems, CaseKind, Formal, Formals, Function, FunctionKind, Functions, Local,
     Locals, Outcome, Spots, Stmt, Stmts, Way,
