@@ -1,5 +1,0 @@
-pub mod Depths
-pub mod Kept
-pub mod Lengths
-pub mod OneReading
-mod Numbers
