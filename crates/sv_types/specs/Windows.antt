@@ -1,7 +1,7 @@
--- Members, elements and slices as windows of bits (IEEE 1800-2017 clauses 7.2.1, 7.4.5, 7.4.6 and 11.5.1).
+-- The bits that a select path names (IEEE 1800-2017 clauses 7.4.5, 7.4.6 and 11.5.1), by the windows that both languages share.
 use Rattle.std.specs.Prelude.{ℕ, ◌-◌, ◌*◌, Bool, true, false, ◌&&◌, cond, ℤ, pos, ◌+ℤ◌, ◌-ℤ◌, ◌*ℤ◌, int_le, int_lt, length, Option, Some, None}
-pub use Rattle.picks.specs.Windows.{Window, whole, nowhere, at_least_0, trimmed, part, within, picked, bit_at, tabulated, seen, written}
 use Rattle.sv_types.specs.Layouts.{Layout, Part, count_of}
+pub use Rattle.picks.specs.Windows.{Window, whole, nowhere, at_least_0, trimmed, part, within, picked, bit_at, tabulated, seen, written}
 
 -- a member
 abbrev pub member_of : Option Part → Window → Window
