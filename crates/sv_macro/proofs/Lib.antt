@@ -1,3 +1,4 @@
 pub mod Placed
 pub mod FormalLists
 pub mod Directories
+pub mod Lists
