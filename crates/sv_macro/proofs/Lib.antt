@@ -1,4 +1,6 @@
 pub mod Placed
 pub mod FormalLists
 pub mod Directories
-pub mod Lists
+pub mod Topmost
+pub mod Whole
+pub mod Taken

@@ -55,3 +55,11 @@ brackets_behind (Closes b) open_brackets = closing_one b open_brackets
 brackets_behind ClosesStar open_brackets = closing_one Round open_brackets
 brackets_behind Comma open_brackets = open_brackets
 brackets_behind Other open_brackets = open_brackets
+
+-- the parenthesis that begins a list of arguments
+abbrev pub is_parenthesis_kind : Kind → Token → Bool
+is_parenthesis_kind Mark t = is t (codes "(")
+is_parenthesis_kind _ t = false
+
+abbrev pub is_parenthesis : Token → Bool
+is_parenthesis t = is_parenthesis_kind t.kind t

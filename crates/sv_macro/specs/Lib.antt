@@ -9,3 +9,4 @@ pub mod Tables
 pub mod Brackets
 pub mod Lists
 pub mod Waiting
+pub mod Surveys

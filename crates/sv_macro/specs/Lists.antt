@@ -13,6 +13,7 @@ use Rattle.sv_macro.specs.declared.brackets.Bracket.{Bracket}
 use Rattle.sv_macro.specs.declared.brackets.Bracket.TheVariants.{Round, Square, Curly}
 use Rattle.sv_macro.specs.declared.brackets.Sign.{Sign}
 use Rattle.sv_macro.specs.declared.brackets.Sign.TheVariants.{Opens, Closes, ClosesStar, Comma, Other}
+use Rattle.sv_macro.specs.declared.lists.Survey.{Survey}
 use Rattle.sv_macro.specs.declared.coming.Coming.{Coming}
 use Rattle.sv_macro.specs.declared.coming.Coming.TheVariants.{Raw, Kept, FileEnd, UseEnd}
 
@@ -119,6 +120,16 @@ abbrev pub is_bare : List (List Coming) → Bool
 is_bare (argument ∷ []) = all_newlines argument
 is_bare _ = false
 
+-- what a macro's use has to know of a list
+abbrev pub survey : Taken → Survey
+survey k = record {
+  barred = first_of is_barred k.arguments;
+  cut = first_of is_cut k.arguments;
+  closed = k.closed;
+  count = length k.arguments;
+  bare = is_bare k.arguments;
+}
+
 -- an empty list of formals takes a list without tokens, and any other as many arguments as it has formals
-abbrev pub fits : ℕ → List (List Coming) → Bool
-fits arity arguments = if arity == 0 then is_bare arguments else length arguments == arity
+abbrev pub fits : ℕ → Survey → Bool
+fits arity list = if arity == 0 then list.bare else list.count == arity

@@ -101,3 +101,8 @@ Marked (item ∷ items) = (stops item.what ≡ false → item.list ≡ first_lis
 pub record Tops (top : Item) (coming : List Coming) : Type 0 where
   pub is : coming ≡ top.what ∷ drop 1 coming
   pub list : stops top.what ≡ false → top.list ≡ first_list (waiting (drop 1 coming))
+
+-- the lists behind these brackets
+abbrev pub unwound : List Bracket → List Waiting → List Waiting
+unwound [] ws = ws
+unwound (b ∷ bs) ws = unwound bs (behind_kind b ws)

@@ -86,6 +86,16 @@ pub fn sign_of(token: &Token) -> Sign
     }
 }
 
+/// Whether it is the parenthesis that begins a list of arguments.
+pub fn is_parenthesis(token: &Token) -> bool
+    ensures { result ≡ spec.is_parenthesis token.now }
+{
+    match token.kind {
+        Kind::Mark => is(token, b"("),
+        _ => false,
+    }
+}
+
 /// Whether both are of one kind.
 pub fn same_bracket(first: Bracket, second: Bracket) -> bool
     ensures { result ≡ spec.same_bracket first second }

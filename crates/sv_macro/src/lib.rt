@@ -13,6 +13,8 @@ pub mod formals;
 pub mod including;
 /// What comes next, past newlines.
 pub mod lines;
+/// Lists of arguments.
+pub mod lists;
 /// Macros and the parts of their bodies.
 pub mod macros;
 /// What is still to come, with the lists in it.

@@ -1,8 +1,9 @@
 pub mod States
-pub mod Calls
+pub mod Uses
 pub mod Branches
 pub mod Expansion
 pub mod Runs
+pub mod Machine
 pub mod Code
 pub mod Answers
 pub mod Left

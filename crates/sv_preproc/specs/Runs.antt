@@ -9,9 +9,12 @@ use Rattle.sv_lexer.specs.Lexing.{behind_bytes, tokens_of}
 use Rattle.sv_macro.specs.Macros.{Macros, defined, parts_of}
 use Rattle.sv_preproc.specs.declared.settings.Define.{Define}
 use Rattle.sv_macro.specs.Including.{Held, first_held, Tried}
-use Rattle.sv_preproc.specs.States.{State, Step, goes, looks, done, breaks, file_limit, files_limit}
+use Rattle.sv_macro.specs.Lists.{taken}
+use Rattle.sv_preproc.specs.States.{State, Step, goes, gives, takes, looks, done, breaks, file_limit, files_limit, broken, with_coming}
+use Rattle.sv_preproc.specs.Uses.{delivered, expanded}
 use Rattle.sv_preproc.specs.Expansion.{step, head_place}
 use Rattle.sv_preproc.specs.declared.settings.Settings.{Settings}
+use Rattle.sv_macro.specs.declared.coming.Coming.{Coming}
 use Rattle.sv_macro.specs.declared.coming.Coming.TheVariants.{Raw, FileEnd}
 use Rattle.sv_preproc.specs.declared.turn.Search.{Search}
 
@@ -35,7 +38,7 @@ start set = record {
   coming = [];
   macros = command_macros set.defines;
   files = [];
-  calls = [];
+  inside = false;
   uses = 0;
   next = 0;
   names = [];
@@ -64,36 +67,14 @@ abbrev pub lost : ℕ → Search → State → Step
 lost rule search s =
     breaks (record { rule = rule; place = search.place; word = search.word }) (if search.top then s.names ++ search.word ∷ [] else s.names)
 
+-- the file that a search finds: it is too long, or files nest too deep, or its tokens come next
+abbrev pub found_in : Search → State → Held → Option Token → Step
+found_in search s held (Some t) = broken s 206 t
+found_in search s held None = goes (opened search.top s held)
+
 abbrev pub found : Search → State → Option Held → Step
 found search s None = lost 101 search s
-found search s (Some held) = elim (nat_lt (room_left s) (length held.bytes)) [ true ↦ lost 102 search s | false ↦ goes (opened search.top s held) ]
-
--- some way through an expansion
-pub data Run : Type 0 where
-  running : State → Run
-  ended : Outcome → Run
-
-abbrev pub without_search : Step → Run
-without_search (goes s) = running s
-without_search (looks search s) = running s
-without_search (done s) = ended (expands (s.delivered ++ end_token s.ending ∷ []) s.names)
-without_search (breaks r names) = ended (refused r names)
-
-abbrev pub with_files : Contents → Step → Run
-with_files contents (looks search s) = without_search (found search s (first_held contents search.paths))
-with_files contents other = without_search other
-
-abbrev pub one_more : Settings → Contents → Run → Run
-one_more set contents (running s) = with_files contents (step set s)
-one_more set contents (ended outcome) = ended outcome
-
-abbrev pub after : Settings → Contents → ℕ → Run → Run
-after set contents zero run = run
-after set contents (suc n) run = after set contents n (one_more set contents run)
-
--- the expansion of the settings, with these files, comes to this
-abbrev pub Expands : Settings → Contents → Outcome → Type 0
-Expands set contents outcome = (n : ℕ) × (after set contents n (running (start set)) ≡ ended outcome)
+found search s (Some held) = elim (nat_lt (room_left s) (length held.bytes)) [ true ↦ lost 102 search s | false ↦ found_in search s held search.deep ]
 
 -- what a search finds: where the contents of the files are told, the first of its paths that isn't absent; else a file at
 -- one of its paths, or none
@@ -103,38 +84,95 @@ pub record Finds (told : Option Contents) (paths : List (List ℕ)) (held : Opti
 
 abbrev pub FindsFor : Option Contents → Step → Option Held → Type 0
 FindsFor told (goes s) held = Unit {0}
+FindsFor told (gives t s) held = Unit {0}
+FindsFor told (takes t s) held = Unit {0}
 FindsFor told (looks search s) held = Finds told search.paths held
 FindsFor told (done s) held = Unit {0}
 FindsFor told (breaks r names) held = Unit {0}
 
-abbrev pub with_found : Option Held → Step → Run
-with_found held (goes s) = running s
-with_found held (looks search s) = without_search (found search s held)
-with_found held (done s) = without_search (done s)
-with_found held (breaks r names) = without_search (breaks r names)
+-- what a step comes to, with what it finds: a token that is given is delivered
+abbrev pub turned : Option Held → Step → Step
+turned held (goes s) = goes s
+turned held (gives t s) = delivered s t
+turned held (takes t s) = takes t s
+turned held (looks search s) = found search s held
+turned held (done s) = done s
+turned held (breaks r names) = breaks r names
 
--- a run comes to an outcome by what its searches find, which may be told
-pub data RunComes (set : Settings) (told : Option Contents) (outcome : Outcome) : Run → Type 0 where
-  at_end : {run : Run} → run ≡ ended outcome → RunComes set told outcome run
-  by_step : {run : Run} (s : State) (held : Option Held) → run ≡ running s → FindsFor told (step set s) held
-      → RunComes set told outcome (with_found held (step set s)) → RunComes set told outcome run
+pub record Turns (set : Settings) (told : Option Contents) (s : State) (st : Step) : Type 0 where
+  pub held : Option Held
+  pub finds : FindsFor told (step set s) held
+  pub is : turned held (step set s) ≡ st
 
--- the expansion of the settings comes to this, by what its searches find
+-- Where an expansion stands: at a state; or at a use whose arguments are expanded from left to right, with the arguments
+-- that are left, those that were expanded, and the state behind the list.
+pub data Point : Type 0 where
+  at : State → Point
+  fills : Token → List (List Coming) → List (List Token) → State → Point
+
+-- an argument is expanded alone
+abbrev pub argument_state : List Coming → State → State
+argument_state argument s = record s { coming = argument; inside = true; delivered = [] }
+
+-- behind an argument all goes on as before it, but for what was counted
+abbrev pub behind_argument : State → State → State
+behind_argument s end = record end { coming = s.coming; inside = s.inside; delivered = s.delivered }
+
+-- what an expansion ends with: a state at which nothing comes, a broken rule, or the path of a load that fails
+pub data Ending : Type 0 where
+  finished : State → Ending
+  stopped : Refusal → List (List ℕ) → Ending
+  failed : List ℕ → Ending
+
+abbrev pub IsUnfinished : Ending → Type 0
+IsUnfinished (finished s) = ⊥
+IsUnfinished (stopped r names) = Unit {0}
+IsUnfinished (failed path) = Unit {0}
+
+-- a load of this path may fail
+abbrev pub MayFail : Option Contents → Step → List ℕ → Type 0
+MayFail told (looks search s) path = (contents : Contents) → told ≡ Some contents → Tried contents search.paths path
+MayFail told (goes s) path = ⊥
+MayFail told (gives t s) path = ⊥
+MayFail told (takes t s) path = ⊥
+MayFail told (done s) path = ⊥
+MayFail told (breaks r names) path = ⊥
+
+-- The expansion comes from a point to an ending, one case after another. A use with a list of arguments is one case: the
+-- list is taken whole, each argument is expanded by the relation itself, and then the body is placed.
+pub data Leads (set : Settings) (told : Option Contents) (e : Ending) : Point → Type 0 where
+  ends : (s t : State) → Turns set told s (done t) → e ≡ finished t → Leads set told e (at s)
+  breaks_at : (s : State) (r : Refusal) (names : List (List ℕ)) → Turns set told s (breaks r names) → e ≡ stopped r names → Leads set told e (at s)
+  fails_at : (s : State) (path : List ℕ) → MayFail told (step set s) path → e ≡ failed path → Leads set told e (at s)
+  goes_on : (s t : State) → Turns set told s (goes t) → Leads set told e (at t) → Leads set told e (at s)
+  uses : (s t : State) (used : Token) → Turns set told s (takes used t)
+      → Leads set told e (fills used (taken [] t.coming).arguments [] (with_coming t (taken [] t.coming).behind)) → Leads set told e (at s)
+  places : (used : Token) (arguments : List (List Token)) (s t : State) → expanded s used arguments ≡ goes t → Leads set told e (at t) → Leads set told e (fills used [] arguments s)
+  unplaced : (used : Token) (arguments : List (List Token)) (s : State) (r : Refusal) (names : List (List ℕ)) → expanded s used arguments ≡ breaks r names → e ≡ stopped r names
+      → Leads set told e (fills used [] arguments s)
+  fills_next : (used : Token) (argument : List Coming) (rest : List (List Coming)) (arguments : List (List Token)) (s t : State)
+      → Leads set told (finished t) (at (argument_state argument s))
+      → Leads set told e (fills used rest (arguments ++ t.delivered ∷ []) (behind_argument s t)) → Leads set told e (fills used (argument ∷ rest) arguments s)
+  fills_none : (used : Token) (argument : List Coming) (rest : List (List Coming)) (arguments : List (List Token)) (s : State) → IsUnfinished e
+      → Leads set told e (at (argument_state argument s)) → Leads set told e (fills used (argument ∷ rest) arguments s)
+
+-- the expansion of the settings comes to this; by the files, where their contents are told, else by what searches find
+pub record Expands (set : Settings) (told : Option Contents) (ts : List Token) (names : List (List ℕ)) : Type 0 where
+  pub last : State
+  pub leads : Leads set told (finished last) (at (start set))
+  pub tokens : ts ≡ last.delivered ++ end_token last.ending ∷ []
+  pub files : names ≡ last.names
+
 abbrev pub Comes : Settings → Option Contents → Outcome → Type 0
-Comes set told outcome = RunComes set told outcome (running (start set))
+Comes set told (expands ts names) = Expands set told ts names
+Comes set told (refused r names) = Leads set told (stopped r names) (at (start set))
 
 -- the expansion looks for a file at this path
-pub record LooksAt (set : Settings) (contents : Contents) (path : List ℕ) : Type 0 where
-  pub turns : ℕ
-  pub state : State
-  pub next : State
-  pub search : Search
-  pub comes : after set contents turns (running (start set)) ≡ running state
-  pub wants : step set state ≡ looks search next
-  pub tried : Tried contents search.paths path
+abbrev pub LooksAt : Settings → Contents → List ℕ → Type 0
+LooksAt set contents path = Leads set (Some contents) (failed path) (at (start set))
 
 -- it comes to one outcome: tokens or a refusal, and not both
 pub record HasOutcome (set : Settings) (contents : Contents) : Type 0 where
   pub outcome : Outcome
-  pub comes : Expands set contents outcome
-  pub only : (other : Outcome) → Expands set contents other → other ≡ outcome
+  pub comes : Comes set (Some contents) outcome
+  pub only : (other : Outcome) → Comes set (Some contents) other → other ≡ outcome

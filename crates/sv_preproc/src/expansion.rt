@@ -16,6 +16,7 @@ use std::alloc::{AllocError, Global};
 use std::mem;
 use sv_macro::definition::parts_of;
 use sv_macro::macros::Macro;
+use sv_macro::pending::Pending;
 use sv_macro::stack::Stack;
 use sv_macro::table::Table;
 use sv_source::{Fail, FileNames, Files, Kind, Place, Refusal, Text, Token, Tokens};
@@ -46,7 +47,7 @@ impl State {
         ensures { IfOk result (λ state. seen state ≡ spec.start set.now) }
     {
         Ok(State {
-            coming: Stack::new(alloc),
+            coming: Pending::new(alloc),
             macros: command_macros(alloc, set.defines.as_slice())?,
             files: Stack::new(alloc),
             calls: Stack::new(alloc),

@@ -8,9 +8,8 @@ use crate::settings::ExpandFail;
 use crate::state::{OpenFile, State};
 use std::alloc::{AllocError, Global};
 use sv_lexer::{lex, place_behind};
-use sv_macro::coming::Coming;
 use sv_macro::stack::Stack;
-use sv_source::{Files, Loaded, Place, Text, Tokens};
+use sv_source::{Files, Loaded, Place, Text};
 
 /// What stands at the first of some paths that isn't absent.
 #[derive(Drop, Debug)]
@@ -53,17 +52,6 @@ pub fn load_first<F: Files>(
     Ok(Found::Absent)
 }
 
-// The tokens of a file come next.
-fn push_raw(coming: &mut Stack<Coming>, tokens: Tokens) -> Result<(), AllocError>
-    ensures { OnOk result (coming.new ≡ map Coming.Raw tokens ++ coming.old) }
-{
-    let mut tokens = tokens;
-    while let Some(token) = tokens.pop() {
-        coming.push(Coming::Raw(token))?;
-    }
-    Ok(())
-}
-
 impl State {
     /// The most bytes that the next file may have.
     pub fn room_left(&self) -> u64
@@ -91,8 +79,7 @@ impl State {
             col: 1,
         };
         let tokens = lex(alloc, start.file, bytes)?;
-        self.coming.push(Coming::FileEnd)?;
-        push_raw(&mut self.coming, tokens)?;
+        self.coming.push_file(alloc, tokens)?;
         self.files.push(OpenFile {
             path: path.copy(alloc)?,
             conditionals: Stack::new(alloc),

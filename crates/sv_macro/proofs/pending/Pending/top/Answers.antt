@@ -1,4 +1,4 @@
-use Rattle.sv_macro.proofs.Lists.{topmost}
+use Rattle.sv_macro.proofs.Topmost.{topmost}
 use Rattle.sv_macro.proofs.pending.Pending.top.Goals as goal
 
 pub returns : goal.returns
