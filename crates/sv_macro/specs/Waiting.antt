@@ -106,3 +106,8 @@ pub record Tops (top : Item) (coming : List Coming) : Type 0 where
 abbrev pub unwound : List Bracket → List Waiting → List Waiting
 unwound [] ws = ws
 unwound (b ∷ bs) ws = unwound bs (behind_kind b ws)
+
+-- how long the list is that begins behind what comes next, unless no list goes on behind that
+abbrev pub NextList : Option ListSize → List Coming → Type 0
+NextList size [] = Unit {0}
+NextList size (item ∷ rest) = stops item ≡ false → size ≡ first_list (waiting rest)

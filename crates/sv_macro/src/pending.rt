@@ -78,6 +78,16 @@ impl Pending {
         self.items.top()
     }
 
+    /// The list that would begin behind what comes next.
+    pub fn next_list(&self) -> Option<ListSize>
+        ensures { spec.NextList result self.now }
+    {
+        match self.top() {
+            Some(item) => item.list,
+            None => None,
+        }
+    }
+
     /// Takes off what comes next.
     pub fn pop(&mut self) -> Option<Coming>
         ensures { MatchOption result ((self.old ≡ []) × (self.new ≡ [])) (λ top. self.old ≡ top ∷ self.new) }

@@ -141,13 +141,9 @@ next_file s None = done s
 next_file s (Some path) =
     looks (record { paths = path ∷ []; top = true; place = head_place s; word = path; deep = None }) (record s { next = s.next + 1 })
 
--- nothing comes of an argument that is at its end
-abbrev pub text_ends : Settings → State → Step
-text_ends set s = elim s.inside [ true ↦ done s | false ↦ next_file s (slice_get set.files s.next) ]
-
 -- one step
 abbrev pub step_at : Settings → State → List Coming → Step
-step_at set s [] = text_ends set s
+step_at set s [] = next_file s (slice_get set.files s.next)
 step_at set s (Raw t ∷ coming) = raw set (with_coming s coming) t
 step_at set s (Kept t ∷ coming) = gives t (with_coming s coming)
 step_at set s (FileEnd ∷ coming) = file_ends (with_coming s coming) s.files

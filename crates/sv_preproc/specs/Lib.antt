@@ -2,8 +2,9 @@ pub mod States
 pub mod Uses
 pub mod Branches
 pub mod Expansion
-pub mod Runs
+pub mod Searches
 pub mod Machine
+pub mod Runs
 pub mod Code
 pub mod Answers
 pub mod Left

@@ -1,4 +1,5 @@
--- The expansion as the program does it: the arguments of calls are expanded in place, without a run of their own.
+-- The expansion, a move at a time (IEEE 1800-2017 clause 22): the arguments of a call are expanded in place, from left to
+-- right, once the call was taken whole, and then its body is placed.
 use Rattle.std.specs.Prelude.{◌≡◌, ℕ, ◌==◌, Bool, true, false, List, [], ◌∷◌, ◌++◌, Option, Some, None}
 use Rattle.sv_source.specs.declared.token.Token.{Token}
 use Rattle.sv_source.specs.declared.refusal.Refusal.{Refusal}
@@ -14,6 +15,9 @@ use Rattle.sv_preproc.specs.States as spec
 use Rattle.sv_preproc.specs.States.{State, Step}
 use Rattle.sv_preproc.specs.Uses as uses
 use Rattle.sv_preproc.specs.Expansion.{step}
+use Rattle.sv_source.specs.Loading.{Contents}
+use Rattle.sv_macro.specs.Including.{Held, Tried}
+use Rattle.sv_preproc.specs.Searches.{Ending, finished, stopped, failed, Finds, found}
 
 -- the state, and the calls whose arguments are read, the innermost first
 pub record Machine : Type 0 where
@@ -97,3 +101,15 @@ acted calls (spec.breaks r names) = breaks r names
 -- one move
 abbrev pub move : Settings → Machine → Move
 move set m = acted m.calls (step set m.state)
+
+-- a run of the machine comes to an ending, by what its searches find
+pub data Runs (set : Settings) (told : Option Contents) : Machine → Ending → Type 0 where
+  runs_on : (m n : Machine) (e : Ending) → move set m ≡ goes n → Runs set told n e → Runs set told m e
+  ends : (m n : Machine) → move set m ≡ done n → Runs set told m (finished n.state)
+  stops : (m : Machine) (r : Refusal) (names : List (List ℕ)) → move set m ≡ breaks r names → Runs set told m (stopped r names)
+  loads : (m n o : Machine) (search : Search) (held : Option Held) (e : Ending) → move set m ≡ looks search n → Finds told search.paths held
+      → plain n.calls (found search n.state held) ≡ goes o → Runs set told o e → Runs set told m e
+  loses : (m n : Machine) (search : Search) (held : Option Held) (r : Refusal) (names : List (List ℕ)) → move set m ≡ looks search n → Finds told search.paths held
+      → found search n.state held ≡ spec.breaks r names → Runs set told m (stopped r names)
+  fails : (m n : Machine) (search : Search) (path : List ℕ) → move set m ≡ looks search n → ((contents : Contents) → told ≡ Some contents → Tried contents search.paths path)
+      → Runs set told m (failed path)

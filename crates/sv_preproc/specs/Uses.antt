@@ -11,14 +11,11 @@ use Rattle.sv_macro.specs.declared.coming.Coming.{Coming}
 use Rattle.sv_macro.specs.declared.coming.Coming.TheVariants.{UseEnd}
 use Rattle.sv_preproc.specs.States.{State, Step, goes, takes, breaks, spending_limit, broken, with_coming, next_any, behind_next}
 
--- a token is delivered; outside arguments it counts
+-- a token is delivered outside arguments
 abbrev pub delivered : State → Token → Step
-delivered s t = elim s.inside [
-  | true ↦ goes (record s { delivered = s.delivered ++ t ∷ [] })
-  | false ↦ elim (nat_lt spending_limit (s.spent + 1)) [
-    | true ↦ broken s 207 t
-    | false ↦ goes (record s { delivered = s.delivered ++ t ∷ []; spent = s.spent + 1 })
-  ]
+delivered s t = elim (nat_lt spending_limit (s.spent + 1)) [
+  | true ↦ broken s 207 t
+  | false ↦ goes (record s { delivered = s.delivered ++ t ∷ []; spent = s.spent + 1 })
 ]
 
 -- the body of the macro that the token uses comes next, and then its end

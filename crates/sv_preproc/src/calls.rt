@@ -16,7 +16,7 @@ use crate::turn::Turn;
 use std::alloc::{AllocError, Global};
 use sv_macro::brackets::{Bracket, Sign, is_parenthesis, pass_bracket, sign_of};
 use sv_macro::lines::{any_token, skip_lines};
-use sv_macro::lists::{fits, skip_bare, survey_list};
+use sv_macro::lists::{Survey, fits, skip_bare, survey_list};
 use sv_macro::pending::ListSize;
 use sv_macro::placing::{Placed, placed, placed_count};
 use sv_macro::stack::Stack;
@@ -214,10 +214,18 @@ impl State {
         ensures { Turns (acted self.old.calls (spec.with_list (seen self.old) used busy arity (taken [] self.old.coming))) self.new result }
     {
         let list = survey_list(alloc, &mut self.coming, size)?;
-        if let Some(token) = list.barred {
+        let fitting = fits(arity, &list);
+        let Survey {
+            barred,
+            cut,
+            closed,
+            count: _,
+            bare: _,
+        } = list;
+        if let Some(token) = barred {
             return Err(broken(201, token));
         }
-        if list.closed && !fits(arity, &list) {
+        if closed && !fitting {
             return Err(broken(203, used));
         }
         if busy {
@@ -226,10 +234,10 @@ impl State {
         if self.spent >= SPENDING_LIMIT {
             return Err(broken(207, used));
         }
-        if let Some(token) = list.cut {
+        if let Some(token) = cut {
             return Err(broken(208, token));
         }
-        if !list.closed {
+        if !closed {
             return Err(broken(208, used));
         }
         self.spent += 1;
@@ -248,10 +256,7 @@ impl State {
         ensures { Turns (acted self.old.calls (spec.use_of (seen self.old) used busy (Some arity))) self.new result }
     {
         skip_lines(&mut self.coming);
-        let size = match self.coming.top() {
-            Some(item) => item.list,
-            None => None,
-        };
+        let size = self.coming.next_list();
         let Some(item) = self.coming.pop() else {
             return Err(broken(203, used));
         };

@@ -1,8 +1,8 @@
 // Loads of files.
 ghost use Rattle.std.specs.Prelude.{◌≡◌, ◌≤◌, ◌<◌, ◌^◌, ◌++◌, ◌+◌, ◌-◌, map, min, length, OnOk};
-ghost use Rattle.sv_preproc.specs.Answers.{Cause, FindsTold, SearchReaches, FoundWithin};
+ghost use Rattle.sv_preproc.specs.Answers.{Cause, SearchReaches, FoundWithin};
 ghost use Rattle.sv_preproc.specs.Code.{seen, Bounded};
-ghost use Rattle.sv_preproc.specs.Runs as spec;
+ghost use Rattle.sv_preproc.specs.Searches as spec;
 
 use crate::settings::ExpandFail;
 use crate::state::{OpenFile, State};
@@ -30,7 +30,6 @@ pub fn load_first<F: Files>(
     limit: u64,
 ) -> Result<Found, ExpandFail>
     requires { limit < 2 ^ 32 }
-    ensures answer { FindsTold (F.contents files.old) paths.now limit result }
     ensures reaches { SearchReaches (F.contents files.old) paths.now limit result }
     ensures within { FoundWithin limit result }
     ensures same { F.contents files.new ≡ F.contents files.old }
@@ -71,7 +70,8 @@ impl State {
     ) -> Result<(), AllocError>
         requires bounded { Bounded self.old }
         requires within { length bytes.now ≤ spec.room_left (seen self.old) }
-        ensures { OnOk result (seen self.new ≡ spec.opened top (seen self.old) (record { path = path; bytes = bytes.now })) }
+        ensures state { OnOk result (seen self.new ≡ spec.opened top (seen self.old) (record { path = path; bytes = bytes.now })) }
+        ensures calls { OnOk result (self.new.calls ≡ self.old.calls) }
     {
         let start = Place {
             file: self.names.len() as u32,

@@ -262,19 +262,6 @@ impl State {
         }))
     }
 
-    // Nothing comes: the next file, unless an argument is at its end.
-    fn end_text(&mut self, alloc: Global, set: &Settings) -> Result<Turn, Fail>
-        requires bounded { Bounded self.old }
-        requires files { length set.now.files ≤ 2 ^ 30 }
-        ensures { Turns (acted self.old.calls (spec.text_ends set.now (seen self.old))) self.new result }
-    {
-        if self.calls.is_empty() {
-            self.next_file(alloc, set)
-        } else {
-            Ok(Turn::Done)
-        }
-    }
-
     /// One step.
     pub fn step(&mut self, alloc: Global, set: &Settings) -> Result<Turn, Fail>
         requires bounded { Bounded self.old }
@@ -282,7 +269,7 @@ impl State {
         ensures { Turns (move set.now (whole self.old)) self.new result }
     {
         match self.coming.pop() {
-            None => self.end_text(alloc, set),
+            None => self.next_file(alloc, set),
             Some(Coming::Raw(token)) => self.read(alloc, set, token),
             Some(Coming::Kept(token)) => self.give_on(alloc, token),
             Some(Coming::FileEnd) => self.end_file(),

@@ -31,6 +31,23 @@ const CASES: &[(&str, &str)] = &[
         "z (* x , y *) <end>",
     ),
     ("`define P(a) a\n`P(1 ])", "1 ] <end>"),
+    ("`define P(a, b) b a\n`P(1 ], 2)", "2 1 ] <end>"),
+    ("`define P(a, b) b a\n`P(( ] ), 2)", "2 ( ] ) <end>"),
+    ("`define P(a, b) b a\n`P([ ), ], 2)", "2 [ ) , ] <end>"),
+    ("`define P(a) a\n`P(@( *) x)", "@ ( *) x <end>"),
+    ("`define Z() 1\n`Z(\n \\\n)", "1 <end>"),
+    (
+        "`define P(a, b) b a\n`define N\n`P(`N, `P(`N, 1))",
+        "1 <end>",
+    ),
+    (
+        "`define P(a) a\n`define N(a) (`P((a, a)), `P([a]))\n`N(`P(`P(1)))",
+        "( ( 1 , 1 ) , [ 1 ] ) <end>",
+    ),
+    (
+        "`define P(a, b) b a\n`P(`P(1, 2), `P(3, `P(4, 5)))",
+        "5 4 3 2 1 <end>",
+    ),
     ("`define P(a) a\n`P(`P(`P(x)))", "x <end>"),
     ("`define A `B\n`define B 2\n`A", "2 <end>"),
     (

@@ -120,6 +120,51 @@ const CASES: &[(&str, &str)] = &[
         "p.sv:3:1: E208 `M\n",
     ),
     ("`define M(a) a\n x `M(`M(1)", "p.sv:2:4: E208 `M\n"),
+    // a call is taken whole before its arguments are expanded
+    (
+        "`define Z() x\n`define O\n`Z(`O)",
+        "p.sv:3:1: E203 `Z\n",
+    ),
+    ("`define Z() x\n`Z(`U)", "p.sv:2:1: E203 `Z\n"),
+    ("`define M(a, b) a\n`M(`U)", "p.sv:2:1: E203 `M\n"),
+    ("`define M(a) a\n`M(`U, 1)", "p.sv:2:1: E203 `M\n"),
+    ("`define M(a) a\n`M(`U", "p.sv:2:1: E208 `M\n"),
+    ("`define M(a) a\n`M(`M(1", "p.sv:2:1: E208 `M\n"),
+    ("`define M(a) a\n`M(`M)", "p.sv:2:4: E203 `M\n"),
+    ("`define M(a) a\n`M(1, `M(`U))", "p.sv:2:1: E203 `M\n"),
+    ("`define M(a) a\n`M(`M(1, `U))", "p.sv:2:4: E203 `M\n"),
+    (
+        "`define M(a, b) a\n`M(`U, `undef M\n)",
+        "p.sv:2:8: E201 `undef\n",
+    ),
+    ("`define M(a) a\n`M(`U `\"x`\")", "p.sv:2:7: E201 `\"\n"),
+    ("`define M(a) a\n`M(`U, /* x", "p.sv:2:8: E208 /* x\n"),
+    (
+        "`define M(a) a\n`M(\n`undef M\n",
+        "p.sv:3:1: E201 `undef\n",
+    ),
+    (
+        "`define M(a) `M(a, a)\n`M(1)",
+        "p.sv:2:1: E203 `M\n",
+    ),
+    (
+        "`define M(a) `M(a\n`M(1)",
+        "p.sv:2:1: E204 `M\n",
+    ),
+    (
+        "`define M(a) a\n`define N(a) `M(a, `U)\n`N(1)",
+        "p.sv:3:1: E203 `M\n",
+    ),
+    (
+        "`define M(a) a\n`define N(a) `M(`U\n`N(1)",
+        "p.sv:3:1: E208 `M\n",
+    ),
+    (
+        "`define M(a, b) a\n`define I(a) a\n`I(`M(`U))",
+        "p.sv:3:4: E203 `M\n",
+    ),
+    ("`define M(a, b) a\n`M(`U, `V)", "p.sv:2:4: E202 `U\n"),
+    ("`define M(a) a\n`M( *) )", "p.sv:2:1: E208 `M\n"),
     ("`define R(a) a``b\n  `R(+)", "p.sv:2:3: E209 ``\n"),
     ("`define R(a, b) a``b\n`R(/, /)", "p.sv:2:1: E209 ``\n"),
 ];
