@@ -1,16 +1,16 @@
 -- What the list of arguments that is taken has to do with how long it is, and with what is found token by token.
-use Rattle.std.proofs.Common.{◌≡◌, ℕ, zero, suc, ◌+◌, ◌-◌, ◌&&◌, ◌||◌, Bool, true, false, cond, List, [], ◌∷◌, length, drop, Option, Some, None, refl, sym, ap, ◌∙◌, arith, subst}
+use Rattle.std.proofs.Common.{◌≡◌, ℕ, ◌+◌, ◌&&◌, ◌||◌, Bool, true, false, cond, List, [], ◌∷◌, length, drop, Option, Some, None, refl, sym, ap, ◌∙◌, arith, subst}
 use Rattle.std.specs.Option.{option_map}
 use Rattle.sv_source.specs.declared.token.Kind.{Kind}
 use Rattle.sv_source.specs.declared.token.Kind.TheVariants as K
 use Rattle.sv_source.specs.declared.token.Token.{Token}
-use Rattle.sv_macro.specs.Tokens.{said_by, is_line, is_line_kind, is_continued, is_continued_kind}
+use Rattle.sv_macro.specs.Tokens.{is_line, is_line_kind, is_continued, is_continued_kind}
 use Rattle.sv_macro.specs.Lines.{is_newline, behind_lines}
 use Rattle.sv_macro.proofs.Whole.{whole_waits}
 use Rattle.sv_macro.specs.Brackets.{sign_of, sign_by}
 use Rattle.sv_macro.specs.Waiting.{stops, one_comma, one_item, in_brackets, whole, waiting, first_list}
-use Rattle.sv_macro.specs.Lists.{Taken, Place_in_list, at_end, closing, splitting, belonging, outside_brackets, sign_in, place_in, ended, first_longer, with_item, with_split, taken, is_barred, is_cut, is_cut_kind, barred_kind, first_in, first_of, or_else, is_bare, all_newlines, survey}
-use Rattle.sv_macro.specs.Surveys.{nothing, one_more, noted, noted_token, looked, clean, no_token, is_sound}
+use Rattle.sv_macro.specs.Lists.{Taken, Place_in_list, at_end, closing, splitting, belonging, outside_brackets, sign_in, place_in, ended, first_longer, with_item, with_split, taken, is_barred, is_cut, is_cut_kind, barred_kind, first_in, first_of, or_else, is_bare, survey}
+use Rattle.sv_macro.specs.Surveys.{nothing, one_more, noted, looked, clean, no_token, is_sound}
 use Rattle.sv_macro.specs.declared.lists.Survey.{Survey}
 use Rattle.sv_macro.specs.declared.brackets.Bracket.{Bracket}
 use Rattle.sv_macro.specs.declared.brackets.Sign.TheVariants.{Other}
@@ -135,7 +135,7 @@ noted_is (Raw t) list = by_tests (is_barred t) (is_cut t) (barred_or_cut t)
   where
     by_tests : (b c : Bool) → (b ≡ true → c ≡ false) →
         cond {A = Survey} b (record list { barred = or_else list.barred (Some t); bare = list.bare && is_newline (Raw t) })
-            (cond {A = Survey} c (record list { cut = or_else list.cut (Some t); bare = list.bare && is_newline (Raw t) }) (record list { bare = list.bare && is_newline (Raw t) })) ≡
+        (cond {A = Survey} c (record list { cut = or_else list.cut (Some t); bare = list.bare && is_newline (Raw t) }) (record list { bare = list.bare && is_newline (Raw t) })) ≡
         record list { barred = or_else list.barred (cond {A = Option Token} b (Some t) None); cut = or_else list.cut (cond {A = Option Token} c (Some t) None); bare = list.bare && is_newline (Raw t) }
     by_tests true true e = absurd (let no : true ≡ false = e refl in cc)
     by_tests true false e = same_survey _ _ refl (sym (or_none list.cut)) refl refl refl
@@ -159,16 +159,16 @@ looked_added open_brackets list (item ∷ rest) = by_place (place_in open_bracke
   where
     by_place : (p : Place_in_list) → looked [] (one_more list false false) rest ≡ added (one_more list false false) (survey (taken [] rest)) →
         ((more : List Bracket) → looked more (noted item list) rest ≡ added (noted item list) (survey (taken more rest))) → (elim p as (λ _. Survey) [
-      | at_end ↦ one_more list false list.bare
-      | closing ↦ one_more list true list.bare
-      | splitting ↦ looked [] (one_more list false false) rest
-      | belonging more ↦ looked more (noted item list) rest
-    ]) ≡ added list (survey (elim p as (λ _. Taken) [
-      | at_end ↦ ended false (item ∷ rest)
-      | closing ↦ ended true rest
-      | splitting ↦ with_split (taken [] rest)
-      | belonging more ↦ with_item item (taken more rest)
-    ]))
+          | at_end ↦ one_more list false list.bare
+          | closing ↦ one_more list true list.bare
+          | splitting ↦ looked [] (one_more list false false) rest
+          | belonging more ↦ looked more (noted item list) rest
+        ]) ≡ added list (survey (elim p as (λ _. Taken) [
+          | at_end ↦ ended false (item ∷ rest)
+          | closing ↦ ended true rest
+          | splitting ↦ with_split (taken [] rest)
+          | belonging more ↦ with_item item (taken more rest)
+        ]))
     by_place at_end split item_again = added_end list false (item ∷ rest)
     by_place closing split item_again = added_end list true rest
     by_place splitting split item_again = split ∙ added_split list (taken [] rest) (some_arguments [] rest)
@@ -374,16 +374,16 @@ split_bared k (Some size) some = sym (split_bare k.arguments some)
 
 abbrev BareAt : Coming → List Coming → Place_in_list → Type 0
 BareAt item rest p = Bare (elim p as (λ _. Option ListSize) [
-      | at_end ↦ None
-      | closing ↦ Some (record { commas = 0; bare = true })
-      | splitting ↦ option_map one_comma (whole [] rest)
-      | belonging more ↦ in_brackets [] item (whole more rest)
-    ]) (survey (elim p as (λ _. Taken) [
-      | at_end ↦ ended false (item ∷ rest)
-      | closing ↦ ended true rest
-      | splitting ↦ with_split (taken [] rest)
-      | belonging more ↦ with_item item (taken more rest)
-    ]))
+  | at_end ↦ None
+  | closing ↦ Some (record { commas = 0; bare = true })
+  | splitting ↦ option_map one_comma (whole [] rest)
+  | belonging more ↦ in_brackets [] item (whole more rest)
+]) (survey (elim p as (λ _. Taken) [
+  | at_end ↦ ended false (item ∷ rest)
+  | closing ↦ ended true rest
+  | splitting ↦ with_split (taken [] rest)
+  | belonging more ↦ with_item item (taken more rest)
+]))
 
 bare_token : (item : Coming) (rest : List Coming) (p : Place_in_list) → is_newline item ≡ false → BareAt item rest p
 bare_token item rest at_end e = tt

@@ -1,5 +1,5 @@
 -- What comes next, with its list.
-use Rattle.std.proofs.Common.{◌≡◌, List, [], ◌∷◌, Option, Some, None, slice_get, false, refl, sym, ap, ◌∙◌, subst, MatchOption}
+use Rattle.std.proofs.Common.{◌≡◌, List, [], ◌∷◌, Option, slice_get, false, refl, sym, ap, ◌∙◌, subst, MatchOption}
 use Rattle.sv_macro.specs.Waiting.{comings, Marked, Tops, stops, waiting, first_list}
 use Rattle.sv_macro.specs.declared.coming.Coming.{Coming}
 use Rattle.sv_macro.specs.declared.pending.Item.{Item}

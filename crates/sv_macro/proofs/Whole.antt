@@ -1,9 +1,9 @@
 -- The pass from the end of a text finds how long each list is.
-use Rattle.std.proofs.Common.{◌≡◌, ℕ, Bool, true, false, cond, List, [], ◌∷◌, Option, Some, None, refl, sym, ap, ◌∙◌, ◌||◌}
+use Rattle.std.proofs.Common.{◌≡◌, Bool, true, false, cond, List, [], ◌∷◌, Option, Some, None, refl, sym, ap, ◌∙◌, ◌||◌}
 use Rattle.std.specs.Option.{option_map}
 use Rattle.sv_macro.specs.Brackets.{sign_of, same_bracket}
-use Rattle.sv_macro.specs.Lists.{Place_in_list, at_end, closing, splitting, belonging, sign_in, is_barred, is_cut}
-use Rattle.sv_macro.specs.Waiting.{one_comma, one_item, in_brackets, whole, behind_kind, with_first, closed_other, round, with_sign, passed, waiting, first_list, unwound}
+use Rattle.sv_macro.specs.Lists.{at_end, closing, splitting, belonging, sign_in, is_barred, is_cut}
+use Rattle.sv_macro.specs.Waiting.{one_comma, one_item, in_brackets, whole, behind_kind, with_first, closed_other, round, with_sign, waiting, first_list, unwound}
 use Rattle.sv_macro.specs.declared.brackets.Bracket.{Bracket}
 use Rattle.sv_macro.specs.declared.brackets.Bracket.TheVariants.{Round, Square, Curly}
 use Rattle.sv_macro.specs.declared.brackets.Sign.{Sign}

@@ -1,5 +1,5 @@
 -- Brackets and commas, and which brackets are open behind a token.
-use Rattle.std.specs.Prelude.{ℕ, Bool, true, false, List, [], ◌∷◌, if◌then◌else◌, codes}
+use Rattle.std.specs.Prelude.{Bool, true, false, List, [], ◌∷◌, if◌then◌else◌, codes}
 use Rattle.sv_source.specs.declared.token.Kind.{Kind}
 use Rattle.sv_source.specs.declared.token.Kind.TheVariants.{Mark}
 use Rattle.sv_source.specs.declared.token.Token.{Token}

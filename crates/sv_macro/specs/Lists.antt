@@ -1,7 +1,6 @@
 -- The list of arguments of a macro's use (IEEE 1800-2017 clause 22.5.1): it is taken whole from the text that holds the
 -- use, that is from its file, or from the body or argument that it stands in.
-use Rattle.std.specs.Prelude.{ℕ, ◌+◌, ◌==◌, ◌&&◌, ◌||◌, Bool, true, false, List, [], ◌∷◌, ◌++◌, length, Option, Some, None, if◌then◌else◌, codes}
-use Rattle.std.specs.Option.{option_map}
+use Rattle.std.specs.Prelude.{ℕ, ◌==◌, ◌&&◌, Bool, true, false, List, [], ◌∷◌, length, Option, Some, None, if◌then◌else◌}
 use Rattle.sv_source.specs.declared.token.Kind.{Kind}
 use Rattle.sv_source.specs.declared.token.Kind.TheVariants.{Cut, Directive, Quote}
 use Rattle.sv_source.specs.declared.token.Token.{Token}

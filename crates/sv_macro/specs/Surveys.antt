@@ -1,5 +1,5 @@
 -- A list of arguments, looked through token by token.
-use Rattle.std.specs.Prelude.{ℕ, ◌+◌, ◌&&◌, Bool, true, false, List, [], ◌∷◌, Option, Some, None, if◌then◌else◌}
+use Rattle.std.specs.Prelude.{◌+◌, ◌&&◌, Bool, true, false, List, [], ◌∷◌, Option, Some, None, if◌then◌else◌}
 use Rattle.sv_source.specs.declared.token.Token.{Token}
 use Rattle.sv_macro.specs.Lines.{is_newline}
 use Rattle.sv_macro.specs.Lists.{Place_in_list, at_end, closing, splitting, belonging, place_in, is_barred, is_cut, or_else}

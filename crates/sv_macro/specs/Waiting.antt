@@ -1,10 +1,10 @@
 -- Lists of arguments that nothing in them bars, seen from their opening parenthesis, and how they are found in one pass
 -- from the end of a text to its beginning.
-use Rattle.std.specs.Prelude.{◌≡◌, ℕ, ◌+◌, ◌&&◌, ◌||◌, Bool, true, false, List, [], ◌∷◌, drop, map, Option, Some, None, if◌then◌else◌}
+use Rattle.std.specs.Prelude.{◌≡◌, ◌+◌, ◌||◌, Bool, true, false, List, [], ◌∷◌, drop, map, Option, Some, None, if◌then◌else◌}
 use Rattle.std.specs.Option.{option_map}
 use Rattle.sv_macro.specs.Lines.{is_newline}
-use Rattle.sv_macro.specs.Brackets.{sign_of, same_bracket, brackets_behind}
-use Rattle.sv_macro.specs.Lists.{Place_in_list, at_end, closing, splitting, belonging, place_in, is_barred, is_cut}
+use Rattle.sv_macro.specs.Brackets.{sign_of, same_bracket}
+use Rattle.sv_macro.specs.Lists.{at_end, closing, splitting, belonging, place_in, is_barred, is_cut}
 use Rattle.sv_macro.specs.declared.brackets.Bracket.{Bracket}
 use Rattle.sv_macro.specs.declared.brackets.Bracket.TheVariants.{Round, Square, Curly}
 use Rattle.sv_macro.specs.declared.brackets.Sign.{Sign}

@@ -168,11 +168,7 @@ fn close_round(is_list: bool, waiting: &mut Stack<Waiting>) -> Result<(), AllocE
     })
 }
 
-fn close_other(
-    kind: Bracket,
-    item: &Coming,
-    waiting: &mut Stack<Waiting>,
-) -> Result<(), AllocError>
+fn close_other(kind: Bracket, item: &Coming, waiting: &mut Stack<Waiting>) -> Result<(), AllocError>
     ensures { OnOk result (waiting.new ≡ spec.closed_other kind item.now waiting.old) }
 {
     let Some(first) = waiting.pop() else {
@@ -186,11 +182,7 @@ fn close_other(
     })
 }
 
-fn pass_sign(
-    sign: Sign,
-    item: &Coming,
-    waiting: &mut Stack<Waiting>,
-) -> Result<(), AllocError>
+fn pass_sign(sign: Sign, item: &Coming, waiting: &mut Stack<Waiting>) -> Result<(), AllocError>
     ensures { OnOk result (waiting.new ≡ spec.with_sign sign item.now waiting.old) }
 {
     match sign {
@@ -251,11 +243,7 @@ impl Pending {
     }
 
     // The item comes next.
-    fn push_next(
-        &mut self,
-        item: Coming,
-        waiting: &mut Stack<Waiting>,
-    ) -> Result<(), AllocError>
+    fn push_next(&mut self, item: Coming, waiting: &mut Stack<Waiting>) -> Result<(), AllocError>
         requires { waiting.old ≡ spec.waiting self.old }
         ensures items { OnOk result (self.new ≡ item ∷ self.old) }
         ensures waits { OnOk result (waiting.new ≡ spec.waiting self.new) }

@@ -1,20 +1,18 @@
 -- Each step leaves less to do: uses of macros.
-use Rattle.std.proofs.Common.{◌≡◌, ℕ, zero, suc, ◌+◌, ◌^◌, ◌<◌, ◌≤◌, ◌&&◌, not, nat_lt, Bool, true, false, List, [], ◌∷◌, ◌++◌, length, drop, Option, Some, None, refl, ap, arith, length-append}
+use Rattle.std.proofs.Common.{◌≡◌, ℕ, zero, suc, ◌+◌, ◌^◌, ◌≤◌, ◌&&◌, not, nat_lt, Bool, true, false, List, [], ◌∷◌, length, Option, Some, None, refl, arith, length-append}
 use Rattle.std.proofs.lemmas.Bool.Decides.{nat_tests}
 use Rattle.sv_source.specs.declared.token.Token.{Token}
 use Rattle.sv_macro.specs.Tokens.{name_of}
 use Rattle.sv_macro.specs.Macros.{placed_count, placed}
 use Rattle.sv_macro.specs.Brackets.{is_parenthesis}
 use Rattle.sv_macro.specs.Lists.{Taken, Place_in_list, at_end, closing, splitting, belonging, place_in, ended, with_item, with_split, taken, survey, fits}
-use Rattle.sv_macro.specs.declared.lists.Survey.{Survey}
 use Rattle.sv_macro.specs.declared.brackets.Bracket.{Bracket}
 use Rattle.sv_preproc.specs.States.{State, Step, spending_limit, broken, with_coming, next_any, behind_next}
 use Rattle.sv_preproc.specs.Uses as uses
 use Rattle.sv_macro.specs.declared.macros.Macro.{Macro}
 use Rattle.sv_macro.specs.declared.coming.Coming.{Coming}
 use Rattle.sv_macro.specs.declared.coming.Coming.TheVariants.{UseEnd}
-use Rattle.sv_preproc.specs.Left.{weight}
-use Rattle.sv_preproc.proofs.Weights.{Within, Behind, Waits, Falls, by_test, settled, behind_falls, count_placed}
+use Rattle.sv_preproc.proofs.Weights.{Within, Waits, Falls, by_test, settled, behind_falls, count_placed}
 
 pub delivered_falls : (count c w : ℕ) (s : State) (t : Token) → Within count c w s → Falls count c w (uses.delivered s t)
 delivered_falls count c w s t i = by_test count c w (nat_lt spending_limit (s.spent + 1)) _ _ (λ _. tt) (λ e.

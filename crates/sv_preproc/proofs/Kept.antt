@@ -11,8 +11,7 @@ use Rattle.sv_macro.specs.Macros.{Macros, defined, parts_of}
 use Rattle.sv_preproc.specs.Runs.{expands, start, end_token, Comes}
 use Rattle.sv_preproc.specs.declared.settings.Define.{Define}
 use Rattle.sv_preproc.specs.declared.settings.Settings.{Settings}
-use Rattle.sv_preproc.specs.Machine.{Machine, machine}
-use Rattle.sv_preproc.specs.States.{State}
+use Rattle.sv_preproc.specs.Machine.{machine}
 use Rattle.sv_preproc.specs.Searches.{finished}
 use Rattle.sv_preproc.proofs.Through.{Keeps, through}
 use Rattle.sv_preproc.proofs.KeptItems.{Steady}

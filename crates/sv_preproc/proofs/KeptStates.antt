@@ -1,6 +1,6 @@
 -- A property of tokens that lexing and moving keep: of an expansion's state, and of what a token that is given on does to
 -- it. A token is delivered only where one more is spent.
-use Rattle.std.proofs.Common.{◌≡◌, ℕ, zero, suc, ◌+◌, ◌^◌, ◌≤◌, ◌==◌, ◌&&◌, not, nat_lt, Bool, true, false, cond, List, [], ◌∷◌, ◌++◌, length, Option, Some, None, All, refl, arith, length-append}
+use Rattle.std.proofs.Common.{◌≡◌, ℕ, zero, suc, ◌+◌, ◌^◌, ◌≤◌, ◌==◌, ◌&&◌, not, nat_lt, Bool, true, false, List, [], ◌∷◌, ◌++◌, length, Option, Some, None, All, refl, arith, length-append}
 use Rattle.std.proofs.lemmas.Bool.Decides.{nat_tests}
 use Rattle.std.specs.Option.{IfSome}
 use Rattle.std.proofs.lemmas.List.Elements.{All-nil, All-cons, All-head, All-tail, All-append, All-push}
@@ -9,7 +9,6 @@ use Rattle.sv_macro.specs.Tokens.{name_of}
 use Rattle.sv_macro.specs.Macros.{Macros, placed_count, placed}
 use Rattle.sv_macro.specs.Brackets.{is_parenthesis, sign_of}
 use Rattle.sv_macro.specs.Lists.{Taken, Place_in_list, at_end, closing, splitting, belonging, place_in, ended, with_item, with_split, taken, survey, fits}
-use Rattle.sv_macro.specs.declared.lists.Survey.{Survey}
 use Rattle.sv_macro.specs.declared.brackets.Bracket.{Bracket}
 use Rattle.sv_macro.specs.declared.brackets.Bracket.TheVariants.{Round, Square, Curly}
 use Rattle.sv_macro.specs.declared.brackets.Sign.{Sign}

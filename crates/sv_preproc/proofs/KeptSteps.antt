@@ -1,5 +1,5 @@
 -- A property of tokens that lexing and moving keep: each step keeps it.
-use Rattle.std.proofs.Common.{ℕ, ◌+◌, ◌==◌, nat_lt, Bool, true, false, List, [], ◌∷◌, length, map, slice_get, Option, Some, None, All}
+use Rattle.std.proofs.Common.{ℕ, Bool, true, false, List, [], ◌∷◌, length, map, slice_get, Option, Some, None, All}
 use Rattle.std.specs.Option.{IfSome}
 use Rattle.std.proofs.lemmas.List.Elements.{All-cons, All-head, All-tail, All-append, All-map}
 use Rattle.sv_source.specs.declared.token.Kind.{Kind}
@@ -20,13 +20,11 @@ use Rattle.sv_macro.specs.declared.definition.Defining.TheVariants.{Defines, Bre
 use Rattle.sv_macro.specs.declared.shapes.Shape.{Shape}
 use Rattle.sv_macro.specs.declared.coming.Coming.{Coming}
 use Rattle.sv_macro.specs.declared.coming.Coming.TheVariants.{Raw, Kept, FileEnd, UseEnd}
-use Rattle.sv_preproc.specs.States.{State, Step, with_coming, depth_limit, next_raw, next_name, behind_next, broken}
+use Rattle.sv_preproc.specs.States.{State, Step, with_coming, next_raw, next_name, behind_next, broken}
 use Rattle.sv_preproc.specs.Searches.{opened}
 use Rattle.sv_preproc.specs.Branches as branches
 use Rattle.sv_preproc.specs.Expansion as spec
 use Rattle.sv_preproc.specs.declared.settings.Settings.{Settings}
-use Rattle.sv_preproc.specs.declared.state.Branch.{Branch}
-use Rattle.sv_preproc.specs.declared.state.Branch.TheVariants.{Waiting, Taken, Over}
 use Rattle.sv_preproc.specs.declared.state.Conditional.{Conditional}
 use Rattle.sv_preproc.specs.declared.state.OpenFile.{OpenFile}
 use Rattle.sv_preproc.proofs.KeptItems.{Steady, ItemKeeps, behind_line_keeps, line_keeps, shapes_keep}

@@ -19,3 +19,4 @@ pub mod Placed
 pub mod OneOutcome
 pub mod Reaching
 pub mod Opening
+pub mod Examples

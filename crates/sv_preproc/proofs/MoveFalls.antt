@@ -1,5 +1,5 @@
 -- Each move leaves less to do.
-use Rattle.std.proofs.Common.{◌≡◌, ℕ, ◌+◌, ◌^◌, ◌<◌, ◌≤◌, ◌==◌, Bool, true, false, List, [], ◌∷◌, ◌++◌, length, refl, arith}
+use Rattle.std.proofs.Common.{ℕ, ◌+◌, ◌<◌, ◌==◌, Bool, true, false, List, [], ◌∷◌, ◌++◌, length, refl, arith}
 use Rattle.sv_source.specs.declared.token.Token.{Token}
 use Rattle.sv_macro.specs.Brackets.{sign_of}
 use Rattle.sv_macro.specs.declared.brackets.Bracket.{Bracket}
@@ -12,12 +12,11 @@ use Rattle.sv_preproc.specs.States as spec
 use Rattle.sv_preproc.specs.States.{State, Step}
 use Rattle.sv_preproc.specs.Machine as mach
 use Rattle.sv_preproc.specs.Machine.{Machine, Move, machine, reading, is_open, plain, acted, given_to, in_call, in_brackets, outside_brackets, move}
-use Rattle.sv_preproc.specs.Uses.{delivered, expanded}
 use Rattle.sv_preproc.specs.Expansion.{step}
-use Rattle.sv_preproc.specs.Left.{weight, heft, most_weight, Ready}
+use Rattle.sv_preproc.specs.Left.{heft, Ready}
 use Rattle.sv_preproc.proofs.Weights.{Within, Behind, Waits, Falls}
 use Rattle.sv_preproc.proofs.Falls.{delivered_falls, expanded_falls}
-use Rattle.sv_preproc.proofs.StepFalls.{From, step_falls}
+use Rattle.sv_preproc.proofs.StepFalls.{step_falls}
 
 pub record Lighter (count w : ℕ) (m : Machine) : Type 0 where
   pub ready : Ready count m

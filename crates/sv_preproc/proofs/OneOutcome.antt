@@ -1,8 +1,8 @@
 -- Each expansion comes to one outcome.
-use Rattle.std.proofs.Common.{◌≡◌, ℕ, ◌^◌, ◌≤◌, List, [], ◌∷◌, ◌++◌, length, Option, Some, None, refl, sym, ap, ◌∙◌, subst}
+use Rattle.std.proofs.Common.{◌≡◌, ℕ, ◌^◌, ◌≤◌, List, [], ◌∷◌, ◌++◌, length, Option, Some, refl, sym, ap, ◌∙◌, subst}
 use Rattle.sv_source.specs.Loading.{Contents}
 use Rattle.sv_source.specs.declared.refusal.Refusal.{Refusal}
-use Rattle.sv_macro.specs.Including.{Held, first_held}
+use Rattle.sv_macro.specs.Including.{Held}
 use Rattle.sv_preproc.specs.States as spec
 use Rattle.sv_preproc.specs.States.{State, Step}
 use Rattle.sv_preproc.specs.Machine as mach
@@ -11,7 +11,7 @@ use Rattle.sv_preproc.specs.Searches.{Ending, finished, stopped, failed, Finds, 
 use Rattle.sv_preproc.specs.Runs.{Outcome, expands, refused, start, end_token, Comes, HasOutcome}
 use Rattle.sv_preproc.specs.declared.settings.Settings.{Settings}
 use Rattle.sv_preproc.specs.declared.turn.Search.{Search}
-use Rattle.sv_preproc.proofs.MachineEnds.{IsOutcome, RunEnds, run_ends}
+use Rattle.sv_preproc.proofs.MachineEnds.{IsOutcome, run_ends}
 
 -- what a search finds is told
 one_found : (contents : Contents) (paths : List (List ℕ)) (a b : Option Held) → Finds (Some contents) paths a → Finds (Some contents) paths b → a ≡ b

@@ -1,7 +1,6 @@
 -- A list that begins behind a use, and a file that is opened.
-use Rattle.std.proofs.Common.{◌≡◌, ◌≤◌, ℕ, Bool, true, false, List, [], ◌∷◌, length, drop, Option, Some, Result, Ok, Err, IfOk, refl, sym, ap, ◌∙◌, subst}
+use Rattle.std.proofs.Common.{◌≡◌, ◌≤◌, ℕ, Bool, true, false, List, [], ◌∷◌, length, drop, Option, Some, Result, Ok, Err, IfOk, refl, ap, ◌∙◌}
 use Rattle.sv_source.specs.declared.token.Token.{Token}
-use Rattle.sv_macro.specs.Including.{Held}
 use Rattle.sv_macro.specs.Lines.{behind_lines, any_token, first_by}
 use Rattle.sv_macro.specs.Brackets.{is_parenthesis}
 use Rattle.sv_macro.specs.Lists.{taken}

@@ -12,7 +12,7 @@ use Rattle.sv_macro.specs.declared.coming.Coming.TheVariants.{Raw, Kept, FileEnd
 use Rattle.sv_preproc.specs.States.{State}
 use Rattle.sv_preproc.specs.Expansion.{head_place}
 use Rattle.sv_preproc.specs.Runs.{expands, refused, start, end_token, Comes}
-use Rattle.sv_preproc.specs.Searches.{Ending, finished, stopped, failed, opened}
+use Rattle.sv_preproc.specs.Searches.{Ending, finished, stopped, opened}
 use Rattle.sv_preproc.specs.Machine.{machine, Runs}
 use Rattle.std.specs.Option.{IfSome}
 use Rattle.sv_preproc.specs.declared.settings.Settings.{Settings}

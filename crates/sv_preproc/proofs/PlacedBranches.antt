@@ -7,7 +7,6 @@ use Rattle.sv_macro.specs.declared.words.Condition.TheVariants.{Ifdef, Ifndef, E
 use Rattle.sv_preproc.specs.States.{State, next_name, behind_next}
 use Rattle.sv_preproc.specs.Branches as branches
 use Rattle.sv_preproc.specs.declared.state.Branch.{Branch}
-use Rattle.sv_preproc.specs.declared.state.Branch.TheVariants.{Waiting, Taken, Over}
 use Rattle.sv_preproc.specs.declared.state.Conditional.{Conditional}
 use Rattle.sv_preproc.specs.declared.state.OpenFile.{OpenFile}
 use Rattle.sv_preproc.proofs.PlacedStates.{In, FirstIn, FileIn, Placed, Tells, by_test, with_files, behind_next_placed}

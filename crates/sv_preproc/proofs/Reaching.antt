@@ -1,15 +1,14 @@
 -- Runs that come to an ending by what their searches find.
-use Rattle.std.proofs.Common.{◌≡◌, ℕ, ◌<◌, Bool, true, false, List, [], ◌∷◌, ◌++◌, length, Option, Some, Result, Ok, Err, IfOk, refl, sym, ap, ◌∙◌, subst, arith}
+use Rattle.std.proofs.Common.{◌≡◌, ℕ, ◌<◌, Bool, true, false, List, [], ◌∷◌, ◌++◌, length, Option, Some, Result, Ok, Err, IfOk, sym, ap, ◌∙◌, subst}
 use Rattle.sv_lexer.proofs.Raw.{tokens_from-count}
 use Rattle.sv_source.specs.Loading.{Contents}
 use Rattle.sv_source.specs.declared.refusal.Fail.{Fail}
 use Rattle.sv_source.specs.declared.refusal.Fail.TheVariants as fail
-use Rattle.sv_preproc.specs.States as spec
 use Rattle.sv_preproc.specs.States.{State}
 use Rattle.sv_preproc.specs.Machine as mach
 use Rattle.sv_preproc.specs.Machine.{Machine, Move, machine, plain, move, Runs}
-use Rattle.sv_preproc.specs.Searches.{Ending, finished, stopped, failed, opened, found}
-use Rattle.sv_preproc.specs.Runs.{expands, refused, start, end_token, Comes}
+use Rattle.sv_preproc.specs.Searches.{Ending, finished, stopped, failed}
+use Rattle.sv_preproc.specs.Runs.{start, end_token}
 use Rattle.sv_preproc.specs.Code.{seen, whole, Turns}
 use Rattle.sv_preproc.specs.Left.{heft, Ready, Settles}
 use Rattle.sv_preproc.specs.Answers.{Cause, Opens, Stops, LoadReaches, AdvanceReaches, Reaches}

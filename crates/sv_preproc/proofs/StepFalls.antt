@@ -1,12 +1,12 @@
 -- Each step leaves less to do: directives, ends and files.
-use Rattle.std.proofs.Common.{◌≡◌, ℕ, zero, suc, ◌+◌, ◌-◌, ◌^◌, ◌<◌, ◌≤◌, ◌==◌, Bool, true, false, nat_lt, List, [], ◌∷◌, length, drop, map, Option, Some, None, slice_get, refl, ap, arith, length-append}
+use Rattle.std.proofs.Common.{◌≡◌, ℕ, zero, suc, ◌+◌, ◌-◌, ◌^◌, ◌<◌, ◌≤◌, Bool, true, false, List, [], ◌∷◌, length, drop, map, Option, Some, None, slice_get, refl, ap, arith, length-append}
 use Rattle.sv_source.specs.declared.token.Kind.{Kind}
 use Rattle.sv_source.specs.declared.token.Kind.TheVariants as K
 use Rattle.sv_source.specs.declared.token.Token.{Token}
 use Rattle.sv_macro.specs.Tokens.{is_string, said_by}
 use Rattle.sv_macro.specs.Definitions.{ends_line, behind_line, line_of, defining}
 use Rattle.sv_macro.specs.Lines.{raw_token, first_by}
-use Rattle.sv_preproc.specs.States.{State, goes, breaks, with_coming, depth_limit, next_raw, next_name, behind_next}
+use Rattle.sv_preproc.specs.States.{State, breaks, with_coming, next_raw, next_name, behind_next}
 use Rattle.sv_lexer.specs.Lexing.{tokens_of}
 use Rattle.sv_macro.specs.Including.{Held}
 use Rattle.sv_preproc.specs.Searches.{room_left, opened}
@@ -24,7 +24,6 @@ use Rattle.sv_macro.specs.declared.shapes.Shape.{Shape}
 use Rattle.sv_macro.specs.declared.coming.Coming.{Coming}
 use Rattle.sv_macro.specs.declared.coming.Coming.TheVariants.{Raw, Kept, FileEnd, UseEnd}
 use Rattle.sv_preproc.specs.declared.state.Branch.{Branch}
-use Rattle.sv_preproc.specs.declared.state.Branch.TheVariants.{Waiting, Taken, Over}
 use Rattle.sv_preproc.specs.declared.state.Conditional.{Conditional}
 use Rattle.sv_preproc.specs.declared.state.OpenFile.{OpenFile}
 use Rattle.sv_preproc.specs.Left.{weight, most_weight}

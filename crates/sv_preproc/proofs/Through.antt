@@ -1,17 +1,15 @@
 -- What each move of an expansion keeps holds where it ends: also of the files that it looks for and of the rule that it
 -- breaks.
-use Rattle.std.proofs.Common.{◌≡◌, ℕ, Bool, true, false, nat_lt, List, [], ◌∷◌, ◌++◌, length, Option, Some, None, subst, refl}
+use Rattle.std.proofs.Common.{◌≡◌, ℕ, Bool, true, false, nat_lt, List, length, Option, Some, None, subst, refl}
 use Rattle.sv_source.specs.Loading.{Contents}
 use Rattle.sv_source.specs.declared.token.Token.{Token}
 use Rattle.sv_source.specs.declared.refusal.Refusal.{Refusal}
 use Rattle.sv_macro.specs.Including.{Held}
-use Rattle.sv_preproc.specs.States as spec
-use Rattle.sv_preproc.specs.States.{State, Step, broken}
+use Rattle.sv_preproc.specs.States.{State, Step}
 use Rattle.sv_preproc.specs.Machine as mach
 use Rattle.sv_preproc.specs.Machine.{Machine, Move, machine, plain, move, Runs}
 use Rattle.sv_preproc.specs.Searches.{Ending, finished, stopped, failed, room_left, opened, lost, found, found_in}
 use Rattle.sv_preproc.specs.declared.settings.Settings.{Settings}
-use Rattle.sv_preproc.specs.declared.state.Call.{Call}
 use Rattle.sv_preproc.specs.declared.turn.Search.{Search}
 
 -- what is kept: of a machine, of a search and the machine that waits for it, of the last state, and of a refusal

@@ -1,12 +1,12 @@
 -- What a call of the expansion answers.
-use Rattle.std.specs.Prelude.{◌≡◌, ℕ, ◌<◌, ◌≤◌, Bool, true, false, List, ◌∷◌, [], ◌++◌, length, Option, Some, None, Result, Ok, Err}
+use Rattle.std.specs.Prelude.{◌≡◌, ℕ, ◌<◌, ◌≤◌, Bool, true, false, List, length, Option, Some, None, Result, Ok, Err}
 use Rattle.sv_source.specs.Faults.{Rose}
 use Rattle.sv_source.specs.Loading.{Contents}
 use Rattle.sv_source.specs.declared.refusal.Fail.{Fail}
 use Rattle.sv_source.specs.declared.refusal.Fail.TheVariants as fail
 use Rattle.sv_macro.specs.Including.{Held, Tried}
 use Rattle.sv_preproc.specs.States.{State, Step, goes, breaks}
-use Rattle.sv_preproc.specs.Machine.{Machine, Runs, machine}
+use Rattle.sv_preproc.specs.Machine.{Machine, Runs}
 use Rattle.sv_preproc.specs.Searches as runs
 use Rattle.sv_preproc.specs.Searches.{Ending, finished, stopped, failed, room_left, opened, found}
 use Rattle.sv_preproc.specs.Runs.{expands, refused, Comes, LooksAt}

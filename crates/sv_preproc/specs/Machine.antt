@@ -1,6 +1,6 @@
 -- The expansion, a move at a time (IEEE 1800-2017 clause 22): the arguments of a call are expanded in place, from left to
 -- right, once the call was taken whole, and then its body is placed.
-use Rattle.std.specs.Prelude.{◌≡◌, ℕ, ◌==◌, Bool, true, false, List, [], ◌∷◌, ◌++◌, Option, Some, None}
+use Rattle.std.specs.Prelude.{◌≡◌, ℕ, ◌==◌, Bool, true, false, List, [], ◌∷◌, ◌++◌, Option, Some}
 use Rattle.sv_source.specs.declared.token.Token.{Token}
 use Rattle.sv_source.specs.declared.refusal.Refusal.{Refusal}
 use Rattle.sv_macro.specs.Brackets.{sign_of, brackets_behind}

@@ -1,5 +1,5 @@
 -- Whole expansions.
-use Rattle.std.specs.Prelude.{◌≡◌, ℕ, Bool, true, false, List, [], ◌∷◌, ◌++◌, fold, Option, Some, None, codes}
+use Rattle.std.specs.Prelude.{◌≡◌, ℕ, false, List, [], ◌∷◌, ◌++◌, fold, Option, Some, None, codes}
 use Rattle.sv_source.specs.Loading.{Contents}
 use Rattle.sv_source.specs.declared.token.Kind.TheVariants.{End}
 use Rattle.sv_source.specs.declared.token.Place.{Place}
@@ -9,7 +9,7 @@ use Rattle.sv_macro.specs.Macros.{Macros, defined, parts_of}
 use Rattle.sv_preproc.specs.declared.settings.Define.{Define}
 use Rattle.sv_preproc.specs.declared.settings.Settings.{Settings}
 use Rattle.sv_preproc.specs.States.{State}
-use Rattle.sv_preproc.specs.Searches.{Ending, finished, stopped, failed}
+use Rattle.sv_preproc.specs.Searches.{finished, stopped, failed}
 use Rattle.sv_preproc.specs.Machine as mach
 use Rattle.sv_preproc.specs.Machine.{machine}
 

@@ -121,10 +121,7 @@ const CASES: &[(&str, &str)] = &[
     ),
     ("`define M(a) a\n x `M(`M(1)", "p.sv:2:4: E208 `M\n"),
     // a call is taken whole before its arguments are expanded
-    (
-        "`define Z() x\n`define O\n`Z(`O)",
-        "p.sv:3:1: E203 `Z\n",
-    ),
+    ("`define Z() x\n`define O\n`Z(`O)", "p.sv:3:1: E203 `Z\n"),
     ("`define Z() x\n`Z(`U)", "p.sv:2:1: E203 `Z\n"),
     ("`define M(a, b) a\n`M(`U)", "p.sv:2:1: E203 `M\n"),
     ("`define M(a) a\n`M(`U, 1)", "p.sv:2:1: E203 `M\n"),
@@ -139,18 +136,9 @@ const CASES: &[(&str, &str)] = &[
     ),
     ("`define M(a) a\n`M(`U `\"x`\")", "p.sv:2:7: E201 `\"\n"),
     ("`define M(a) a\n`M(`U, /* x", "p.sv:2:8: E208 /* x\n"),
-    (
-        "`define M(a) a\n`M(\n`undef M\n",
-        "p.sv:3:1: E201 `undef\n",
-    ),
-    (
-        "`define M(a) `M(a, a)\n`M(1)",
-        "p.sv:2:1: E203 `M\n",
-    ),
-    (
-        "`define M(a) `M(a\n`M(1)",
-        "p.sv:2:1: E204 `M\n",
-    ),
+    ("`define M(a) a\n`M(\n`undef M\n", "p.sv:3:1: E201 `undef\n"),
+    ("`define M(a) `M(a, a)\n`M(1)", "p.sv:2:1: E203 `M\n"),
+    ("`define M(a) `M(a\n`M(1)", "p.sv:2:1: E204 `M\n"),
     (
         "`define M(a) a\n`define N(a) `M(a, `U)\n`N(1)",
         "p.sv:3:1: E203 `M\n",

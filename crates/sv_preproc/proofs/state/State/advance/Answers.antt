@@ -1,5 +1,5 @@
 use Rattle.std.proofs.Common.{arith}
-use Rattle.sv_preproc.specs.Code.{seen, whole}
+use Rattle.sv_preproc.specs.Code.{whole}
 use Rattle.sv_preproc.specs.Machine.{move}
 use Rattle.sv_preproc.proofs.Reaching.{goes_reach, done_reach, go_of, look_of, done_of, fail_of, goes_settles, looks_waits, opens_found, found_reach, stopped_reach}
 use Rattle.sv_preproc.proofs.state.State.advance.Goals as goal

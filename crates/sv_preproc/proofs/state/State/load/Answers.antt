@@ -1,6 +1,5 @@
-use Rattle.std.proofs.Common.{◌≤◌, length, arith, IfOk}
+use Rattle.std.proofs.Common.{◌≤◌, length, arith}
 use Rattle.sv_preproc.specs.Code.{seen}
-use Rattle.sv_preproc.specs.Searches.{room_left}
 use Rattle.sv_preproc.proofs.Opening.{opens_at, all_true}
 use Rattle.sv_preproc.proofs.state.State.load.Goals as goal
 
