@@ -13,7 +13,7 @@ use Rattle.sv2v_top.specs.declared.status.Status.{Status}
 use Rattle.sv2v_top.specs.declared.status.Status.TheVariants.{Done, Refused, Usage, Memory, FileFault, SinkFault}
 use Rattle.sv2v_top.specs.Headline.{ExpandsTo, file_of, IsTranslated, Cause, Answers, RunGives}
 use Rattle.sv2v_top.specs.Endings.{Put_on, Took, Untouched, FailedAt, Says, said, unsaid, Writes, written, unwritten, Ends, Runs, line_of, status_of}
-use Rattle.sv2v_top.specs.Promises.{Call, call, Said, IsDone, OnDone, IsRefusal, OnRefused, IsUsage, OnUsage, OnMemory, IsFileFault, OnFileFault, IsSinkFault, of_output, of_errors, OnSinkFault, NeverUnsettled, UsageComes, Accepts, DoneComes, RefusalComes}
+use Rattle.sv2v_top.specs.Promises.{Call, Said, IsDone, OnDone, IsRefusal, OnRefused, IsUsage, OnUsage, OnMemory, IsFileFault, OnFileFault, IsSinkFault, of_output, of_errors, OnSinkFault, NeverUnsettled, UsageComes, Accepts, DoneComes, RefusalComes}
 use Rattle.sv2v_top.proofs.Causes.{no-cause, one-cause}
 
 -- the run of a call
@@ -136,9 +136,9 @@ module _ (c : Call) (status : Status) where
 
 -- the outcome of a run that is told by its parts
 pub of-run : {words : List (List ℕ)} {told : Option Contents} {before after : ℕ} {out err : Put_on} {status : Status}
-    → Runs words told before after out err status → Ending (call words told before after out err) status
+    → Runs words told before after out err status → Ending (record { words = words; told = told; faults_before = before; faults_after = after; out = out; err = err }) status
 of-run {words = words} {told = told} {before = before} {after = after} {out = out} {err = err} {status = status} r =
-    outcome (call words told before after out err) status r
+    outcome _ status r
 
 -- a count that rose did so in the call, or stands at its last value
 pub no-rise : (before now : ℕ) → Rose before now → NoFault before now → ⊥

@@ -25,11 +25,13 @@ pub record Call : Type 0 where
   pub out : Put_on
   pub err : Put_on
 
-abbrev pub sink : Option (List ℕ) → Option (List ℕ) → ℕ → ℕ → Put_on
-sink before after faults_before faults_after = record { before = before; after = after; faults_before = faults_before; faults_after = faults_after }
+-- what a sink shows of a call: its bytes and its faults, before and after it
+abbrev pub sink : {S : Type 0} → (S → Option (List ℕ)) → (S → ℕ) → S → S → Put_on
+sink written faults old new = record { before = written old; after = written new; faults_before = faults old; faults_after = faults new }
 
-abbrev pub call : List (List ℕ) → Option Contents → ℕ → ℕ → Put_on → Put_on → Call
-call words told before after out err = record { words = words; told = told; faults_before = before; faults_after = after; out = out; err = err }
+-- the call with these words over files, as they stand before and after it
+abbrev pub call : {F : Type 0} → List (List ℕ) → (F → Option Contents) → (F → ℕ) → F → F → Put_on → Put_on → Call
+call words contents faults old new out err = record { words = words; told = contents old; faults_before = faults old; faults_after = faults new; out = out; err = err }
 
 -- the line is on the error stream, and the output is as it was
 pub record Said (c : Call) (line : List ℕ) : Type 0 where

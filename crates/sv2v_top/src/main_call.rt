@@ -44,7 +44,7 @@ fn stop_status(stop: &Stop) -> Status
 
 /// Says a stop on the error stream, and answers its status, or `SinkFault` where the stream fails.
 fn say<E: Sink>(stop: &Stop, err: &mut E) -> Status
-    ensures says { Says (record { before = E.written err.old; after = E.written err.new; faults_before = E.faults err.old; faults_after = E.faults err.new }) (line_of stop.now) (status_of stop.now) result }
+    ensures says { Says (sink E.written E.faults err.old err.new) (line_of stop.now) (status_of stop.now) result }
     ensures later { E.faults err.old ≤ E.faults err.new }
     ensures level { LevelUnless SinkFault result (E.faults err.old) (E.faults err.new) }
     ensures undone { result ≡ Done → ⊥ }
@@ -57,7 +57,7 @@ fn say<E: Sink>(stop: &Stop, err: &mut E) -> Status
 
 /// Writes the text, and answers `Done`, or says a write fault and answers `SinkFault`.
 fn write_out<O: Sink, E: Sink>(text: &Text, out: &mut O, err: &mut E) -> Status
-    ensures writes { Writes (record { before = O.written out.old; after = O.written out.new; faults_before = O.faults out.old; faults_after = O.faults out.new }) (record { before = E.written err.old; after = E.written err.new; faults_before = E.faults err.old; faults_after = E.faults err.new }) text.now result }
+    ensures writes { Writes (sink O.written O.faults out.old out.new) (sink E.written E.faults err.old err.new) text.now result }
     ensures out_later { O.faults out.old ≤ O.faults out.new }
     ensures err_later { E.faults err.old ≤ E.faults err.new }
     ensures out_level { LevelUnless SinkFault result (O.faults out.old) (O.faults out.new) }
@@ -80,7 +80,7 @@ fn answer<F: Files, O: Sink, E: Sink>(
     out: &mut O,
     err: &mut E,
 ) -> Status
-    ensures runs { Runs (map string_bytes words.now) (F.contents files.old) (F.faults files.old) (F.faults files.new) (sink (O.written out.old) (O.written out.new) (O.faults out.old) (O.faults out.new)) (sink (E.written err.old) (E.written err.new) (E.faults err.old) (E.faults err.new)) result }
+    ensures runs { Runs (map string_bytes words.now) (F.contents files.old) (F.faults files.old) (F.faults files.new) (sink O.written O.faults out.old out.new) (sink E.written E.faults err.old err.new) result }
     ensures files_later { F.faults files.old ≤ F.faults files.new }
     ensures out_later { O.faults out.old ≤ O.faults out.new }
     ensures err_later { E.faults err.old ≤ E.faults err.new }
@@ -107,23 +107,23 @@ pub fn translate_main<F: Files, O: Sink, E: Sink>(
     err: &mut E,
 ) -> Status
     // A right translation of the files is on the output, whole.
-    ensures done { OnDone (call (map string_bytes words.now) (F.contents files.old) (F.faults files.old) (F.faults files.new) (sink (O.written out.old) (O.written out.new) (O.faults out.old) (O.faults out.new)) (sink (E.written err.old) (E.written err.new) (E.faults err.old) (E.faults err.new))) result }
+    ensures done { OnDone (call (map string_bytes words.now) F.contents F.faults files.old files.new (sink O.written O.faults out.old out.new) (sink E.written E.faults err.old err.new)) result }
     // The first break of the files is said, with its rule, place and word, and the output is as it was.
-    ensures refused { OnRefused (call (map string_bytes words.now) (F.contents files.old) (F.faults files.old) (F.faults files.new) (sink (O.written out.old) (O.written out.new) (O.faults out.old) (O.faults out.new)) (sink (E.written err.old) (E.written err.new) (E.faults err.old) (E.faults err.new))) result }
+    ensures refused { OnRefused (call (map string_bytes words.now) F.contents F.faults files.old files.new (sink O.written O.faults out.old out.new) (sink E.written E.faults err.old err.new)) result }
     // The words aren't of the form, and the usage line is said.
-    ensures usage { OnUsage (call (map string_bytes words.now) (F.contents files.old) (F.faults files.old) (F.faults files.new) (sink (O.written out.old) (O.written out.new) (O.faults out.old) (O.faults out.new)) (sink (E.written err.old) (E.written err.new) (E.faults err.old) (E.faults err.new))) result }
+    ensures usage { OnUsage (call (map string_bytes words.now) F.contents F.faults files.old files.new (sink O.written O.faults out.old out.new) (sink E.written E.faults err.old err.new)) result }
     // Want of memory is said.
-    ensures memory { OnMemory (call (map string_bytes words.now) (F.contents files.old) (F.faults files.old) (F.faults files.new) (sink (O.written out.old) (O.written out.new) (O.faults out.old) (O.faults out.new)) (sink (E.written err.old) (E.written err.new) (E.faults err.old) (E.faults err.new))) result }
+    ensures memory { OnMemory (call (map string_bytes words.now) F.contents F.faults files.old files.new (sink O.written O.faults out.old out.new) (sink E.written E.faults err.old err.new)) result }
     // The load of a file that the expansion looks for failed, and its path is said.
-    ensures file_fault { OnFileFault (call (map string_bytes words.now) (F.contents files.old) (F.faults files.old) (F.faults files.new) (sink (O.written out.old) (O.written out.new) (O.faults out.old) (O.faults out.new)) (sink (E.written err.old) (E.written err.new) (E.faults err.old) (E.faults err.new))) result }
+    ensures file_fault { OnFileFault (call (map string_bytes words.now) F.contents F.faults files.old files.new (sink O.written O.faults out.old out.new) (sink E.written E.faults err.old err.new)) result }
     // A sink failed, with a front of what it was given.
-    ensures sink_fault { OnSinkFault (call (map string_bytes words.now) (F.contents files.old) (F.faults files.old) (F.faults files.new) (sink (O.written out.old) (O.written out.new) (O.faults out.old) (O.faults out.new)) (sink (E.written err.old) (E.written err.new) (E.faults err.old) (E.faults err.new))) result }
+    ensures sink_fault { OnSinkFault (call (map string_bytes words.now) F.contents F.faults files.old files.new (sink O.written O.faults out.old out.new) (sink E.written E.faults err.old err.new)) result }
     // Words that aren't of the form are answered so.
-    ensures usage_comes { UsageComes (call (map string_bytes words.now) (F.contents files.old) (F.faults files.old) (F.faults files.new) (sink (O.written out.old) (O.written out.new) (O.faults out.old) (O.faults out.new)) (sink (E.written err.old) (E.written err.new) (E.faults err.old) (E.faults err.new))) result }
+    ensures usage_comes { UsageComes (call (map string_bytes words.now) F.contents F.faults files.old files.new (sink O.written O.faults out.old out.new) (sink E.written E.faults err.old err.new)) result }
     // Files without a break are translated.
-    ensures done_comes { DoneComes (call (map string_bytes words.now) (F.contents files.old) (F.faults files.old) (F.faults files.new) (sink (O.written out.old) (O.written out.new) (O.faults out.old) (O.faults out.new)) (sink (E.written err.old) (E.written err.new) (E.faults err.old) (E.faults err.new))) result }
+    ensures done_comes { DoneComes (call (map string_bytes words.now) F.contents F.faults files.old files.new (sink O.written O.faults out.old out.new) (sink E.written E.faults err.old err.new)) result }
     // Files with a break are refused with their first one.
-    ensures refusal_comes { RefusalComes (call (map string_bytes words.now) (F.contents files.old) (F.faults files.old) (F.faults files.new) (sink (O.written out.old) (O.written out.new) (O.faults out.old) (O.faults out.new)) (sink (E.written err.old) (E.written err.new) (E.faults err.old) (E.faults err.new))) result }
+    ensures refusal_comes { RefusalComes (call (map string_bytes words.now) F.contents F.faults files.old files.new (sink O.written O.faults out.old out.new) (sink E.written E.faults err.old err.new)) result }
     // No design is run.
     ensures never_unsettled { NeverUnsettled result }
     ensures files_later { F.faults files.old ≤ F.faults files.new }

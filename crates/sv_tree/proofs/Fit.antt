@@ -8,9 +8,9 @@ use Rattle.sv_tree.specs.Table.{table}
 
 pub table_fits : IsFit table
 unfolding table mark_symbol word_symbol
-table_fits = fits_is table 4 207 refl
+table_fits = fits_is table 4 215 refl
 
-pub table_length : length table ≡ 419
+pub table_length : length table ≡ 445
 unfolding table
 table_length = refl
 

@@ -355,269 +355,293 @@ next_tf_port = 116
 abbrev pub tf_port_item : ℕ
 tf_port_item = 117
 
-abbrev pub optional_input : ℕ
-optional_input = 118
+abbrev pub optional_tf_port_direction : ℕ
+optional_tf_port_direction = 118
+
+abbrev pub task_declaration : ℕ
+task_declaration = 119
 
 abbrev pub always_construct : ℕ
-always_construct = 119
+always_construct = 120
 
 abbrev pub event_control : ℕ
-event_control = 120
+event_control = 121
 
 abbrev pub event_control_rest : ℕ
-event_control_rest = 121
+event_control_rest = 122
 
 abbrev pub event_expression : ℕ
-event_expression = 122
+event_expression = 123
 
 abbrev pub next_event_edge : ℕ
-next_event_edge = 123
+next_event_edge = 124
 
 abbrev pub event_separator : ℕ
-event_separator = 124
+event_separator = 125
 
 abbrev pub event_edge : ℕ
-event_edge = 125
+event_edge = 126
 
 abbrev pub edge_identifier : ℕ
-edge_identifier = 126
+edge_identifier = 127
 
 abbrev pub optional_event_member : ℕ
-optional_event_member = 127
+optional_event_member = 128
 
 abbrev pub statement : ℕ
-statement = 128
+statement = 129
+
+abbrev pub statement_name_rest : ℕ
+statement_name_rest = 130
+
+abbrev pub call : ℕ
+call = 131
 
 abbrev pub block_items : ℕ
-block_items = 129
+block_items = 132
 
 abbrev pub block_item : ℕ
-block_item = 130
+block_item = 133
 
 abbrev pub automatic_declaration : ℕ
-automatic_declaration = 131
+automatic_declaration = 134
 
 abbrev pub block_name_rest : ℕ
-block_name_rest = 132
+block_name_rest = 135
+
+abbrev pub block_scoped_name_rest : ℕ
+block_scoped_name_rest = 136
 
 abbrev pub block_select_rest : ℕ
-block_select_rest = 133
+block_select_rest = 137
 
 abbrev pub statement_item : ℕ
-statement_item = 134
+statement_item = 138
 
 abbrev pub conditional_statement : ℕ
-conditional_statement = 135
+conditional_statement = 139
 
 abbrev pub unique_priority : ℕ
-unique_priority = 136
+unique_priority = 140
 
 abbrev pub else_statement : ℕ
-else_statement = 137
+else_statement = 141
 
 abbrev pub case_keyword : ℕ
-case_keyword = 138
+case_keyword = 142
 
 abbrev pub case_body : ℕ
-case_body = 139
+case_body = 143
 
 abbrev pub case_items : ℕ
-case_items = 140
+case_items = 144
 
 abbrev pub optional_case_default : ℕ
-optional_case_default = 141
+optional_case_default = 145
 
 abbrev pub case_default : ℕ
-case_default = 142
+case_default = 146
 
 abbrev pub case_item : ℕ
-case_item = 143
+case_item = 147
 
 abbrev pub for_initialization : ℕ
-for_initialization = 144
+for_initialization = 148
 
 abbrev pub for_step : ℕ
-for_step = 145
+for_step = 149
 
 abbrev pub assignment_rest : ℕ
-assignment_rest = 146
+assignment_rest = 150
 
 abbrev pub inc_or_dec_operator : ℕ
-inc_or_dec_operator = 147
+inc_or_dec_operator = 151
 
 abbrev pub assignment_operator : ℕ
-assignment_operator = 148
+assignment_operator = 152
 
 abbrev pub variable_lvalue : ℕ
-variable_lvalue = 149
+variable_lvalue = 153
 
 abbrev pub lvalue_concatenation : ℕ
-lvalue_concatenation = 150
+lvalue_concatenation = 154
+
+abbrev pub lvalue_concatenation_rest : ℕ
+lvalue_concatenation_rest = 155
+
+abbrev pub stream_operator : ℕ
+stream_operator = 156
+
+abbrev pub optional_slice_size : ℕ
+optional_slice_size = 157
 
 abbrev pub variable_lvalues : ℕ
-variable_lvalues = 151
+variable_lvalues = 158
 
 abbrev pub next_lvalue : ℕ
-next_lvalue = 152
+next_lvalue = 159
 
 abbrev pub selects : ℕ
-selects = 153
+selects = 160
 
 abbrev pub select : ℕ
-select = 154
+select = 161
 
 abbrev pub optional_part_select_rest : ℕ
-optional_part_select_rest = 155
+optional_part_select_rest = 162
 
 abbrev pub part_select_operator : ℕ
-part_select_operator = 156
+part_select_operator = 163
 
 abbrev pub expression : ℕ
-expression = 157
+expression = 164
 
 abbrev pub optional_conditional_rest : ℕ
-optional_conditional_rest = 158
+optional_conditional_rest = 165
 
 abbrev pub logical_or : ℕ
-logical_or = 159
+logical_or = 166
 
 abbrev pub logical_or_rest : ℕ
-logical_or_rest = 160
+logical_or_rest = 167
 
 abbrev pub logical_and : ℕ
-logical_and = 161
+logical_and = 168
 
 abbrev pub logical_and_rest : ℕ
-logical_and_rest = 162
+logical_and_rest = 169
 
 abbrev pub bitwise_or : ℕ
-bitwise_or = 163
+bitwise_or = 170
 
 abbrev pub bitwise_or_rest : ℕ
-bitwise_or_rest = 164
+bitwise_or_rest = 171
 
 abbrev pub bitwise_xor : ℕ
-bitwise_xor = 165
+bitwise_xor = 172
 
 abbrev pub bitwise_xor_rest : ℕ
-bitwise_xor_rest = 166
+bitwise_xor_rest = 173
 
 abbrev pub xor_operator : ℕ
-xor_operator = 167
+xor_operator = 174
 
 abbrev pub bitwise_and : ℕ
-bitwise_and = 168
+bitwise_and = 175
 
 abbrev pub bitwise_and_rest : ℕ
-bitwise_and_rest = 169
+bitwise_and_rest = 176
 
 abbrev pub equality : ℕ
-equality = 170
+equality = 177
 
 abbrev pub equality_rest : ℕ
-equality_rest = 171
+equality_rest = 178
 
 abbrev pub equality_operator : ℕ
-equality_operator = 172
+equality_operator = 179
 
 abbrev pub relation : ℕ
-relation = 173
+relation = 180
 
 abbrev pub relation_rest : ℕ
-relation_rest = 174
+relation_rest = 181
 
 abbrev pub relation_operator : ℕ
-relation_operator = 175
+relation_operator = 182
 
 abbrev pub value_ranges : ℕ
-value_ranges = 176
+value_ranges = 183
 
 abbrev pub next_value_range : ℕ
-next_value_range = 177
+next_value_range = 184
 
 abbrev pub value_range : ℕ
-value_range = 178
+value_range = 185
 
 abbrev pub shift : ℕ
-shift = 179
+shift = 186
 
 abbrev pub shift_rest : ℕ
-shift_rest = 180
+shift_rest = 187
 
 abbrev pub shift_operator : ℕ
-shift_operator = 181
+shift_operator = 188
 
 abbrev pub sum : ℕ
-sum = 182
+sum = 189
 
 abbrev pub sum_rest : ℕ
-sum_rest = 183
+sum_rest = 190
 
 abbrev pub sum_operator : ℕ
-sum_operator = 184
+sum_operator = 191
 
 abbrev pub product : ℕ
-product = 185
+product = 192
 
 abbrev pub product_rest : ℕ
-product_rest = 186
+product_rest = 193
 
 abbrev pub product_operator : ℕ
-product_operator = 187
+product_operator = 194
 
 abbrev pub power : ℕ
-power = 188
+power = 195
 
 abbrev pub power_rest : ℕ
-power_rest = 189
+power_rest = 196
 
 abbrev pub unary : ℕ
-unary = 190
+unary = 197
 
 abbrev pub unary_operator : ℕ
-unary_operator = 191
+unary_operator = 198
 
 abbrev pub primary : ℕ
-primary = 192
+primary = 199
 
 abbrev pub optional_size_rest : ℕ
-optional_size_rest = 193
+optional_size_rest = 200
+
+abbrev pub primary_brace_rest : ℕ
+primary_brace_rest = 201
 
 abbrev pub concatenation_rest : ℕ
-concatenation_rest = 194
+concatenation_rest = 202
 
 abbrev pub next_expressions : ℕ
-next_expressions = 195
+next_expressions = 203
 
 abbrev pub primary_name_rest : ℕ
-primary_name_rest = 196
+primary_name_rest = 204
 
 abbrev pub arguments_or_selects : ℕ
-arguments_or_selects = 197
+arguments_or_selects = 205
 
 abbrev pub optional_arguments : ℕ
-optional_arguments = 198
+optional_arguments = 206
 
 abbrev pub optional_cast : ℕ
-optional_cast = 199
+optional_cast = 207
 
 abbrev pub cast : ℕ
-cast = 200
+cast = 208
 
 abbrev pub cast_operand : ℕ
-cast_operand = 201
+cast_operand = 209
 
 abbrev pub pattern_items : ℕ
-pattern_items = 202
+pattern_items = 210
 
 abbrev pub pattern_rest : ℕ
-pattern_rest = 203
+pattern_rest = 211
 
 abbrev pub next_pattern_item : ℕ
-next_pattern_item = 204
+next_pattern_item = 212
 
 abbrev pub pattern_item : ℕ
-pattern_item = 205
+pattern_item = 213
 
 abbrev pub optional_pattern_value : ℕ
-optional_pattern_value = 206
+optional_pattern_value = 214

@@ -2,3 +2,4 @@ pub mod Heads
 pub mod Symbols
 pub mod Table
 pub mod Rows
+pub mod Extents

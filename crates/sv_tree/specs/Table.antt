@@ -38,6 +38,7 @@ description_rows =
     ∷ plain head.description (Non head.type_declaration ∷ [])
     ∷ plain head.description (Non head.parameter_declaration ∷ mark ";" ∷ [])
     ∷ plain head.description (Non head.function_declaration ∷ [])
+    ∷ plain head.description (Non head.task_declaration ∷ [])
     ∷ plain head.description (mark ";" ∷ [])
     ∷ plain head.package_declaration (word "package" ∷ Non head.optional_lifetime ∷ identifier ∷ mark ";" ∷ Non head.package_items ∷ word "endpackage" ∷ Non head.optional_label ∷ [])
     ∷ plain head.package_items (Many head.package_item ∷ [])
@@ -45,6 +46,7 @@ description_rows =
     ∷ plain head.package_item (Non head.type_declaration ∷ [])
     ∷ plain head.package_item (Non head.parameter_declaration ∷ mark ";" ∷ [])
     ∷ plain head.package_item (Non head.function_declaration ∷ [])
+    ∷ plain head.package_item (Non head.task_declaration ∷ [])
     ∷ plain head.package_item (mark ";" ∷ [])
     ∷ plain head.optional_label []
     ∷ plain head.optional_label (mark ":" ∷ identifier ∷ [])
@@ -182,6 +184,7 @@ item_rows =
     ∷ plain head.module_item (Non head.type_declaration ∷ [])
     ∷ plain head.module_item (Non head.package_import_declaration ∷ [])
     ∷ plain head.module_item (Non head.function_declaration ∷ [])
+    ∷ plain head.module_item (Non head.task_declaration ∷ [])
     ∷ plain head.module_item (Non head.data_declaration ∷ mark ";" ∷ [])
     ∷ plain head.module_item (word "genvar" ∷ Non head.names ∷ mark ";" ∷ [])
     ∷ plain head.module_item (word "assign" ∷ Non head.net_assignments ∷ mark ";" ∷ [])
@@ -285,6 +288,7 @@ function_rows =
     ∷ plain head.function_type (Non head.signing ∷ Non head.dimensions ∷ identifier ∷ [])
     ∷ plain head.function_type (Non head.dimension ∷ Non head.dimensions ∷ identifier ∷ [])
     ∷ plain head.function_type (identifier ∷ Non head.function_name_rest ∷ [])
+    ∷ plain head.function_type (word "void" ∷ identifier ∷ [])
     ∷ plain head.function_name_rest (mark "::" ∷ identifier ∷ Non head.dimensions ∷ identifier ∷ [])
     ∷ plain head.function_name_rest (Non head.dimensions ∷ Non head.optional_name ∷ [])
     ∷ plain head.optional_name []
@@ -294,15 +298,19 @@ function_rows =
     ∷ plain head.optional_tf_ports []
     ∷ plain head.optional_tf_ports (Non head.tf_port_item ∷ Many head.next_tf_port ∷ [])
     ∷ plain head.next_tf_port (mark "," ∷ Non head.tf_port_item ∷ [])
-    ∷ plain head.tf_port_item (Non head.optional_input ∷ Non head.port_type ∷ [])
-    ∷ plain head.optional_input []
-    ∷ plain head.optional_input (word "input" ∷ [])
+    ∷ plain head.tf_port_item (Non head.optional_tf_port_direction ∷ Non head.port_type ∷ [])
+    ∷ plain head.optional_tf_port_direction []
+    ∷ plain head.optional_tf_port_direction (word "input" ∷ [])
+    ∷ plain head.optional_tf_port_direction (word "output" ∷ [])
+    ∷ plain head.optional_tf_port_direction (word "inout" ∷ [])
+    ∷ plain head.task_declaration (word "task" ∷ Non head.optional_lifetime ∷ identifier ∷ Non head.optional_tf_port_list ∷ mark ";" ∷ Non head.block_items ∷ word "endtask" ∷ Non head.optional_label ∷ [])
     ∷ []
 
 -- processes and what they wait for (A.6.2, A.6.5)
 abbrev pub always_rows : List Row
 always_rows =
     plain head.always_construct (word "always_comb" ∷ Non head.statement ∷ [])
+    ∷ plain head.always_construct (word "always_latch" ∷ Non head.statement ∷ [])
     ∷ plain head.always_construct (word "always_ff" ∷ mark "@" ∷ mark "(" ∷ Non head.event_expression ∷ mark ")" ∷ Non head.statement ∷ [])
     ∷ plain head.always_construct (word "always" ∷ mark "@" ∷ Non head.event_control ∷ Non head.statement ∷ [])
     ∷ plain head.event_control (mark "*" ∷ [])
@@ -327,7 +335,11 @@ always_rows =
 abbrev pub block_rows : List Row
 block_rows =
     nested head.statement (Non head.statement_item ∷ [])
-    ∷ nested head.statement (identifier ∷ Non head.selects ∷ Non head.assignment_rest ∷ mark ";" ∷ [])
+    ∷ nested head.statement (identifier ∷ Non head.statement_name_rest ∷ [])
+    ∷ plain head.statement_name_rest (Non head.call ∷ mark ";" ∷ [])
+    ∷ plain head.statement_name_rest (mark "::" ∷ identifier ∷ Non head.call ∷ mark ";" ∷ [])
+    ∷ plain head.statement_name_rest (Non head.selects ∷ Non head.assignment_rest ∷ mark ";" ∷ [])
+    ∷ plain head.call (mark "(" ∷ Non head.optional_arguments ∷ mark ")" ∷ [])
     ∷ plain head.block_items (Many head.block_item ∷ [])
     ∷ nested head.block_item (Non head.statement_item ∷ [])
     ∷ nested head.block_item (Non head.parameter_declaration ∷ mark ";" ∷ [])
@@ -338,8 +350,11 @@ block_rows =
     ∷ nested head.block_item (identifier ∷ Non head.block_name_rest ∷ [])
     ∷ plain head.automatic_declaration (Non head.variable_type ∷ [])
     ∷ plain head.automatic_declaration (word "var" ∷ Non head.variable_type ∷ [])
-    ∷ plain head.block_name_rest (mark "::" ∷ identifier ∷ Non head.dimensions ∷ Non head.declarators ∷ mark ";" ∷ [])
+    ∷ plain head.block_name_rest (Non head.call ∷ mark ";" ∷ [])
+    ∷ plain head.block_name_rest (mark "::" ∷ identifier ∷ Non head.block_scoped_name_rest ∷ [])
     ∷ plain head.block_name_rest (Non head.selects ∷ Non head.block_select_rest ∷ [])
+    ∷ plain head.block_scoped_name_rest (Non head.call ∷ mark ";" ∷ [])
+    ∷ plain head.block_scoped_name_rest (Non head.dimensions ∷ Non head.declarators ∷ mark ";" ∷ [])
     ∷ plain head.block_select_rest (Non head.assignment_rest ∷ mark ";" ∷ [])
     ∷ plain head.block_select_rest (Non head.declarators ∷ mark ";" ∷ [])
     ∷ plain head.statement_item (word "begin" ∷ Non head.optional_label ∷ Non head.block_items ∷ word "end" ∷ Non head.optional_label ∷ [])
@@ -402,7 +417,16 @@ assignment_rows =
     ∷ plain head.assignment_operator (mark ">>>=" ∷ [])
     ∷ plain head.variable_lvalue (identifier ∷ Non head.selects ∷ [])
     ∷ plain head.variable_lvalue (Non head.lvalue_concatenation ∷ [])
-    ∷ nested head.lvalue_concatenation (mark "{" ∷ Non head.variable_lvalues ∷ mark "}" ∷ [])
+    ∷ nested head.lvalue_concatenation (mark "{" ∷ Non head.lvalue_concatenation_rest ∷ [])
+    ∷ plain head.lvalue_concatenation_rest (Non head.variable_lvalues ∷ mark "}" ∷ [])
+    ∷ plain head.lvalue_concatenation_rest (Non head.stream_operator ∷ Non head.optional_slice_size ∷ mark "{" ∷ Non head.variable_lvalues ∷ mark "}" ∷ mark "}" ∷ [])
+    ∷ plain head.stream_operator (mark "<<" ∷ [])
+    ∷ plain head.stream_operator (mark ">>" ∷ [])
+    ∷ plain head.optional_slice_size []
+    ∷ plain head.optional_slice_size (Term DECIMAL ∷ [])
+    ∷ plain head.optional_slice_size (Non head.keyword_type ∷ [])
+    ∷ plain head.optional_slice_size (identifier ∷ Non head.optional_scoped_name ∷ [])
+    ∷ plain head.optional_slice_size (mark "(" ∷ Non head.expression ∷ mark ")" ∷ [])
     ∷ plain head.variable_lvalues (Non head.variable_lvalue ∷ Many head.next_lvalue ∷ [])
     ∷ plain head.next_lvalue (mark "," ∷ Non head.variable_lvalue ∷ [])
     ∷ plain head.selects (Many head.select ∷ [])
@@ -492,7 +516,7 @@ primary_rows =
     ∷ plain head.primary (Term BASED ∷ [])
     ∷ plain head.primary (Term FILL ∷ [])
     ∷ plain head.primary (mark "(" ∷ Non head.expression ∷ mark ")" ∷ Non head.optional_cast ∷ [])
-    ∷ plain head.primary (mark "{" ∷ Non head.expression ∷ Non head.concatenation_rest ∷ [])
+    ∷ plain head.primary (mark "{" ∷ Non head.primary_brace_rest ∷ [])
     ∷ plain head.primary (mark "'" ∷ mark "{" ∷ Non head.pattern_items ∷ mark "}" ∷ [])
     ∷ plain head.primary (Non head.keyword_type ∷ Non head.dimensions ∷ Non head.optional_cast ∷ [])
     ∷ plain head.primary (Non head.signing ∷ Non head.cast ∷ [])
@@ -501,6 +525,8 @@ primary_rows =
     ∷ plain head.optional_size_rest []
     ∷ plain head.optional_size_rest (Term BASED ∷ [])
     ∷ plain head.optional_size_rest (Non head.cast ∷ [])
+    ∷ plain head.primary_brace_rest (Non head.stream_operator ∷ Non head.optional_slice_size ∷ mark "{" ∷ Non head.expressions ∷ mark "}" ∷ mark "}" ∷ [])
+    ∷ plain head.primary_brace_rest (Non head.expression ∷ Non head.concatenation_rest ∷ [])
     ∷ plain head.concatenation_rest (mark "{" ∷ Non head.expressions ∷ mark "}" ∷ mark "}" ∷ [])
     ∷ plain head.concatenation_rest (Non head.next_expressions ∷ mark "}" ∷ [])
     ∷ plain head.next_expressions (Many head.next_expression ∷ [])

@@ -2,7 +2,7 @@
 //! between two items of a list isn't kept: it stands directly before the second item.
 
 use crate::names::{QualifiedName, Signing};
-use crate::operators::{BinaryOperator, PartOperator, UnaryOperator};
+use crate::operators::{BinaryOperator, PartOperator, StreamOperator, UnaryOperator};
 use crate::types::KeywordType;
 use sv_source::{Boxed, Items};
 
@@ -180,6 +180,30 @@ pub enum Cast {
     },
 }
 
+/// How many bits a slice of a stream has (IEEE 1800-2017 A.8.1 slice_size).
+#[derive(Drop)]
+#[cycle(expr)]
+pub enum SliceSize {
+    /// A number.
+    Decimal {
+        /// Its digits.
+        digits: u32,
+    },
+    /// As many as a value of a type that one word names.
+    Keyword(KeywordType),
+    /// A constant, or as many as a value of a named type.
+    Name(QualifiedName),
+    /// `(size)`
+    Parenthesized {
+        /// The `(`.
+        opening: u32,
+        /// The size.
+        value: Boxed<Expr>,
+        /// The `)`.
+        closing: u32,
+    },
+}
+
 /// An expression (IEEE 1800-2017 A.8.3 expression and A.8.4 primary), or a type in the place of one.
 #[derive(Drop)]
 #[cycle(expr)]
@@ -292,6 +316,25 @@ pub enum Expr {
         /// The values, at least one, the most significant first.
         items: Exprs,
         /// The `}`.
+        closing: u32,
+    },
+    /// `{<<size{items}}` or `{>>size{items}}` (IEEE 1800-2017 A.8.1 streaming_concatenation).
+    Stream {
+        /// The outer `{`.
+        opening: u32,
+        /// The order of the slices.
+        operator: StreamOperator,
+        /// The operator's token.
+        at: u32,
+        /// The size of a slice, where it is written.
+        size: Option<Boxed<SliceSize>>,
+        /// The inner `{`.
+        inner_opening: u32,
+        /// The values, at least one.
+        items: Exprs,
+        /// The inner `}`.
+        inner_closing: u32,
+        /// The outer `}`.
         closing: u32,
     },
     /// `'{pattern}`, of the type that its place gives it.

@@ -3,7 +3,7 @@
 
 use crate::declarations::{Declarators, Import, ParameterDeclaration};
 use crate::expressions::{Expr, Exprs};
-use crate::functions::Function;
+use crate::functions::{Function, Task};
 use crate::instances::{Instantiation, ModportDeclaration};
 use crate::names::{Label, Names, NetOrVariable};
 use crate::processes::{Always, ContinuousAssign};
@@ -126,6 +126,8 @@ pub enum Item {
     Import(Import),
     /// A function.
     Function(Function),
+    /// A task.
+    Task(Task),
     /// Nets or variables.
     Data(DataDeclaration),
     /// Names of generate loops.

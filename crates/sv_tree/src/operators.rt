@@ -124,6 +124,15 @@ pub enum StepOperator {
     Decrement,
 }
 
+/// How a stream orders its slices (A.8.1 stream_operator).
+#[derive(Clone, Copy, PartialEq, Eq)]
+pub enum StreamOperator {
+    /// `<<`, the last slice first.
+    Left,
+    /// `>>`, as they stand.
+    Right,
+}
+
 /// What stands between the two expressions of a part select (A.8.4 part_select_range).
 #[derive(Clone, Copy, PartialEq, Eq)]
 pub enum PartOperator {

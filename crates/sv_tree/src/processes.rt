@@ -120,6 +120,13 @@ pub enum Always {
         /// The statement.
         body: Stmt,
     },
+    /// `always_latch body`
+    Latch {
+        /// The word `always_latch`.
+        keyword: u32,
+        /// The statement.
+        body: Stmt,
+    },
     /// `always_ff @(edges) body`
     Ff {
         /// The word `always_ff`.

@@ -6,7 +6,7 @@
 
 /// The heads, in the order of their numbers, with one space between.
 pub const HEADS: &str =
-    "source_text description package_declaration package_items package_item optional_label optional_lifetime package_import_declaration package_import_items next_package_import_item package_import_item imported_name module_declaration interface_declaration header header_imports optional_parameter_port_list optional_parameter_ports next_parameter_port parameter_port_declaration optional_port_list optional_ports next_port parameter_declaration parameter_keyword optional_parameter_keyword parameter_bodies next_parameter_body parameter_body parameter_name_rest optional_initializer declarators next_declarator declarator dimensions dimension optional_right_bound port_declaration port_direction optional_port_direction net_or_variable optional_net_or_variable port_type port_name_rest optional_dimensioned_name keyword_type type_keyword signing optional_signing data_type optional_scoped_name aggregate_type struct_union optional_packing struct_union_members struct_union_member dimensioned_names next_dimensioned_name dimensioned_name optional_enum_base_type enum_names next_enum_name enum_name_declaration type_declaration module_items module_item names next_name net_assignments next_net_assignment net_assignment data_declaration variable_type variable_name_rest item_name_rest declared_name_rest next_declarators optional_parameter_assignments next_parameter_assignment parameter_assignment hierarchical_instances next_instances next_instance hierarchical_instance optional_port_connections next_port_connection port_connection optional_connected_expression loop_generate_construct optional_genvar_keyword if_generate_construct generate_else case_generate_construct case_generate_body case_generate_items optional_case_generate_default case_generate_default optional_colon case_generate_item expressions next_expression optional_expression generate_block modport_declaration modport_items next_modport_item modport_item modport_ports next_modport_port modport_port function_declaration function_type function_name_rest optional_name optional_tf_port_list optional_tf_ports next_tf_port tf_port_item optional_input always_construct event_control event_control_rest event_expression next_event_edge event_separator event_edge edge_identifier optional_event_member statement block_items block_item automatic_declaration block_name_rest block_select_rest statement_item conditional_statement unique_priority else_statement case_keyword case_body case_items optional_case_default case_default case_item for_initialization for_step assignment_rest inc_or_dec_operator assignment_operator variable_lvalue lvalue_concatenation variable_lvalues next_lvalue selects select optional_part_select_rest part_select_operator expression optional_conditional_rest logical_or logical_or_rest logical_and logical_and_rest bitwise_or bitwise_or_rest bitwise_xor bitwise_xor_rest xor_operator bitwise_and bitwise_and_rest equality equality_rest equality_operator relation relation_rest relation_operator value_ranges next_value_range value_range shift shift_rest shift_operator sum sum_rest sum_operator product product_rest product_operator power power_rest unary unary_operator primary optional_size_rest concatenation_rest next_expressions primary_name_rest arguments_or_selects optional_arguments optional_cast cast cast_operand pattern_items pattern_rest next_pattern_item pattern_item optional_pattern_value";
+    "source_text description package_declaration package_items package_item optional_label optional_lifetime package_import_declaration package_import_items next_package_import_item package_import_item imported_name module_declaration interface_declaration header header_imports optional_parameter_port_list optional_parameter_ports next_parameter_port parameter_port_declaration optional_port_list optional_ports next_port parameter_declaration parameter_keyword optional_parameter_keyword parameter_bodies next_parameter_body parameter_body parameter_name_rest optional_initializer declarators next_declarator declarator dimensions dimension optional_right_bound port_declaration port_direction optional_port_direction net_or_variable optional_net_or_variable port_type port_name_rest optional_dimensioned_name keyword_type type_keyword signing optional_signing data_type optional_scoped_name aggregate_type struct_union optional_packing struct_union_members struct_union_member dimensioned_names next_dimensioned_name dimensioned_name optional_enum_base_type enum_names next_enum_name enum_name_declaration type_declaration module_items module_item names next_name net_assignments next_net_assignment net_assignment data_declaration variable_type variable_name_rest item_name_rest declared_name_rest next_declarators optional_parameter_assignments next_parameter_assignment parameter_assignment hierarchical_instances next_instances next_instance hierarchical_instance optional_port_connections next_port_connection port_connection optional_connected_expression loop_generate_construct optional_genvar_keyword if_generate_construct generate_else case_generate_construct case_generate_body case_generate_items optional_case_generate_default case_generate_default optional_colon case_generate_item expressions next_expression optional_expression generate_block modport_declaration modport_items next_modport_item modport_item modport_ports next_modport_port modport_port function_declaration function_type function_name_rest optional_name optional_tf_port_list optional_tf_ports next_tf_port tf_port_item optional_tf_port_direction task_declaration always_construct event_control event_control_rest event_expression next_event_edge event_separator event_edge edge_identifier optional_event_member statement statement_name_rest call block_items block_item automatic_declaration block_name_rest block_scoped_name_rest block_select_rest statement_item conditional_statement unique_priority else_statement case_keyword case_body case_items optional_case_default case_default case_item for_initialization for_step assignment_rest inc_or_dec_operator assignment_operator variable_lvalue lvalue_concatenation lvalue_concatenation_rest stream_operator optional_slice_size variable_lvalues next_lvalue selects select optional_part_select_rest part_select_operator expression optional_conditional_rest logical_or logical_or_rest logical_and logical_and_rest bitwise_or bitwise_or_rest bitwise_xor bitwise_xor_rest xor_operator bitwise_and bitwise_and_rest equality equality_rest equality_operator relation relation_rest relation_operator value_ranges next_value_range value_range shift shift_rest shift_operator sum sum_rest sum_operator product product_rest product_operator power power_rest unary unary_operator primary optional_size_rest primary_brace_rest concatenation_rest next_expressions primary_name_rest arguments_or_selects optional_arguments optional_cast cast cast_operand pattern_items pattern_rest next_pattern_item pattern_item optional_pattern_value";
 
 /// The classes of names and literals, in the order of their symbols, with one space between.
 pub const CLASSES: &str = "identifier system decimal based fill";
@@ -20,6 +20,7 @@ description = package_import_declaration
 description = type_declaration
 description = parameter_declaration ';
 description = function_declaration
+description = task_declaration
 description = ';
 package_declaration = 'package optional_lifetime #identifier '; package_items 'endpackage optional_label
 package_items = *package_item
@@ -27,6 +28,7 @@ package_item = package_import_declaration
 package_item = type_declaration
 package_item = parameter_declaration ';
 package_item = function_declaration
+package_item = task_declaration
 package_item = ';
 optional_label =
 optional_label = ': #identifier
@@ -139,6 +141,7 @@ module_item = parameter_declaration ';
 module_item = type_declaration
 module_item = package_import_declaration
 module_item = function_declaration
+module_item = task_declaration
 module_item = data_declaration ';
 module_item = 'genvar names ';
 module_item = 'assign net_assignments ';
@@ -222,6 +225,7 @@ function_type = keyword_type dimensions #identifier
 function_type = signing dimensions #identifier
 function_type = dimension dimensions #identifier
 function_type = #identifier function_name_rest
+function_type = 'void #identifier
 function_name_rest = ':: #identifier dimensions #identifier
 function_name_rest = dimensions optional_name
 optional_name =
@@ -231,10 +235,14 @@ optional_tf_port_list = '( optional_tf_ports ')
 optional_tf_ports =
 optional_tf_ports = tf_port_item *next_tf_port
 next_tf_port = ', tf_port_item
-tf_port_item = optional_input port_type
-optional_input =
-optional_input = 'input
+tf_port_item = optional_tf_port_direction port_type
+optional_tf_port_direction =
+optional_tf_port_direction = 'input
+optional_tf_port_direction = 'output
+optional_tf_port_direction = 'inout
+task_declaration = 'task optional_lifetime #identifier optional_tf_port_list '; block_items 'endtask optional_label
 always_construct = 'always_comb statement
+always_construct = 'always_latch statement
 always_construct = 'always_ff '@ '( event_expression ') statement
 always_construct = 'always '@ event_control statement
 event_control = '*
@@ -254,7 +262,11 @@ edge_identifier = 'negedge
 optional_event_member =
 optional_event_member = '. #identifier
 statement > statement_item
-statement > #identifier selects assignment_rest ';
+statement > #identifier statement_name_rest
+statement_name_rest = call ';
+statement_name_rest = ':: #identifier call ';
+statement_name_rest = selects assignment_rest ';
+call = '( optional_arguments ')
 block_items = *block_item
 block_item > statement_item
 block_item > parameter_declaration ';
@@ -265,8 +277,11 @@ block_item > 'var variable_type ';
 block_item > #identifier block_name_rest
 automatic_declaration = variable_type
 automatic_declaration = 'var variable_type
-block_name_rest = ':: #identifier dimensions declarators ';
+block_name_rest = call ';
+block_name_rest = ':: #identifier block_scoped_name_rest
 block_name_rest = selects block_select_rest
+block_scoped_name_rest = call ';
+block_scoped_name_rest = dimensions declarators ';
 block_select_rest = assignment_rest ';
 block_select_rest = declarators ';
 statement_item = 'begin optional_label block_items 'end optional_label
@@ -319,7 +334,16 @@ assignment_operator = '<<<=
 assignment_operator = '>>>=
 variable_lvalue = #identifier selects
 variable_lvalue = lvalue_concatenation
-lvalue_concatenation > '{ variable_lvalues '}
+lvalue_concatenation > '{ lvalue_concatenation_rest
+lvalue_concatenation_rest = variable_lvalues '}
+lvalue_concatenation_rest = stream_operator optional_slice_size '{ variable_lvalues '} '}
+stream_operator = '<<
+stream_operator = '>>
+optional_slice_size =
+optional_slice_size = #decimal
+optional_slice_size = keyword_type
+optional_slice_size = #identifier optional_scoped_name
+optional_slice_size = '( expression ')
 variable_lvalues = variable_lvalue *next_lvalue
 next_lvalue = ', variable_lvalue
 selects = *select
@@ -399,7 +423,7 @@ primary = #decimal optional_size_rest
 primary = #based
 primary = #fill
 primary = '( expression ') optional_cast
-primary = '{ expression concatenation_rest
+primary = '{ primary_brace_rest
 primary = '' '{ pattern_items '}
 primary = keyword_type dimensions optional_cast
 primary = signing cast
@@ -408,6 +432,8 @@ primary = #identifier primary_name_rest
 optional_size_rest =
 optional_size_rest = #based
 optional_size_rest = cast
+primary_brace_rest = stream_operator optional_slice_size '{ expressions '} '}
+primary_brace_rest = expression concatenation_rest
 concatenation_rest = '{ expressions '} '}
 concatenation_rest = next_expressions '}
 next_expressions = *next_expression

@@ -2,9 +2,9 @@
 //! a token among the tree's tokens.
 
 use crate::declarations::{Declarators, ParameterDeclaration};
-use crate::expressions::{Expr, Exprs, Selects};
-use crate::names::Label;
-use crate::operators::{AssignmentOperator, StepOperator};
+use crate::expressions::{Expr, Exprs, Selects, SliceSize};
+use crate::names::{Label, QualifiedName};
+use crate::operators::{AssignmentOperator, StepOperator, StreamOperator};
 use crate::types::TypeText;
 use sv_source::{Boxed, Items};
 
@@ -26,6 +26,25 @@ pub enum Lvalue {
         /// The targets, at least one, the most significant first.
         targets: Lvalues,
         /// The `}`.
+        closing: u32,
+    },
+    /// `{<<size{targets}}` or `{>>size{targets}}` (IEEE 1800-2017 A.8.1 streaming_concatenation).
+    Stream {
+        /// The outer `{`.
+        opening: u32,
+        /// The order of the slices.
+        operator: StreamOperator,
+        /// The operator's token.
+        at: u32,
+        /// The size of a slice, where it is written.
+        size: Option<SliceSize>,
+        /// The inner `{`.
+        inner_opening: u32,
+        /// The targets, at least one.
+        targets: Lvalues,
+        /// The inner `}`.
+        inner_closing: u32,
+        /// The outer `}`.
         closing: u32,
     },
 }
@@ -268,6 +287,19 @@ pub enum Stmt {
         keyword: u32,
         /// The result.
         value: Option<Expr>,
+        /// The `;`.
+        semicolon: u32,
+    },
+    /// A call of a task, or of a function without a value (IEEE 1800-2017 A.6.9 subroutine_call_statement).
+    Call {
+        /// The name.
+        of: QualifiedName,
+        /// The `(`.
+        opening: u32,
+        /// The arguments.
+        arguments: Exprs,
+        /// The `)`.
+        closing: u32,
         /// The `;`.
         semicolon: u32,
     },

@@ -38,7 +38,7 @@ pub const MARKS: &str =
 
 /// The reserved words of the grammar, with one space between.
 pub const WORDS: &str =
-    "always always_comb always_ff assign automatic begin bit break byte case casex casez continue default else end endcase endfunction endgenerate endinterface endmodule endpackage enum for function generate genvar if import input inside int integer interface localparam logic longint modport module negedge or output package packed parameter posedge priority reg return shortint signed static struct type typedef union unique unique0 unsigned var wire";
+    "always always_comb always_ff always_latch assign automatic begin bit break byte case casex casez continue default else end endcase endfunction endgenerate endinterface endmodule endpackage endtask enum for function generate genvar if import inout input inside int integer interface localparam logic longint modport module negedge or output package packed parameter posedge priority reg return shortint signed static struct task type typedef union unique unique0 unsigned var void wire";
 
 /// The place of the text among the words, if it is one of them.
 fn place_among(words: &'static str, text: &[u8]) -> Option<usize>

@@ -1,7 +1,7 @@
 //! Source texts (IEEE 1800-2017 A.1.2, A.1.11). Each `u32` is the number of a token among the tree's tokens.
 
 use crate::declarations::{Import, ParameterDeclaration};
-use crate::functions::Function;
+use crate::functions::{Function, Task};
 use crate::items::ModuleItems;
 use crate::names::{Label, Lifetime};
 use crate::ports::Header;
@@ -19,6 +19,8 @@ pub enum PackageItem {
     Parameters(ParameterDeclaration),
     /// A function.
     Function(Function),
+    /// A task.
+    Task(Task),
     /// `;`
     Empty {
         /// The `;`.
@@ -80,6 +82,8 @@ pub enum Unit {
     Parameters(ParameterDeclaration),
     /// A function.
     Function(Function),
+    /// A task.
+    Task(Task),
     /// `;`
     Empty {
         /// The `;`.

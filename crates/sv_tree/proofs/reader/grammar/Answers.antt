@@ -9,7 +9,7 @@ use Rattle.sv_tree.proofs.reader.grammar.Goals as goal
 pub new-requires : goal.new-requires
 new-requires c =
     let rows : c.in_ok-grammar_rows.field-0 ≡ table = c.in_ok-grammar_rows.ensures in
-    let long : length c.in_ok-grammar_rows.field-0 ≡ 419 = ap length rows ∙ table_length in
+    let long : length c.in_ok-grammar_rows.field-0 ≡ 445 = ap length rows ∙ table_length in
     omega (arith, long)
 
 pub unreachable-requires : goal.unreachable-requires
