@@ -4,7 +4,8 @@ use Rattle.std.proofs.Common.{◌≡◌, ℕ, ◌<◌, ◌==◌, Bool, true, fal
 use Rattle.std.specs.List.{list_all}
 use Rattle.std.proofs.lemmas.Bool.{false≢true}
 use Rattle.ll_engine.specs.declared.table.Part.{Part}
-use Rattle.ll_engine.specs.Class.{IsFit}
+use Rattle.ll_engine.specs.declared.table.Row.{Row}
+use Rattle.ll_engine.specs.Class.{IsFit, BreaksAt, no_rows, at_row}
 use Rattle.ll_engine.specs.Grammar.{Begins}
 use Rattle.v_tree.specs.Table.{table}
 use Rattle.std.specs.Int.{bit_at}
@@ -95,3 +96,7 @@ table-fits = Keeping.fit table first blank lead follow rank size firsts-closed r
 pub never : (ps : List Part) (a : ℕ) → has (Firsts.firsts table first blank ps) a ≡ false → Begins table ps a → ⊥
 never ps a e b =
     false≢true (sym e ∙ eq-eqb (bit_at (Firsts.firsts table first blank ps) a) 1 (Firsts.begins-sound table first blank firsts-closed b))
+
+pub never-unfit : (t : List Row) → IsFit t → (at : ℕ) → BreaksAt t at → ⊥
+never-unfit t fit at (no_rows e f) = (let h = fit.has_rows in absurd (omega arith))
+never-unfit t fit at (at_row {h = h} {row = row} is breaks before) = breaks (fit.keeps at h row is)

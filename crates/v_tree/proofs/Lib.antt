@@ -6,3 +6,6 @@ pub mod OneReading
 pub mod Fits
 pub mod Induction
 pub mod HelperNames
+pub mod Lines
+pub mod Positions
+pub mod Written

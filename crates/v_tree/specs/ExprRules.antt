@@ -28,7 +28,7 @@ pub record SelRules : Type 0 where
   pub selected : Selected
   pub broken : Around → ℕ → List ℕ
   -- the functions that it calls
-  pub calls : List Name
+  pub calls : Around → List Name
 
 -- What an expression is: its number of tokens, its width alone (table 5-22), the tokens that break a rule at the width of its
 -- context and from its first token on; and as what an output is connected to: whether it is a target, and the tokens that
@@ -40,7 +40,7 @@ pub record Rules : Type 0 where
   pub is_target : Bool
   pub driven : Around → ℕ → List ℕ
   -- the functions that it calls
-  pub calls : List Name
+  pub calls : Around → List Name
 
 -- alone, at its own width
 abbrev pub alone : Rules → Around → ℕ → List ℕ
@@ -64,11 +64,11 @@ each_from f (r ∷ rs) at = f r at ++ each_from f rs (at + suc r.size)
 abbrev pub widths : List Rules → Around → List ℕ
 widths rs around = map (λ (r : Rules). r.width around) rs
 
-abbrev pub calls_in : List Rules → List Name
-calls_in rs = flat_map (λ (r : Rules). r.calls) rs
+abbrev pub calls_in : List Rules → Around → List Name
+calls_in rs around = flat_map (λ (r : Rules). r.calls around) rs
 
-abbrev pub calls_in_sels : List SelRules → List Name
-calls_in_sels ss = flat_map (λ (s : SelRules). s.calls) ss
+abbrev pub calls_in_sels : List SelRules → Around → List Name
+calls_in_sels ss around = flat_map (λ (s : SelRules). s.calls around) ss
 
 abbrev pub sels_size : List SelRules → ℕ
 sels_size ss = total (map (λ (s : SelRules). s.size) ss)
@@ -139,6 +139,15 @@ inputs_of (Some (memory width ranged)) = []
 inputs_of (Some part) = []
 inputs_of None = []
 
+-- the function that a call names, where the name stands for one
+abbrev pub called : Option Thing → Name → List Name
+called (Some (function width inputs)) name = name ∷ []
+called (Some (result width ranged inputs)) name = name ∷ []
+called (Some (value kind width ranged)) name = []
+called (Some (memory width ranged)) name = []
+called (Some part) name = []
+called None name = []
+
 -- an output may drive a net that is no input
 abbrev pub is_net : Option Thing → Bool
 is_net (Some (value net width ranged)) = true
@@ -180,7 +189,7 @@ sel_rules (VSel-F.Decimal base extent) = record {
   size = 3 + extent_size extent;
   selected = record { base = Some base; extent = extent };
   broken = λ around at. decimal_extent base extent (suc at);
-  calls = [];
+  calls = λ around. [];
 }
 sel_rules (VSel-F.Expr base extent) = record {
   size = 2 + (base.size + extent_size extent);
@@ -200,7 +209,7 @@ prim_rules (VPrim-F.Number bits) = record {
   broken = λ around w at. [];
   is_target = false;
   driven = untargeted;
-  calls = [];
+  calls = λ around. [];
 }
 prim_rules (VPrim-F.Paren inner) = record {
   size = 2 + inner.size;
@@ -225,7 +234,7 @@ prim_rules (VPrim-F.Call name args) = record {
       call_broken (around.scope name) args at ++ (only_if (around.leads_back name) at ++ args_broken (inputs_of (around.scope name)) args around (at + 2));
   is_target = false;
   driven = untargeted;
-  calls = name ∷ calls_in args;
+  calls = λ around. called (around.scope name) name ++ calls_in args around;
 }
 prim_rules (VPrim-F.Repeat count items) = record {
   size = 5 + listed_size items;
@@ -338,7 +347,7 @@ binary_rules o a b = record {
       ++ (only_if (too_wide o w l r) (at + a.size) ++ b.broken around (right_width o w l r) (at + suc a.size));
   is_target = false;
   driven = untargeted;
-  calls = a.calls ++ b.calls;
+  calls = λ around. a.calls around ++ b.calls around;
 }
 
 -- whether the operand takes the width of the context
@@ -383,7 +392,7 @@ expr_rules (VExpr-F.Choose on a b) = record {
       alone on around at ++ (a.broken around w (at + suc on.size) ++ b.broken around w (at + (suc on.size + suc a.size)));
   is_target = false;
   driven = untargeted;
-  calls = on.calls ++ (a.calls ++ b.calls);
+  calls = λ around. on.calls around ++ (a.calls around ++ b.calls around);
 }
 
 abbrev pub rules_of : VExpr → Rules

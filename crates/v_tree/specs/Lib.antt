@@ -13,3 +13,4 @@ pub mod Scopes
 pub mod ExprRules
 pub mod StmtRules
 pub mod Rules
+pub mod Rows

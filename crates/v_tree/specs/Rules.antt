@@ -142,11 +142,6 @@ abbrev pub leads : ℕ → List Link → Name → Name → Bool
 leads zero ls a b = bytes_eq a b
 leads (suc n) ls a b = bytes_eq a b || list_any (λ c. leads n ls c b) (links_of ls a)
 
-abbrev pub function_links : List VItem → List Link
-function_links [] = []
-function_links (I.Function f ∷ is) = record { from = f.name; to = (rules_of_stmt f.body).calls } ∷ function_links is
-function_links (i ∷ is) = function_links is
-
 abbrev pub instantiated : List VItem → List Name
 instantiated [] = []
 instantiated (I.Instance i ∷ is) = i.of ∷ instantiated is
@@ -249,6 +244,14 @@ function_names f at =
     ∷ (locals_from f.inputs first ++ (locals_from f.locals (first + locals_size f.inputs)
     ++ (rules_of_stmt f.body).blocks (first + (locals_size f.inputs + locals_size f.locals))))
 
+-- the functions that each function calls, by what names stand for in it
+abbrev pub function_links : Scope → List VItem → List Link
+function_links scope [] = []
+function_links scope (I.Function f ∷ is) =
+    record { from = f.name; to = (rules_of_stmt f.body).calls (record { scope = inside (function_names f 0) scope; leads_back = λ g. false }) }
+    ∷ function_links scope is
+function_links scope (i ∷ is) = function_links scope is
+
 abbrev pub function_broken : Scope → List Link → VFunction → ℕ → List ℕ
 function_broken scope links f at =
     let own = function_names f at in
@@ -281,7 +284,7 @@ abbrev pub item_broken : List VModule → VModule → Around → VItem → ℕ �
 item_broken ms m around (I.Signal s) at = signal_broken s at
 item_broken ms m around (I.Initial i) at = initial_broken (around.scope i.name) (length i.value) at
 item_broken ms m around (I.Process p) at = process_broken around p at
-item_broken ms m around (I.Function f) at = function_broken around.scope (function_links m.items) f at
+item_broken ms m around (I.Function f) at = function_broken around.scope (function_links around.scope m.items) f at
 item_broken ms m around (I.Instance i) at =
     only_if (leads (length ms) (module_links ms) i.of m.name) at ++ child_broken around (module_named ms i.of) i at
 

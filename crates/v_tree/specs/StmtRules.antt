@@ -20,7 +20,7 @@ pub record Target : Type 0 where
   pub by_assign : Around → ℕ → List ℕ
   pub has_signal : Around → Bool
   -- the functions that it calls
-  pub calls : List Name
+  pub calls : Around → List Name
 
 -- a procedure writes variables (clause 9.2)
 abbrev pub is_written : Option Thing → Bool
@@ -78,7 +78,7 @@ lval_target (VLval-F.Concat parts) = record {
   by_procedure = λ around at. each_target (λ t from. t.by_procedure around from) parts (suc at);
   by_assign = λ around at. each_target (λ t from. t.by_assign around from) parts (suc at);
   has_signal = any_signal parts;
-  calls = flat_map (λ (t : Target). t.calls) parts;
+  calls = λ around. flat_map (λ (t : Target). t.calls around) parts;
 }
 
 abbrev pub target_of : VLval → Target
@@ -103,7 +103,7 @@ pub record StmtRules : Type 0 where
   pub blocks : ℕ → List Declared
   pub broken : Procedure → Around → ℕ → List ℕ
   -- the functions that it calls
-  pub calls : List Name
+  pub calls : Around → List Name
 
 -- `reg [left:0] name;`
 abbrev pub range_size : Option ℕ → ℕ
@@ -125,8 +125,8 @@ locals_from (l ∷ ls) at =
 abbrev pub stmts_size : List StmtRules → ℕ
 stmts_size ss = total (map (λ (s : StmtRules). s.size) ss)
 
-abbrev pub calls_in_stmts : List StmtRules → List Name
-calls_in_stmts ss = flat_map (λ (s : StmtRules). s.calls) ss
+abbrev pub calls_in_stmts : List StmtRules → Around → List Name
+calls_in_stmts ss around = flat_map (λ (s : StmtRules). s.calls around) ss
 
 abbrev pub blocks_in : List StmtRules → ℕ → List Declared
 blocks_in [] at = []
@@ -143,7 +143,7 @@ pub record ItemRules : Type 0 where
 
 abbrev pub branch_rules : VBranch-F StmtRules ItemRules StmtRules → StmtRules
 branch_rules (VBranch-F.Statement s) = s
-branch_rules VBranch-F.Empty = record { size = 1; blocks = λ at. []; broken = λ procedure around at. []; calls = [] }
+branch_rules VBranch-F.Empty = record { size = 1; blocks = λ at. []; broken = λ procedure around at. []; calls = λ around. [] }
 
 abbrev pub values_at : ℕ → List Rules → Around → ℕ → List ℕ
 values_at w rs around at = each_from (λ r from. r.broken around w from) rs at
@@ -160,7 +160,7 @@ widest_item (i ∷ is) around = max (widest i.values around) (widest_item is aro
 abbrev pub item_rules : VCaseItem-F StmtRules ItemRules StmtRules → ItemRules
 item_rules (VCaseItem-F.Item values body) =
     let rs = map rules_of values in
-    record { stmt = record body { size = listed_size rs + suc body.size; blocks = λ at. body.blocks (at + suc (listed_size rs)); broken = λ p around at. body.broken p around (at + suc (listed_size rs)); calls = calls_in rs ++ body.calls }; values = rs }
+    record { stmt = record body { size = listed_size rs + suc body.size; blocks = λ at. body.blocks (at + suc (listed_size rs)); broken = λ p around at. body.broken p around (at + suc (listed_size rs)); calls = λ around. calls_in rs around ++ body.calls around }; values = rs }
 item_rules (VCaseItem-F.Default body) =
     record { stmt = record body { size = 2 + body.size; blocks = λ at. body.blocks (at + 2); broken = λ p around at. body.broken p around (at + 2) }; values = [] }
 
@@ -173,7 +173,7 @@ item_values w (i ∷ is) around at = values_at w i.values around at ++ item_valu
 
 -- `else other`
 abbrev pub else_rules : Option StmtRules → StmtRules
-else_rules None = record { size = 0; blocks = λ at. []; broken = λ procedure around at. []; calls = [] }
+else_rules None = record { size = 0; blocks = λ at. []; broken = λ procedure around at. []; calls = λ around. [] }
 else_rules (Some s) = record { size = suc s.size; blocks = λ at. s.blocks (suc at); broken = λ p around at. s.broken p around (suc at); calls = s.calls }
 
 abbrev pub block_rules : Option VLabel → List StmtRules → StmtRules
@@ -190,7 +190,7 @@ block_rules (Some l) ss = record {
       let first = at + (3 + locals_size l.locals) in
       let own = locals_from l.locals (at + 3) ++ blocks_in ss first in
       repeated [] own ++ stmts_broken ss p (record around { scope = inside own around.scope }) first;
-  calls = calls_in_stmts ss;
+  calls = λ around. calls_in_stmts ss (record around { scope = inside (locals_from l.locals 0 ++ blocks_in ss 0) around.scope });
 }
 
 abbrev pub stmt_rules : VStmt-F StmtRules ItemRules StmtRules → StmtRules
@@ -204,7 +204,7 @@ stmt_rules (VStmt-F.If on taken other) =
       broken = λ p around at.
           alone test around (at + 2)
           ++ (taken.broken p around (at + (3 + test.size)) ++ behind.broken p around (at + (3 + (test.size + taken.size))));
-      calls = test.calls ++ (taken.calls ++ behind.calls);
+      calls = λ around. test.calls around ++ (taken.calls around ++ behind.calls around);
     }
 stmt_rules (VStmt-F.Case kind on items) =
     let test = rules_of on in
@@ -215,7 +215,7 @@ stmt_rules (VStmt-F.Case kind on items) =
           let w = max (test.width around) (widest_item items around) in
           test.broken around w (at + 2)
           ++ (item_values w items around (at + (3 + test.size)) ++ stmts_broken (bodies items) p around (at + (3 + test.size)));
-      calls = test.calls ++ calls_in_stmts (bodies items);
+      calls = λ around. test.calls around ++ calls_in_stmts (bodies items) around;
     }
 stmt_rules (VStmt-F.Assign target right later) =
     let to = target_of target in
@@ -228,7 +228,7 @@ stmt_rules (VStmt-F.Assign target right later) =
           ++ (to.by_procedure around at
           ++ (only_if (mark_breaks p later (to.has_signal around)) (at + to.size)
           ++ given.broken around (max (to.width around) (given.width around)) (at + suc to.size)));
-      calls = to.calls ++ given.calls;
+      calls = λ around. to.calls around ++ given.calls around;
     }
 
 abbrev pub rules_of_stmt : VStmt → StmtRules

@@ -2,10 +2,12 @@
 #![tactic(auto)]
 
 mod expressions;
+mod grammar_text;
 mod items;
 mod names;
 mod operators;
 mod parts;
+mod reader;
 mod reading;
 mod reserved;
 mod statements;
@@ -22,6 +24,7 @@ pub use names::{
 };
 pub use operators::{VBinaryOp, VUnaryOp};
 pub use parts::{VPart, VParts};
+pub use reader::grammar;
 pub use reading::reads_once;
 pub use reserved::{is_reserved, is_simple};
 pub use statements::{
