@@ -8,7 +8,6 @@ use Rattle.sv_source.specs.declared.token.Token.{Token}
 use Rattle.sv_source.specs.declared.token.Place.{Place}
 use Rattle.sv_preproc.specs.Runs.{Outcome, expands, refused, end_token, Comes}
 use Rattle.sv_preproc.proofs.OneOutcome.{only_outcome}
-use Rattle.sv_preproc.proofs.Outcomes.{comes-expands}
 use Rattle.ll_engine.proofs.Laws.{one_answer}
 use Rattle.command_line.specs.declared.words.Asked.{Asked}
 use Rattle.sv2v_top.specs.declared.sv_tree.Module.{Module}
@@ -83,7 +82,7 @@ module _ (request : Asked) (contents : Contents) where
   -- files with these contents expand in one way
   one-expansion : (a b : Outcome) → Comes request.settings (Some contents) a → Comes request.settings (Some contents) b → a ≡ b
   one-expansion a b x y =
-      only_outcome request.settings contents a b (comes-expands request.settings contents a x) (comes-expands request.settings contents b y)
+      only_outcome request.settings contents a b x y
 
   -- what an expansion gives
   pub data OneText (tokens other_tokens : List Token) (last other_last : Place) (names other_names : List (List ℕ)) : Type 0 where
