@@ -5,7 +5,6 @@ use Rattle.sv_source.specs.declared.refusal.Refusal.{Refusal}
 use Rattle.sv_source.specs.declared.token.Token.{Token}
 use Rattle.sv_preproc.specs.Runs.{Outcome, expands, refused, Comes}
 use Rattle.sv_preproc.proofs.OneOutcome.{only_outcome}
-use Rattle.sv_preproc.proofs.Outcomes.{comes-expands}
 use Rattle.command_line.specs.declared.words.Asked.{Asked}
 use Rattle.sv_tree.specs.declared.units.SourceTree.{SourceTree}
 use Rattle.sv_build.specs.Reading.{Reads, SyntaxBreak}
@@ -49,7 +48,7 @@ module _ (request : Asked) (contents : Contents) where
   -- files with these contents expand in one way
   one-expansion : (a b : Outcome) → Comes request.settings (Some contents) a → Comes request.settings (Some contents) b → a ≡ b
   one-expansion a b x y =
-      only_outcome request.settings contents a b (comes-expands request.settings contents a x) (comes-expands request.settings contents b y)
+      only_outcome request.settings contents a b x y
 
   -- what an expansion gives
   pub data OneText (tokens other_tokens : List Token) (names other_names : List (List ℕ)) : Type 0 where

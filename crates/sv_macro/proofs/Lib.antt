@@ -1,3 +1,6 @@
 pub mod Placed
 pub mod FormalLists
 pub mod Directories
+pub mod Topmost
+pub mod Whole
+pub mod Taken

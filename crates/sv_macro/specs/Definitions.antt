@@ -1,5 +1,5 @@
 -- The text of a macro's definition (IEEE 1800-2017 clause 22.5.1).
-use Rattle.std.specs.Prelude.{ℕ, ◌+◌, ◌==◌, ◌&&◌, Bool, true, false, List, [], ◌∷◌, ◌++◌, drop, take, length, Option, Some, None, if◌then◌else◌, codes}
+use Rattle.std.specs.Prelude.{ℕ, ◌+◌, ◌==◌, ◌&&◌, not, Bool, true, false, List, [], ◌∷◌, ◌++◌, drop, take, length, Option, Some, None, if◌then◌else◌, codes}
 use Rattle.std.specs.Str.{bytes_eq}
 use Rattle.sv_source.specs.declared.token.Kind.{Kind}
 use Rattle.sv_source.specs.declared.token.Kind.TheVariants.{Cut, Directive}
@@ -27,6 +27,10 @@ of_line (Raw t) = if is_continued t then [] else t ∷ []
 of_line (Kept t) = []
 of_line FileEnd = []
 of_line (UseEnd name) = []
+
+abbrev pub goes_on : List Coming → Bool
+goes_on [] = false
+goes_on (item ∷ coming) = not (ends_line item)
 
 -- the tokens up to the end of the logical line, and what comes from there on
 abbrev pub line_of : List Coming → List Token

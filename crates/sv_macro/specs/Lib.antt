@@ -6,3 +6,7 @@ pub mod Including
 pub mod Lines
 pub mod Shapes
 pub mod Tables
+pub mod Brackets
+pub mod Lists
+pub mod Waiting
+pub mod Surveys

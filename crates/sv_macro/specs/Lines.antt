@@ -12,6 +12,10 @@ is_newline (Kept t) = false
 is_newline FileEnd = false
 is_newline (UseEnd name) = false
 
+abbrev pub begins_newline : List Coming → Bool
+begins_newline [] = false
+begins_newline (item ∷ coming) = is_newline item
+
 -- what comes behind newlines
 abbrev pub behind_lines : List Coming → List Coming
 behind_lines [] = []

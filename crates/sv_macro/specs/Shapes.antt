@@ -25,6 +25,10 @@ is_joint (Kept t) = false
 is_joint FileEnd = false
 is_joint (UseEnd name) = false
 
+abbrev pub begins_joint : List Coming → Bool
+begins_joint [] = false
+begins_joint (item ∷ coming) = is_joint item
+
 abbrev pub behind_joints : List Coming → List Coming
 behind_joints [] = []
 behind_joints (item ∷ coming) = elim (is_joint item) [ true ↦ behind_joints coming | false ↦ item ∷ coming ]

@@ -7,7 +7,7 @@ ghost use Rattle.sv_macro.specs.Definitions as spec;
 use crate::coming::Coming;
 use crate::formals::FormalNumbers;
 use crate::macros::{Macro, Part, Parts};
-use crate::stack::Stack;
+use crate::pending::Pending;
 use crate::texts::Texts;
 use crate::tokens::{is, is_continued, is_line, is_name, said_by};
 use crate::words::Word;
@@ -66,18 +66,25 @@ fn push_of_line(line: &mut Tokens, item: Coming) -> Result<(), AllocError>
     }
 }
 
+fn goes_on(coming: &Pending) -> bool
+    ensures { result ≡ spec.goes_on coming.now }
+{
+    match coming.top() {
+        Some(item) => !ends_line(&item.what),
+        None => false,
+    }
+}
+
 /// Takes the tokens up to the end of the logical line off.
-pub fn take_line(alloc: Global, coming: &mut Stack<Coming>) -> Result<Tokens, AllocError>
+pub fn take_line(alloc: Global, coming: &mut Pending) -> Result<Tokens, AllocError>
     ensures line { IfOk result (λ line. line ≡ spec.line_of coming.old) }
     ensures rest { OnOk result (coming.new ≡ spec.behind_line coming.old) }
 {
     let mut line = Tokens::new(alloc);
-    while let Some(item) = coming.pop() {
-        if ends_line(&item) {
-            coming.push(item)?;
-            return Ok(line);
+    while goes_on(coming) {
+        if let Some(item) = coming.pop() {
+            push_of_line(&mut line, item)?;
         }
-        push_of_line(&mut line, item)?;
     }
     Ok(line)
 }

@@ -1,6 +1,8 @@
 //! Macros: their definitions and bodies, and what comes next in a text (IEEE 1800-2017 clause 22).
 #![tactic(auto)]
 
+/// Brackets and commas.
+pub mod brackets;
 /// What is still to come of a text, and a body that is placed in part.
 pub mod coming;
 /// The text of a macro's definition.
@@ -11,8 +13,12 @@ pub mod formals;
 pub mod including;
 /// What comes next, past newlines.
 pub mod lines;
+/// Lists of arguments.
+pub mod lists;
 /// Macros and the parts of their bodies.
 pub mod macros;
+/// What is still to come, with the lists in it.
+pub mod pending;
 /// The body of a macro in the place of its use.
 pub mod placing;
 /// Tokens that are dropped with their directive.

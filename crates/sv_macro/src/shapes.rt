@@ -1,13 +1,12 @@
 // Tokens that are dropped with their directive.
-ghost use Rattle.std.specs.Prelude.{◌≡◌, IfOk, MatchOption, OnOk, None, Some, if◌then◌else◌, drop};
+ghost use Rattle.std.specs.Prelude.{◌≡◌, None, Some, if◌then◌else◌, drop};
 ghost use Rattle.sv_macro.specs.Shapes as spec;
 ghost use Rattle.sv_macro.specs.Lines.{first_by, raw_token};
 
 use crate::coming::Coming;
 use crate::lines::raw_token;
-use crate::stack::Stack;
+use crate::pending::Pending;
 use crate::tokens::{is, is_continued, is_decimal, is_name, is_word};
-use std::alloc::AllocError;
 use sv_source::Token;
 
 /// What a token has to be.
@@ -45,41 +44,49 @@ fn is_joint(item: &Coming) -> bool
     }
 }
 
-// Takes newlines behind a backslash off.
-fn skip_joints(coming: &mut Stack<Coming>) -> Result<(), AllocError>
-    ensures { OnOk result (coming.new ≡ spec.behind_joints coming.old) }
+fn begins_joint(coming: &Pending) -> bool
+    ensures { result ≡ spec.begins_joint coming.now }
 {
-    while let Some(item) = coming.pop() {
-        if !is_joint(&item) {
-            return coming.push(item);
-        }
+    match coming.top() {
+        Some(item) => is_joint(&item.what),
+        None => false,
     }
-    Ok(())
+}
+
+// Takes newlines behind a backslash off.
+fn skip_joints(coming: &mut Pending)
+    ensures { coming.new ≡ spec.behind_joints coming.old }
+{
+    while begins_joint(coming) {
+        coming.pop();
+    }
 }
 
 // Takes a token of the line off, and says whether it fits.
-fn take_fitting(coming: &mut Stack<Coming>, shape: Shape) -> Result<bool, AllocError>
-    ensures value { IfOk result (λ b. b ≡ spec.first_fits shape (first_by raw_token (spec.behind_joints coming.old))) }
-    ensures rest { OnOk result (coming.new ≡ drop 1 (spec.behind_joints coming.old)) }
+fn take_fitting(coming: &mut Pending, shape: Shape) -> bool
+    ensures value { result ≡ spec.first_fits shape (first_by raw_token (spec.behind_joints coming.old)) }
+    ensures rest { coming.new ≡ drop 1 (spec.behind_joints coming.old) }
 {
-    skip_joints(coming)?;
+    skip_joints(coming);
     let Some(item) = coming.pop() else {
-        return Ok(false);
+        return false;
     };
     match raw_token(item) {
-        Some(token) => Ok(fits(shape, &token)),
-        None => Ok(false),
+        Some(token) => fits(shape, &token),
+        None => false,
     }
 }
 
 /// Takes tokens of the line off, one of each shape, and says whether they are there.
-pub fn take_shapes(coming: &mut Stack<Coming>, shapes: &[Shape]) -> Result<bool, AllocError>
-    ensures { IfOk result (λ b. spec.behind_shapes shapes.now coming.old ≡ (if b then Some coming.new else None)) }
+pub fn take_shapes(coming: &mut Pending, shapes: &[Shape]) -> bool
+    ensures { spec.behind_shapes shapes.now coming.old ≡ (if result then Some coming.new else None) }
 {
-    for shape in shapes {
-        if !take_fitting(coming, *shape)? {
-            return Ok(false);
+    let mut rest = shapes;
+    while let [shape, more @ ..] = rest {
+        if !take_fitting(coming, *shape) {
+            return false;
         }
+        rest = more;
     }
-    Ok(true)
+    true
 }

@@ -1,6 +1,7 @@
 // Tests on tokens, and how a token breaks a rule.
 ghost use Rattle.std.specs.Prelude.{◌≡◌, IfOk, Err};
 ghost use Rattle.sv_macro.specs.Tokens as spec;
+ghost use Rattle.sv_macro.specs.Lists as lists;
 ghost use Rattle.sv_source.specs.declared.refusal.Fail.TheVariants.{Refused};
 
 use crate::words::{Word, word_of};
@@ -78,6 +79,24 @@ pub fn said_by(token: &Token) -> Word
     ensures { result ≡ spec.said_by token.now }
 {
     word_of(name_bytes(token))
+}
+
+/// Whether no argument may have it: a directive that isn't a use, or a quote that makes a string.
+pub fn is_barred(token: &Token) -> bool
+    ensures { result ≡ lists.is_barred token.now }
+{
+    match token.kind {
+        Kind::Directive => said_by(token) != Word::Use,
+        Kind::Quote => true,
+        _ => false,
+    }
+}
+
+/// Whether it is a comment that isn't closed.
+pub fn is_cut(token: &Token) -> bool
+    ensures { result ≡ lists.is_cut token.now }
+{
+    matches!(token.kind, Kind::Cut)
 }
 
 /// The token at another place.

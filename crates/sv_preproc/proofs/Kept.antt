@@ -8,14 +8,16 @@ use Rattle.sv_source.specs.declared.token.Token.{Token}
 use Rattle.sv_lexer.specs.Lexing.{tokens_of}
 use Rattle.sv_macro.specs.Tokens.{moved}
 use Rattle.sv_macro.specs.Macros.{Macros, defined, parts_of}
-use Rattle.sv_preproc.specs.Runs.{expands, running, start, end_token, Comes}
+use Rattle.sv_preproc.specs.Runs.{expands, start, end_token, Comes}
 use Rattle.sv_preproc.specs.declared.settings.Define.{Define}
 use Rattle.sv_preproc.specs.declared.settings.Settings.{Settings}
-use Rattle.sv_preproc.proofs.Along.{Delivers, along}
+use Rattle.sv_preproc.specs.Machine.{machine}
+use Rattle.sv_preproc.specs.Searches.{finished}
+use Rattle.sv_preproc.proofs.Through.{Keeps, through}
 use Rattle.sv_preproc.proofs.KeptItems.{Steady}
 use Rattle.sv_preproc.proofs.KeptBodies.{MacrosKeep, defined_keeps, parts_keep}
-use Rattle.sv_preproc.proofs.KeptStates.{StateKeeps}
-use Rattle.sv_preproc.proofs.KeptSteps.{step_keeps, opened_keeps}
+use Rattle.sv_preproc.proofs.KeptStates.{StateKeeps, MachineKeeps}
+use Rattle.sv_preproc.proofs.KeptSteps.{move_keeps, opened_keeps}
 
 module _ (P : Token → Type 0) where
   -- the macros of the command line
@@ -30,17 +32,20 @@ module _ (P : Token → Type 0) where
   start_keeps set all = record {
     comes = All-nil _;
     stands = command_keeps set.defines (λ _. None) (λ name. tt) all;
-    collects = All-nil _;
     gives = All-nil P;
     few = omega arith;
     within = omega arith;
   }
 
+  abbrev keeping : Keeps
+  keeping = record { going = MachineKeeps P; waiting = λ search m. MachineKeeps P m; finished = StateKeeps P; broken = λ r names. Unit {0} }
+
   -- what a property of tokens that lexing and moving keep says of the tokens that are delivered
   pub delivers_kept : Steady P → (set : Settings) → All (λ d. All P d.body) set.defines → (told : Option Contents) (ts : List Token) (names : List (List ℕ)) →
-      Comes set told (expands ts names) → Delivers (StateKeeps P) ts
-  delivers_kept steady set all told ts names c =
-      along (StateKeeps P) (opened_keeps P steady) set told (step_keeps P steady set) (expands ts names) (running (start set)) c (start_keeps set all)
+      (x : Comes set told (expands ts names)) → StateKeeps P x.last
+  delivers_kept steady set all told ts names x =
+      through keeping (λ search m held k. record { state = opened_keeps P steady search.top m.state held k.state; collects = k.collects }) (λ rule search m k. tt) (λ search m t e k. tt)
+      set told (move_keeps P steady set) (machine (start set) []) (finished x.last) x.runs (record { state = start_keeps set all; collects = All-nil _ })
 
 module _ (keeps : Token → Bool)
     (moves : (place : Place) (t : Token) → keeps t ≡ true → keeps (moved place t) ≡ true)
@@ -49,10 +54,10 @@ module _ (keeps : Token → Bool)
       Comes set told (expands (front ++ end_token place ∷ []) names) → All (λ t. keeps t ≡ true) front
   kept set all told front place names c =
       let d = delivers_kept (λ t. keeps t ≡ true) (record { moves = moves; lexed = lexed }) set all told (front ++ end_token place ∷ []) names c in
-      All-same (λ t. keeps t ≡ true) front d.last.delivered (same_from_push front d.last.delivered (end_token place) (end_token d.last.ending) d.tokens).0 d.holds.gives
+      All-same (λ t. keeps t ≡ true) front c.last.delivered (same_from_push front c.last.delivered (end_token place) (end_token c.last.ending) c.tokens).0 d.gives
 
 -- each token was spent but for the end
 pub few-tokens : (set : Settings) (told : Option Contents) (ts : List Token) (names : List (List ℕ)) → Comes set told (expands ts names) → length ts ≤ 2 ^ 22 + 1
 few-tokens set told ts names c =
     let d = delivers_kept (λ t. Unit {0}) (record { moves = λ place t k. tt; lexed = λ file bytes k t l. tt }) set (λ k d l i t m. tt) told ts names c in
-    omega (arith, ap length d.tokens, length-append d.last.delivered (end_token d.last.ending ∷ []), d.holds.few, d.holds.within)
+    omega (arith, ap length c.tokens, length-append c.last.delivered (end_token c.last.ending ∷ []), d.few, d.within)

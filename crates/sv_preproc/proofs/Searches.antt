@@ -4,7 +4,7 @@ use Rattle.std.proofs.lemmas.List.{length-replicate}
 use Rattle.std.proofs.lemmas.Option.{slice_get-get_or}
 use Rattle.sv_source.specs.Loading.{Contents}
 use Rattle.sv_macro.specs.Including.{Held, first_held}
-use Rattle.sv_preproc.specs.Runs.{Finds}
+use Rattle.sv_preproc.specs.Searches.{Finds}
 
 pub held_at : (contents : Contents) (paths : List (List ℕ)) (i : ℕ) (p bytes : List ℕ) → i < length paths → p ≡ get_or paths i p → contents p ≡ Some bytes →
     first_held contents (drop i paths) ≡ Some (record { path = p; bytes = bytes })

@@ -6,7 +6,7 @@ use Rattle.sv_source.specs.declared.token.Token.{Token}
 use Rattle.sv_macro.specs.Tokens.{moved}
 use Rattle.sv_macro.specs.Macros.{replaced, part_count, placed_count, pasted, joined, with_part, with_parts, placed}
 use Rattle.sv_macro.specs.Lines.{is_newline, behind_lines, first_by}
-use Rattle.sv_preproc.specs.States.{State, Step, goes, looks, done, breaks}
+use Rattle.sv_preproc.specs.States.{State, Step, goes, gives, takes, looks, done, breaks}
 use Rattle.sv_preproc.specs.Left.{weight, most_weight}
 use Rattle.sv_macro.specs.declared.macros.Part.{Part}
 use Rattle.sv_macro.specs.declared.macros.Part.TheVariants.{Plain, Formal, Join}
@@ -14,43 +14,45 @@ use Rattle.sv_macro.specs.declared.coming.Coming.{Coming}
 use Rattle.sv_macro.specs.declared.coming.Coming.TheVariants.{Kept}
 use Rattle.sv_macro.specs.declared.coming.Placing.{Placing}
 
--- in a step from a state of this weight
-pub record Within (count w : ℕ) (s : State) : Type 0 where
+-- in a step from a state of this weight, with so many calls
+pub record Within (count c w : ℕ) (s : State) : Type 0 where
   pub spent : s.spent ≤ 2 ^ 22
   pub loaded : s.loaded ≤ 2 ^ 26
-  pub less : weight count s < w
+  pub less : weight count s + c < w
   pub uses : s.uses + w ≤ most_weight
   pub names : length s.names + w ≤ most_weight
 
 -- behind that step
-pub record Behind (count w : ℕ) (s : State) : Type 0 where
+pub record Behind (count c w : ℕ) (s : State) : Type 0 where
   pub spent : s.spent ≤ 2 ^ 22
   pub loaded : s.loaded ≤ 2 ^ 26
-  pub less : weight count s < w
-  pub uses : s.uses + weight count s ≤ most_weight
-  pub names : length s.names + weight count s ≤ most_weight
+  pub less : weight count s + c < w
+  pub uses : s.uses + (weight count s + c) ≤ most_weight
+  pub names : length s.names + (weight count s + c) ≤ most_weight
 
--- before a file is loaded
-pub record Waits (count w : ℕ) (s : State) : Type 0 where
+-- before a file is loaded, or a list is read
+pub record Waits (count c w : ℕ) (s : State) : Type 0 where
   pub spent : s.spent ≤ 2 ^ 22
   pub loaded : s.loaded ≤ 2 ^ 26
-  pub less : weight count s + 1 < w
+  pub less : weight count s + c + 1 < w
   pub uses : s.uses + w ≤ most_weight
   pub names : length s.names + w ≤ most_weight
 
-abbrev pub Falls : ℕ → ℕ → Step → Type 0
-Falls count w (goes s) = Behind count w s
-Falls count w (looks search s) = Waits count w s
-Falls count w (done s) = Unit {0}
-Falls count w (breaks r names) = Unit {0}
+abbrev pub Falls : ℕ → ℕ → ℕ → Step → Type 0
+Falls count c w (goes s) = Behind count c w s
+Falls count c w (gives t s) = Within count c w s
+Falls count c w (takes t s) = Waits count c w s
+Falls count c w (looks search s) = Waits count c w s
+Falls count c w (done s) = Unit {0}
+Falls count c w (breaks r names) = Unit {0}
 
-pub by_test : (count w : ℕ) (b : Bool) (x y : Step) → (b ≡ true → Falls count w x) → (b ≡ false → Falls count w y) → Falls count w (elim b [ true ↦ x | false ↦ y ])
-by_test count w true x y fx fy = fx refl
-by_test count w false x y fx fy = fy refl
+pub by_test : (count c w : ℕ) (b : Bool) (x y : Step) → (b ≡ true → Falls count c w x) → (b ≡ false → Falls count c w y) → Falls count c w (elim b [ true ↦ x | false ↦ y ])
+by_test count c w true x y fx fy = fx refl
+by_test count c w false x y fx fy = fy refl
 
 -- a state that has no more to do than one within a step is behind it
-pub settled : (count w : ℕ) (s t : State) → Within count w s → weight count t ≤ weight count s → t.spent ≤ 2 ^ 22 → t.loaded ≤ 2 ^ 26 → t.uses ≤ s.uses + 1 → length t.names ≤ length s.names → Behind count w t
-settled count w s t i less spent loaded uses names = record {
+pub settled : (count c w : ℕ) (s t : State) → Within count c w s → weight count t ≤ weight count s → t.spent ≤ 2 ^ 22 → t.loaded ≤ 2 ^ 26 → t.uses ≤ s.uses + 1 → length t.names ≤ length s.names → Behind count c w t
+settled count c w s t i less spent loaded uses names = record {
   spent = spent;
   loaded = loaded;
   less = omega (arith, i.less);

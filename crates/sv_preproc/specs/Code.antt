@@ -4,6 +4,8 @@ use Rattle.sv_source.specs.declared.refusal.Fail.{Fail}
 use Rattle.sv_source.specs.declared.refusal.Fail.TheVariants.{Memory, Refused}
 use Rattle.sv_macro.specs.Tables.{macros_in}
 use Rattle.sv_preproc.specs.States as spec
+use Rattle.sv_preproc.specs.Machine as machine
+use Rattle.sv_preproc.specs.Machine.{Machine, Move, is_open}
 use Rattle.sv_preproc.specs.declared.state.State.{State}
 use Rattle.sv_preproc.specs.declared.turn.Turn.{Turn}
 use Rattle.sv_preproc.specs.declared.turn.Turn.TheVariants.{Go, Look, Done}
@@ -14,7 +16,7 @@ seen s = record {
   coming = s.coming;
   macros = macros_in s.macros;
   files = s.files;
-  calls = s.calls;
+  inside = is_open s.calls;
   uses = s.uses;
   next = s.next;
   names = s.names;
@@ -24,13 +26,16 @@ seen s = record {
   delivered = s.delivered;
 }
 
--- the state that a step leaves, and its answer, are those of this step
-abbrev pub Turns : spec.Step → spec.State → Result Turn Fail → Type 0
-Turns step now (Ok Go) = step ≡ spec.goes now
-Turns step now (Ok (Look search)) = step ≡ spec.looks search now
-Turns step now (Ok Done) = step ≡ spec.done now
-Turns step now (Err Memory) = Unit {0}
-Turns step now (Err (Refused refusal)) = step ≡ spec.breaks refusal now.names
+abbrev pub whole : State → Machine
+whole s = record { state = seen s; calls = s.calls }
+
+-- the state that a move leaves, and its answer, are those of this move
+abbrev pub Turns : Move → State → Result Turn Fail → Type 0
+Turns move now (Ok Go) = move ≡ machine.goes (whole now)
+Turns move now (Ok (Look search)) = move ≡ machine.looks search (whole now)
+Turns move now (Ok Done) = move ≡ machine.done (whole now)
+Turns move now (Err Memory) = Unit {0}
+Turns move now (Err (Refused refusal)) = move ≡ machine.breaks refusal now.names
 
 -- no count passes what a machine word holds
 abbrev pub Bounded : State → Type 0

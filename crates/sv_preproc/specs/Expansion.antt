@@ -1,5 +1,5 @@
--- Macro expansion, a step at a time (IEEE 1800-2017 clause 22).
-use Rattle.std.specs.Prelude.{ℕ, ◌+◌, ◌-◌, ◌==◌, ◌&&◌, nat_lt, Bool, true, false, List, [], ◌∷◌, length, slice_get, Option, Some, None}
+-- What comes of what comes next (IEEE 1800-2017 clause 22).
+use Rattle.std.specs.Prelude.{ℕ, ◌+◌, ◌-◌, ◌==◌, ◌&&◌, nat_lt, not, Bool, true, false, List, [], ◌∷◌, length, slice_get, Option, Some, None}
 use Rattle.sv_source.specs.declared.token.Kind.{Kind}
 use Rattle.sv_source.specs.declared.token.Place.{Place}
 use Rattle.sv_source.specs.declared.token.Token.{Token}
@@ -9,7 +9,6 @@ use Rattle.sv_macro.specs.declared.coming.Coming.{Coming}
 use Rattle.sv_macro.specs.declared.coming.Coming.TheVariants.{Raw, Kept, FileEnd, UseEnd}
 use Rattle.sv_preproc.specs.declared.state.Conditional.{Conditional}
 use Rattle.sv_preproc.specs.declared.state.OpenFile.{OpenFile}
-use Rattle.sv_preproc.specs.declared.state.Call.{Call}
 use Rattle.sv_source.specs.declared.token.Kind.TheVariants.{Cut, Directive, Line, Continued, Quote}
 use Rattle.sv_macro.specs.Definitions.{line_of, behind_line, defining}
 use Rattle.sv_macro.specs.declared.definition.Defining.{Defining}
@@ -18,11 +17,11 @@ use Rattle.sv_macro.specs.Including.{between_quotes, candidates}
 use Rattle.sv_preproc.specs.declared.settings.Settings.{Settings}
 use Rattle.sv_macro.specs.declared.words.Word.{Word}
 use Rattle.sv_macro.specs.declared.words.Word.TheVariants as W
-use Rattle.sv_preproc.specs.States.{State, Step, goes, looks, done, depth_limit, broken, with_coming, next_raw, behind_next, next_name}
+use Rattle.sv_preproc.specs.States.{State, Step, goes, gives, looks, done, depth_limit, broken, with_coming, next_raw, behind_next, next_name}
 use Rattle.sv_macro.specs.declared.shapes.Shape.{Shape}
 use Rattle.sv_macro.specs.declared.shapes.Shape.TheVariants.{AnyName, AnyWord, Number, Slash}
 use Rattle.sv_macro.specs.Shapes.{behind_shapes}
-use Rattle.sv_preproc.specs.Calls.{given_on, use_begins}
+use Rattle.sv_preproc.specs.Uses.{use_begins}
 use Rattle.sv_preproc.specs.Branches.{skips, branches}
 
 -- a definition
@@ -42,19 +41,20 @@ undefine_named s t (Some name) = goes (record s { macros = undefined s.macros na
 abbrev pub undefine : State → Token → Step
 undefine s t = undefine_named (behind_next s) t (next_name s)
 
--- a file is included
+-- a file is included; where files nest too deep it is looked for all the same
+abbrev pub too_deep : List OpenFile → Token → Option Token
+too_deep files t = elim (nat_lt (length files) depth_limit) [ true ↦ None | false ↦ Some t ]
+
 abbrev pub include_in : Settings → State → Token → Token → List OpenFile → Step
 include_in set s t string [] = broken s 201 t
 include_in set s t string (file ∷ files) =
-    elim (nat_lt (length files + 1) depth_limit) [
-      | true ↦ looks (record {
-        paths = candidates set.dirs file.path (between_quotes string.text);
-        top = false;
-        place = string.place;
-        word = between_quotes string.text;
-      }) s
-      | false ↦ broken s 206 t
-    ]
+    looks (record {
+      paths = candidates set.dirs file.path (between_quotes string.text);
+      top = false;
+      place = string.place;
+      word = between_quotes string.text;
+      deep = too_deep (file ∷ files) t;
+    }) s
 
 abbrev pub include_from : Settings → State → Token → Option Token → Step
 include_from set s t None = broken s 201 t
@@ -90,12 +90,8 @@ obeyed set s t W.Unsupported = broken s 201 t
 obeyed set s t W.Use = use_begins s t
 
 -- no directive stands in a body or an argument
-abbrev pub no_calls : List Call → Bool
-no_calls [] = true
-no_calls (call ∷ calls) = false
-
 abbrev pub in_file : State → Bool
-in_file s = no_calls s.calls && (s.uses == 0)
+in_file s = not s.inside && (s.uses == 0)
 
 abbrev pub directive : Settings → State → Token → Word → Step
 directive set s t W.Use = use_begins s t
@@ -118,31 +114,23 @@ taken set s t Cut = broken s 208 t
 taken set s t Quote = broken s 201 t
 taken set s t Line = goes s
 taken set s t Continued = goes s
-taken set s t _ = given_on s t
+taken set s t _ = gives t s
 
 abbrev pub raw : Settings → State → Token → Step
 raw set s t = elim (skips s.files) [ true ↦ skipped s t t.kind | false ↦ taken set s t t.kind ]
 
--- a file ends: its calls and conditionals are closed
+-- a file ends: its conditionals are closed
 abbrev pub file_ends_with : State → List OpenFile → List Conditional → Step
 file_ends_with s files [] = goes (record s { files = files })
 file_ends_with s files (c ∷ cs) = broken s 205 c.first
 
-abbrev pub file_ends_in : State → List OpenFile → Step
-file_ends_in s [] = goes s
-file_ends_in s (file ∷ files) = file_ends_with s files file.conditionals
+abbrev pub file_ends : State → List OpenFile → Step
+file_ends s [] = goes s
+file_ends s (file ∷ files) = file_ends_with s files file.conditionals
 
-abbrev pub file_ends : State → List Call → Step
-file_ends s [] = file_ends_in s s.files
-file_ends s (call ∷ calls) = broken s 208 call.used
-
--- a body ends: the calls in it are closed
-abbrev pub body_closed : State → List ℕ → Step
-body_closed s name = goes (record s { uses = s.uses - 1; macros = marked s.macros name false })
-
-abbrev pub body_ends : State → List ℕ → List Call → Step
-body_ends s name [] = body_closed s name
-body_ends s name (call ∷ calls) = elim (call.level == s.uses) [ true ↦ broken s 208 call.used | false ↦ body_closed s name ]
+-- a body ends
+abbrev pub body_ends : State → List ℕ → Step
+body_ends s name = goes (record s { uses = s.uses - 1; macros = marked s.macros name false })
 
 -- the next file of the command line
 abbrev pub head_place : State → Place
@@ -151,15 +139,15 @@ head_place s = record { file = length s.names; line = 1; col = 1 }
 abbrev pub next_file : State → Option (List ℕ) → Step
 next_file s None = done s
 next_file s (Some path) =
-    looks (record { paths = path ∷ []; top = true; place = head_place s; word = path }) (record s { next = s.next + 1 })
+    looks (record { paths = path ∷ []; top = true; place = head_place s; word = path; deep = None }) (record s { next = s.next + 1 })
 
 -- one step
 abbrev pub step_at : Settings → State → List Coming → Step
 step_at set s [] = next_file s (slice_get set.files s.next)
 step_at set s (Raw t ∷ coming) = raw set (with_coming s coming) t
-step_at set s (Kept t ∷ coming) = given_on (with_coming s coming) t
-step_at set s (FileEnd ∷ coming) = file_ends (with_coming s coming) s.calls
-step_at set s (UseEnd name ∷ coming) = body_ends (with_coming s coming) name s.calls
+step_at set s (Kept t ∷ coming) = gives t (with_coming s coming)
+step_at set s (FileEnd ∷ coming) = file_ends (with_coming s coming) s.files
+step_at set s (UseEnd name ∷ coming) = body_ends (with_coming s coming) name
 
 abbrev pub step : Settings → State → Step
 step set s = step_at set s s.coming

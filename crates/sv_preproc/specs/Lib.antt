@@ -1,7 +1,9 @@
 pub mod States
-pub mod Calls
+pub mod Uses
 pub mod Branches
 pub mod Expansion
+pub mod Searches
+pub mod Machine
 pub mod Runs
 pub mod Code
 pub mod Answers

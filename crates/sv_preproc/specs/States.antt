@@ -1,5 +1,5 @@
--- How far an expansion has come, and what a step comes to.
-use Rattle.std.specs.Prelude.{ℕ, ◌^◌, List, drop, Option}
+-- How far an expansion has come, and what comes of what comes next.
+use Rattle.std.specs.Prelude.{ℕ, ◌^◌, Bool, List, drop, Option}
 use Rattle.sv_macro.specs.Lines.{behind_lines, raw_token, any_token, first_by, name_in}
 use Rattle.sv_source.specs.declared.token.Place.{Place}
 use Rattle.sv_source.specs.declared.token.Token.{Token}
@@ -7,18 +7,18 @@ use Rattle.sv_source.specs.declared.refusal.Refusal.{Refusal}
 use Rattle.sv_macro.specs.Macros.{Macros}
 use Rattle.sv_macro.specs.declared.coming.Coming.{Coming}
 use Rattle.sv_preproc.specs.declared.state.OpenFile.{OpenFile}
-use Rattle.sv_preproc.specs.declared.state.Call.{Call}
 use Rattle.sv_preproc.specs.declared.turn.Search.{Search}
 
--- how far an expansion has come
+-- How far an expansion has come: what comes, what each name stands for, the files that are open with their conditionals,
+-- and what was delivered; and what was counted.
 pub record State : Type 0 where
-  -- what comes, of the files and bodies that are open
+  -- what comes, of the file, or of the argument, and of the bodies in it that are open
   pub coming : List Coming
   -- what each name stands for
   pub macros : Macros
-  -- the open files and calls, the innermost first, and how many bodies are open
+  -- the open files, the innermost first; whether an argument is expanded, and in how many bodies
   pub files : List OpenFile
-  pub calls : List Call
+  pub inside : Bool
   pub uses : ℕ
   -- how many files of the command line were looked for
   pub next : ℕ
@@ -32,13 +32,17 @@ pub record State : Type 0 where
   -- the tokens that were delivered
   pub delivered : List Token
 
--- what a step comes to
+-- what comes of what comes next
 pub data Step : Type 0 where
-  -- it goes on
+  -- it has its effect
   goes : State → Step
-  -- it goes on with the first of some files that isn't absent
+  -- it is a token that has no meaning for the expansion
+  gives : Token → State → Step
+  -- it uses a macro, and the list behind this parenthesis is of its arguments
+  takes : Token → State → Step
+  -- the first of some files that isn't absent comes
   looks : Search → State → Step
-  -- all files are expanded
+  -- nothing comes
   done : State → Step
   -- a rule is broken; the files loaded so far
   breaks : Refusal → List (List ℕ) → Step

@@ -4,6 +4,7 @@ ghost use Rattle.sv_macro.specs.declared.words.Condition.TheVariants.{Elsif};
 ghost use Rattle.sv_preproc.specs.Branches as spec;
 ghost use Rattle.sv_preproc.specs.States.{behind_next, next_name};
 ghost use Rattle.sv_preproc.specs.Code.{seen, Turns};
+ghost use Rattle.sv_preproc.specs.Machine.{acted};
 
 use crate::state::{Branch, Conditional, OpenFile, State};
 use crate::turn::Turn;
@@ -58,7 +59,7 @@ impl State {
         first: Token,
         branch: Branch,
     ) -> Result<Turn, Fail>
-        ensures { Turns (spec.conditional_begins (seen self.old) file self.old.files first branch) (seen self.new) result }
+        ensures { Turns (acted self.old.calls (spec.conditional_begins (seen self.old) file self.old.files first branch)) self.new result }
     {
         let mut file = file;
         file.conditionals.push(Conditional {
@@ -72,9 +73,9 @@ impl State {
 
     // A conditional whose test asks for a name, or for none.
     fn begin_if(&mut self, file: OpenFile, first: Token, wanted: bool) -> Result<Turn, Fail>
-        ensures { Turns (spec.if_begins (seen self.old) file self.old.files first wanted) (seen self.new) result }
+        ensures { Turns (acted self.old.calls (spec.if_begins (seen self.old) file self.old.files first wanted)) self.new result }
     {
-        let Some(name) = take_name(&mut self.coming)? else {
+        let Some(name) = take_name(&mut self.coming) else {
             return Err(broken(201, first));
         };
         let branch = if file.skips() {
@@ -93,7 +94,7 @@ impl State {
         branch: Branch,
         last: bool,
     ) -> Result<Turn, Fail>
-        ensures { Turns (spec.branch_begins (seen self.old) file self.old.files innermost file.conditionals branch last) (seen self.new) result }
+        ensures { Turns (acted self.old.calls (spec.branch_begins (seen self.old) file self.old.files innermost file.conditionals branch last)) self.new result }
     {
         let mut file = file;
         file.conditionals.push(Conditional {
@@ -107,9 +108,9 @@ impl State {
 
     // Another branch with a test.
     fn elsif(&mut self, file: OpenFile, token: Token) -> Result<Turn, Fail>
-        ensures { Turns (spec.branching (seen self.old) file self.old.files token Elsif) (seen self.new) result }
+        ensures { Turns (acted self.old.calls (spec.branching (seen self.old) file self.old.files token Elsif)) self.new result }
     {
-        let Some(name) = take_name(&mut self.coming)? else {
+        let Some(name) = take_name(&mut self.coming) else {
             return Err(broken(201, token));
         };
         let mut file = file;
@@ -128,7 +129,7 @@ impl State {
 
     // The last branch.
     fn last_branch(&mut self, file: OpenFile, token: Token) -> Result<Turn, Fail>
-        ensures { Turns (spec.else_in (seen self.old) file self.old.files file.conditionals token) (seen self.new) result }
+        ensures { Turns (acted self.old.calls (spec.else_in (seen self.old) file self.old.files file.conditionals token)) self.new result }
     {
         let mut file = file;
         let Some(innermost) = file.conditionals.pop() else {
@@ -143,7 +144,7 @@ impl State {
 
     // A conditional ends.
     fn end_conditional(&mut self, file: OpenFile, token: Token) -> Result<Turn, Fail>
-        ensures { Turns (spec.endif_in (seen self.old) file self.old.files file.conditionals token) (seen self.new) result }
+        ensures { Turns (acted self.old.calls (spec.endif_in (seen self.old) file self.old.files file.conditionals token)) self.new result }
     {
         let mut file = file;
         let Some(_innermost) = file.conditionals.pop() else {
@@ -155,7 +156,7 @@ impl State {
 
     /// A directive that selects branches.
     pub fn select_branch(&mut self, token: Token, word: Condition) -> Result<Turn, Fail>
-        ensures { Turns (spec.branches (seen self.old) token word) (seen self.new) result }
+        ensures { Turns (acted self.old.calls (spec.branches (seen self.old) token word)) self.new result }
     {
         let Some(file) = self.files.pop() else {
             return Err(broken(201, token));

@@ -1,110 +1,30 @@
 // Uses of macros and their arguments (IEEE 1800-2017 clause 22.5.1).
-ghost use Rattle.std.specs.Prelude.{◌≡◌, ◌≤◌, ◌<◌, ◌+◌, ◌^◌, ◌++◌, ◌∷◌, [], List, OnOk, IfOk};
-ghost use Rattle.std.specs.Prelude.{codes};
+ghost use Rattle.std.specs.Prelude.{◌≡◌, ◌≤◌, ◌<◌, ◌+◌, ◌^◌, ◌++◌, ◌∷◌, [], true, codes, IfOk};
 ghost use Rattle.sv_source.specs.declared.token.Token.{Token};
 ghost use Rattle.sv_source.specs.declared.refusal.Fail.TheVariants.{Refused};
 ghost use Rattle.sv_macro.specs.Tokens.{name_of};
-ghost use Rattle.sv_preproc.specs.Calls as spec;
+ghost use Rattle.sv_macro.specs.Lists.{taken, survey};
+ghost use Rattle.sv_macro.specs.Waiting.{first_list, waiting};
+ghost use Rattle.sv_preproc.specs.Uses as spec;
+ghost use Rattle.sv_preproc.specs.Machine as machine;
+ghost use Rattle.sv_preproc.specs.Machine.{acted, plain};
 ghost use Rattle.sv_preproc.specs.States.{goes};
 ghost use Rattle.sv_preproc.specs.Code.{seen, Turns, Bounded};
 
-use crate::state::{Bracket, Call, State};
+use crate::state::{Call, State};
 use crate::turn::Turn;
 use std::alloc::{AllocError, Global};
-use sv_macro::coming::Coming;
-use sv_macro::lines::take_any;
+use sv_macro::brackets::{Bracket, Sign, is_parenthesis, pass_bracket, sign_of};
+use sv_macro::lines::{any_token, skip_lines};
+use sv_macro::lists::{Survey, fits, skip_bare, survey_list};
+use sv_macro::pending::ListSize;
 use sv_macro::placing::{Placed, placed, placed_count};
 use sv_macro::stack::Stack;
-use sv_macro::tokens::{broken, is, name_of};
+use sv_macro::tokens::{broken, name_of};
 use sv_source::{Fail, Items, Place, Refusal, Text, Token, Tokens};
 
 /// The most macros used, tokens placed and tokens delivered.
 pub const SPENDING_LIMIT: u64 = 1 << 22;
-
-// The bracket that a mark opens.
-fn opened_by(token: &Token) -> Option<Bracket>
-    ensures { result ≡ spec.opened_by token.now }
-{
-    if is(token, b"(") || is(token, b"(*") {
-        Some(Bracket::Round)
-    } else if is(token, b"[") {
-        Some(Bracket::Square)
-    } else if is(token, b"{") {
-        Some(Bracket::Curly)
-    } else {
-        None
-    }
-}
-
-// The bracket that a mark closes.
-fn closed_by(token: &Token) -> Option<Bracket>
-    ensures { result ≡ spec.closed_by token.now }
-{
-    if is(token, b")") || is(token, b"*)") {
-        Some(Bracket::Round)
-    } else if is(token, b"]") {
-        Some(Bracket::Square)
-    } else if is(token, b"}") {
-        Some(Bracket::Curly)
-    } else {
-        None
-    }
-}
-
-fn same_bracket(first: Bracket, second: Bracket) -> bool
-    ensures { result ≡ spec.same_bracket first second }
-{
-    matches!(
-        (first, second),
-        (Bracket::Round, Bracket::Round)
-            | (Bracket::Square, Bracket::Square)
-            | (Bracket::Curly, Bracket::Curly)
-    )
-}
-
-// Takes off the innermost bracket, if it is of the kind that is closed.
-fn close_bracket(closed: Option<Bracket>, brackets: &mut Stack<Bracket>) -> Result<(), AllocError>
-    ensures { OnOk result (brackets.new ≡ spec.closing_one closed brackets.old) }
-{
-    let Some(closed) = closed else {
-        return Ok(());
-    };
-    match brackets.pop() {
-        None => Ok(()),
-        Some(innermost) if same_bracket(closed, innermost) => Ok(()),
-        Some(innermost) => brackets.push(innermost),
-    }
-}
-
-// The brackets that are open behind a token.
-fn pass_bracket(token: &Token, brackets: &mut Stack<Bracket>) -> Result<(), AllocError>
-    ensures { OnOk result (brackets.new ≡ spec.brackets_behind (spec.opened_by token.now) (spec.closed_by token.now) brackets.old) }
-{
-    match opened_by(token) {
-        Some(bracket) => brackets.push(bracket),
-        None => close_bracket(closed_by(token), brackets),
-    }
-}
-
-// Whether these are one argument without a token.
-fn is_empty_list(arguments: &[Tokens]) -> bool
-    ensures { result ≡ spec.is_empty_list arguments.now }
-{
-    match arguments {
-        [only] => only.is_empty(),
-        _ => false,
-    }
-}
-
-// No formals take an empty list.
-fn given(alloc: Global, arity: usize, arguments: Items<Tokens>) -> Items<Tokens>
-    ensures { result ≡ spec.given arity arguments }
-{
-    if arity == 0 && is_empty_list(arguments.as_slice()) {
-        return Items::new(alloc);
-    }
-    arguments
-}
 
 // A pasted text isn't one token.
 fn unjoined(alloc: Global, place: Place) -> Result<Fail, AllocError>
@@ -121,8 +41,9 @@ fn unjoined(alloc: Global, place: Place) -> Result<Fail, AllocError>
 impl State {
     // A token that has no meaning for the expansion, outside calls.
     fn deliver(&mut self, token: Token) -> Result<Turn, Fail>
-        requires { Bounded self.old }
-        ensures { Turns (spec.delivered_outside (seen self.old) token) (seen self.new) result }
+        requires bounded { Bounded self.old }
+        requires alone { self.old.calls ≡ [] }
+        ensures { Turns (plain [] (spec.delivered (seen self.old) token)) self.new result }
     {
         if self.spent >= SPENDING_LIMIT {
             return Err(broken(207, token));
@@ -133,14 +54,21 @@ impl State {
     }
 
     // The body of a macro comes next, and then its end.
-    fn open_body(&mut self, name: Text, body: Placed, count: u64) -> Result<Turn, AllocError>
+    fn open_body(
+        &mut self,
+        alloc: Global,
+        name: Text,
+        body: Placed,
+        count: u64,
+    ) -> Result<Turn, AllocError>
         requires bounded { Bounded self.old }
         requires within { self.old.spent + count ≤ 2 ^ 22 }
-        ensures { IfOk result (λ turn. (turn ≡ Turn.Go) × ((used : Token) → name_of used ≡ name → spec.with_body (seen self.old) used (Some body) count ≡ goes (seen self.new))) }
+        ensures turn { IfOk result (λ turn. turn ≡ Turn.Go) }
+        ensures calls { IfOk result (λ _. self.new.calls ≡ self.old.calls) }
+        ensures state { IfOk result (λ _. (used : Token) → name_of used ≡ name → spec.with_body (seen self.old) used (Some body) count ≡ goes (seen self.new)) }
     {
         self.macros.mark(&name, true);
-        self.coming.push(Coming::UseEnd(name))?;
-        self.coming.push_all(body)?;
+        self.coming.push_body(alloc, body, name)?;
         self.uses += 1;
         self.spent += count;
         Ok(Turn::Go)
@@ -149,7 +77,8 @@ impl State {
     // The body of a macro comes next, with these arguments.
     fn expand(&mut self, alloc: Global, used: Token, arguments: &[Tokens]) -> Result<Turn, Fail>
         requires { Bounded self.old }
-        ensures { Turns (spec.expanded (seen self.old) used arguments.now) (seen self.new) result }
+        ensures alone { Turns (acted self.old.calls (spec.expanded (seen self.old) used arguments.now)) self.new result }
+        ensures filled { Turns (plain self.old.calls (spec.expanded (seen self.old) used arguments.now)) self.new result }
     {
         let name = name_of(alloc, &used)?;
         let Some(found) = self.macros.find(&name) else {
@@ -162,37 +91,31 @@ impl State {
         let Some(body) = placed(alloc, used.place, arguments, parts)? else {
             return Err(unjoined(alloc, used.place)?);
         };
-        Ok(self.open_body(name, body, count)?)
+        Ok(self.open_body(alloc, name, body, count)?)
     }
 
     // A call has all its arguments.
     fn complete_call(&mut self, alloc: Global, call: Call) -> Result<Turn, Fail>
         requires { Bounded self.old }
-        ensures { Turns (spec.call_complete (seen self.old) call) (seen self.new) result }
+        ensures { Turns (machine.call_complete (seen self.old) call self.old.calls) self.new result }
     {
         let Call {
             used,
-            arity,
             level: _,
             brackets: _,
             mut arguments,
             argument,
         } = call;
         arguments.push(argument)?;
-        let arguments = given(alloc, arity, arguments);
-        if arguments.len() == arity {
-            self.expand(alloc, used, arguments.as_slice())
-        } else {
-            Err(broken(203, used))
-        }
+        self.expand(alloc, used, arguments.as_slice())
     }
 
     // A token belongs to the argument that is read.
     fn go_on(&mut self, call: Call, token: Token) -> Result<Turn, Fail>
-        ensures { Turns (spec.call_goes_on (seen self.old) call self.old.calls token) (seen self.new) result }
+        ensures { Turns (machine.call_goes_on (seen self.old) call self.old.calls token) self.new result }
     {
         let mut call = call;
-        pass_bracket(&token, &mut call.brackets)?;
+        pass_bracket(sign_of(&token), &mut call.brackets)?;
         call.argument.push(token)?;
         self.calls.push(call)?;
         Ok(Turn::Go)
@@ -200,7 +123,7 @@ impl State {
 
     // The next argument begins.
     fn next_argument(&mut self, alloc: Global, call: Call) -> Result<Turn, Fail>
-        ensures { Turns (spec.argument_ends (seen self.old) call self.old.calls) (seen self.new) result }
+        ensures { Turns (machine.argument_ends (seen self.old) call self.old.calls) self.new result }
     {
         let mut call = call;
         let argument = std::mem::replace(&mut call.argument, Tokens::new(alloc));
@@ -212,24 +135,22 @@ impl State {
     // A token of the innermost call.
     fn read_argument(&mut self, alloc: Global, call: Call, token: Token) -> Result<Turn, Fail>
         requires { Bounded self.old }
-        ensures { Turns (spec.in_call (seen self.old) call self.old.calls token) (seen self.new) result }
+        ensures { Turns (machine.in_call (seen self.old) call self.old.calls token) self.new result }
     {
         if !call.brackets.is_empty() {
             return self.go_on(call, token);
         }
-        if is(&token, b",") {
-            return self.next_argument(alloc, call);
+        match sign_of(&token) {
+            Sign::Comma => self.next_argument(alloc, call),
+            Sign::Closes(Bracket::Round) => self.complete_call(alloc, call),
+            _ => self.go_on(call, token),
         }
-        if is(&token, b")") {
-            return self.complete_call(alloc, call);
-        }
-        self.go_on(call, token)
     }
 
     /// A token that has no meaning for the expansion is delivered: to the argument that is read, or at the end.
     pub fn give_on(&mut self, alloc: Global, token: Token) -> Result<Turn, Fail>
         requires { Bounded self.old }
-        ensures { Turns (spec.given_on (seen self.old) token) (seen self.new) result }
+        ensures { Turns (machine.given_to (seen self.old) token self.old.calls) self.new result }
     {
         let Some(call) = self.calls.pop() else {
             return self.deliver(token);
@@ -243,19 +164,34 @@ impl State {
         Ok(Turn::Go)
     }
 
-    // A macro with formals takes a list of arguments.
-    fn begin_call(&mut self, alloc: Global, used: Token, arity: usize) -> Result<Turn, Fail>
-        ensures { Turns (spec.use_of (seen self.old) used (Some arity)) (seen self.new) result }
+    // A macro without a list of formals.
+    fn use_alone(&mut self, alloc: Global, used: Token, busy: bool) -> Result<Turn, Fail>
+        requires { Bounded self.old }
+        ensures { Turns (acted self.old.calls (spec.without_list (seen self.old) used busy)) self.new result }
     {
-        let Some(token) = take_any(&mut self.coming)? else {
-            return Err(broken(203, used));
-        };
-        if !is(&token, b"(") {
-            return Err(broken(203, used));
+        if busy {
+            return Err(broken(204, used));
+        }
+        if self.spent >= SPENDING_LIMIT {
+            return Err(broken(207, used));
+        }
+        self.spent += 1;
+        self.expand(alloc, used, &[])
+    }
+
+    // The list of a call begins.
+    fn begin_list(&mut self, alloc: Global, used: Token, arity: usize) -> Result<Turn, Fail>
+        requires bounded { Bounded self.old }
+        requires bare { arity ≡ 0 → (survey (taken [] self.old.coming)).bare ≡ true }
+        requires closed { (survey (taken [] self.old.coming)).closed ≡ true }
+        ensures { Turns (acted self.old.calls (spec.list_begins (seen self.old) used arity (taken [] self.old.coming).behind)) self.new result }
+    {
+        if arity == 0 {
+            skip_bare(&mut self.coming);
+            return self.expand(alloc, used, &[]);
         }
         self.calls.push(Call {
             used,
-            arity,
             level: self.uses,
             brackets: Stack::new(alloc),
             arguments: Items::new(alloc),
@@ -264,26 +200,88 @@ impl State {
         Ok(Turn::Go)
     }
 
-    /// A macro is used.
-    pub fn begin_use(&mut self, alloc: Global, used: Token) -> Result<Turn, Fail>
-        requires { Bounded self.old }
-        ensures { Turns (spec.use_begins (seen self.old) used) (seen self.new) result }
+    // A list behind its parenthesis, with how long it is where the pass over its text found that.
+    fn take_list(
+        &mut self,
+        alloc: Global,
+        used: Token,
+        busy: bool,
+        arity: usize,
+        size: Option<ListSize>,
+    ) -> Result<Turn, Fail>
+        requires bounded { Bounded self.old }
+        requires size { size ≡ first_list (waiting self.old.coming) }
+        ensures { Turns (acted self.old.calls (spec.with_list (seen self.old) used busy arity (taken [] self.old.coming))) self.new result }
     {
-        let name = name_of(alloc, &used)?;
-        let Some(found) = self.macros.find(&name) else {
-            return Err(broken(202, used));
-        };
-        if found.busy {
+        let list = survey_list(alloc, &mut self.coming, size)?;
+        let fitting = fits(arity, &list);
+        let Survey {
+            barred,
+            cut,
+            closed,
+            count: _,
+            bare: _,
+        } = list;
+        if let Some(token) = barred {
+            return Err(broken(201, token));
+        }
+        if closed && !fitting {
+            return Err(broken(203, used));
+        }
+        if busy {
             return Err(broken(204, used));
         }
         if self.spent >= SPENDING_LIMIT {
             return Err(broken(207, used));
         }
-        let arity = found.arity;
+        if let Some(token) = cut {
+            return Err(broken(208, token));
+        }
+        if !closed {
+            return Err(broken(208, used));
+        }
         self.spent += 1;
-        match arity {
-            None => self.expand(alloc, used, &[]),
-            Some(arity) => self.begin_call(alloc, used, arity),
+        self.begin_list(alloc, used, arity)
+    }
+
+    // A macro with a list of formals.
+    fn use_with_list(
+        &mut self,
+        alloc: Global,
+        used: Token,
+        busy: bool,
+        arity: usize,
+    ) -> Result<Turn, Fail>
+        requires { Bounded self.old }
+        ensures { Turns (acted self.old.calls (spec.use_of (seen self.old) used busy (Some arity))) self.new result }
+    {
+        skip_lines(&mut self.coming);
+        let size = self.coming.next_list();
+        let Some(item) = self.coming.pop() else {
+            return Err(broken(203, used));
+        };
+        let Some(token) = any_token(item) else {
+            return Err(broken(203, used));
+        };
+        if !is_parenthesis(&token) {
+            return Err(broken(203, used));
+        }
+        self.take_list(alloc, used, busy, arity, size)
+    }
+
+    /// A macro is used.
+    pub fn begin_use(&mut self, alloc: Global, used: Token) -> Result<Turn, Fail>
+        requires { Bounded self.old }
+        ensures { Turns (acted self.old.calls (spec.use_begins (seen self.old) used)) self.new result }
+    {
+        let name = name_of(alloc, &used)?;
+        let Some(found) = self.macros.find(&name) else {
+            return Err(broken(202, used));
+        };
+        let busy = found.busy;
+        match found.arity {
+            None => self.use_alone(alloc, used, busy),
+            Some(arity) => self.use_with_list(alloc, used, busy, arity),
         }
     }
 }

@@ -1,11 +1,13 @@
 // Whole expansions (IEEE 1800-2017 clause 22).
-ghost use Rattle.std.specs.Prelude.{◌≡◌, ◌≤◌, ◌<◌, ◌^◌, ◌++◌, ◌∷◌, [], fold, length, OnOk, IfOk};
+ghost use Rattle.std.specs.Prelude.{◌≡◌, true, ◌≤◌, ◌<◌, ◌^◌, ◌++◌, ◌∷◌, [], fold, length, OnOk, IfOk};
 ghost use Rattle.sv_source.specs.Loading.{Contents};
-ghost use Rattle.sv_preproc.specs.Answers.{Cause, Says, Opens, Stops, LoadsTold, LoadReaches, AdvancesTold, AdvanceReaches, AnswersTold, Reaches};
-ghost use Rattle.sv_preproc.specs.Code.{seen, Bounded};
+ghost use Rattle.sv_preproc.specs.Answers.{Cause, Says, Deep, Opens, Stops, LoadReaches, AdvanceReaches, Reaches};
+ghost use Rattle.sv_preproc.specs.Code.{seen, whole, Bounded};
 ghost use Rattle.sv_macro.specs.Tables.{macros_in};
 ghost use Rattle.sv_preproc.specs.Runs.{command_macros};
 ghost use Rattle.sv_preproc.specs.Runs as spec;
+ghost use Rattle.sv_preproc.specs.Searches as searches;
+ghost use Rattle.sv_preproc.specs.States.{broken, goes};
 ghost use Rattle.sv_preproc.specs.Left.{Ready, Settles};
 
 use crate::loading::{Found, load_first};
@@ -16,6 +18,7 @@ use std::alloc::{AllocError, Global};
 use std::mem;
 use sv_macro::definition::parts_of;
 use sv_macro::macros::Macro;
+use sv_macro::pending::Pending;
 use sv_macro::stack::Stack;
 use sv_macro::table::Table;
 use sv_source::{Fail, FileNames, Files, Kind, Place, Refusal, Text, Token, Tokens};
@@ -43,10 +46,11 @@ fn command_macros(alloc: Global, defines: &[Define]) -> Result<Table, AllocError
 impl State {
     // Before the first file.
     fn start(alloc: Global, set: &Settings) -> Result<State, AllocError>
-        ensures { IfOk result (λ state. seen state ≡ spec.start set.now) }
+        ensures state { IfOk result (λ state. seen state ≡ spec.start set.now) }
+        ensures calls { IfOk result (λ state. state.calls ≡ []) }
     {
         Ok(State {
-            coming: Stack::new(alloc),
+            coming: Pending::new(alloc),
             macros: command_macros(alloc, set.defines.as_slice())?,
             files: Stack::new(alloc),
             calls: Stack::new(alloc),
@@ -66,7 +70,7 @@ impl State {
 
     // A file that is wanted is absent or too long.
     fn lost(&mut self, alloc: Global, rule: u16, search: Search) -> Result<ExpandFail, AllocError>
-        ensures { IfOk result (λ fail. Says fail (spec.lost rule search (seen self.old))) }
+        ensures { IfOk result (λ fail. Says fail (searches.lost rule search (seen self.old))) }
     {
         let mut files = mem::replace(&mut self.names, FileNames::new(alloc));
         if search.top {
@@ -80,6 +84,44 @@ impl State {
         Ok(ExpandFail::Refused { refusal, files })
     }
 
+    // Files nest too deep for another.
+    fn nested(&mut self, alloc: Global, token: Token) -> ExpandFail
+        ensures { Says result (broken (seen self.old) 206 token) }
+    {
+        let refusal = Refusal {
+            rule: 206,
+            place: token.place,
+            word: token.text,
+        };
+        ExpandFail::Refused {
+            refusal,
+            files: mem::replace(&mut self.names, FileNames::new(alloc)),
+        }
+    }
+
+    // The expansion goes on with a file that was found, unless files nest too deep.
+    fn open_found(
+        &mut self,
+        alloc: Global,
+        top: bool,
+        deep: Option<Token>,
+        path: Text,
+        bytes: Text,
+    ) -> Result<bool, ExpandFail>
+        requires bounded { Bounded self.old }
+        requires within { length bytes ≤ searches.room_left (seen self.old) }
+        ensures goes { IfOk result (λ b. (b ≡ true) × (searches.found_in top (seen self.old) (record { path = path; bytes = bytes }) deep ≡ goes (seen self.new))) }
+        ensures opened { IfOk result (λ _. seen self.new ≡ searches.opened top (seen self.old) (record { path = path; bytes = bytes })) }
+        ensures calls { IfOk result (λ _. self.new.calls ≡ self.old.calls) }
+        ensures stops { Deep result (searches.found_in top (seen self.old) (record { path = path; bytes = bytes }) deep) }
+    {
+        if let Some(token) = deep {
+            return Err(self.nested(alloc, token));
+        }
+        self.open(alloc, top, path, bytes.as_bytes())?;
+        Ok(true)
+    }
+
     // The expansion goes on with a file.
     fn load<F: Files>(
         &mut self,
@@ -88,17 +130,17 @@ impl State {
         search: Search,
     ) -> Result<bool, ExpandFail>
         requires { Bounded self.old }
-        ensures answer { LoadsTold (F.contents files.old) search (seen self.old) (seen self.new) result }
         ensures reaches { LoadReaches (F.contents files.old) search (seen self.old) (seen self.new) result }
         ensures opened { IfOk result (λ b. Opens b search.top (seen self.old) (seen self.new)) }
+        ensures calls { IfOk result (λ _. self.new.calls ≡ self.old.calls) }
         ensures same { F.contents files.new ≡ F.contents files.old }
         ensures cause { Cause result (F.faults files.old) (F.faults files.new) }
     {
         let limit = self.room_left();
         match load_first(alloc, files, search.paths.as_slice(), limit)? {
             Found::File(path, bytes) => {
-                self.open(alloc, search.top, path, bytes.as_bytes())?;
-                Ok(true)
+                let Search { top, deep, .. } = search;
+                self.open_found(alloc, top, deep, path, bytes)
             }
             Found::Absent => Err(self.lost(alloc, 101, search)?),
             Found::TooLong => Err(self.lost(alloc, 102, search)?),
@@ -126,10 +168,9 @@ impl State {
         files: &mut F,
     ) -> Result<bool, ExpandFail>
         requires few { length set.now.files ≤ 2 ^ 30 }
-        requires ready { Ready (length set.now.files) (seen self.old) }
-        ensures answer { AdvancesTold set.now (F.contents files.old) (seen self.old) (seen self.new) result }
-        ensures reaches { AdvanceReaches set.now (F.contents files.old) (seen self.old) (seen self.new) result }
-        ensures falls { Settles (length set.now.files) (seen self.old) (seen self.new) result }
+        requires ready { Ready (length set.now.files) (whole self.old) }
+        ensures reaches { AdvanceReaches set.now (F.contents files.old) (whole self.old) (whole self.new) result }
+        ensures falls { Settles (length set.now.files) (whole self.old) (whole self.new) result }
         ensures same { F.contents files.new ≡ F.contents files.old }
         ensures cause { Cause result (F.faults files.old) (F.faults files.new) }
     {
@@ -174,9 +215,7 @@ pub fn expand<F: Files>(
     files: &mut F,
 ) -> Result<Expanded, ExpandFail>
     requires { length set.now.files ≤ 2 ^ 30 }
-    // Where the contents of the files are told, the answer is what the expansion comes to.
-    ensures answer { AnswersTold set.now (F.contents files.old) result }
-    // Whatever the files tell, the answer is what the expansion comes to by what its searches find.
+    // The answer is what the expansion comes to: by the files where their contents are told, else by what searches find.
     ensures comes { Reaches set.now (F.contents files.old) result }
     // For any contents the expansion comes to one outcome: tokens or a refusal, and not both.
     ensures one { (contents : Contents) → spec.HasOutcome set.now contents }

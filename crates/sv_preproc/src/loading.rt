@@ -1,16 +1,15 @@
 // Loads of files.
 ghost use Rattle.std.specs.Prelude.{◌≡◌, ◌≤◌, ◌<◌, ◌^◌, ◌++◌, ◌+◌, ◌-◌, map, min, length, OnOk};
-ghost use Rattle.sv_preproc.specs.Answers.{Cause, FindsTold, SearchReaches, FoundWithin};
+ghost use Rattle.sv_preproc.specs.Answers.{Cause, SearchReaches, FoundWithin};
 ghost use Rattle.sv_preproc.specs.Code.{seen, Bounded};
-ghost use Rattle.sv_preproc.specs.Runs as spec;
+ghost use Rattle.sv_preproc.specs.Searches as spec;
 
 use crate::settings::ExpandFail;
 use crate::state::{OpenFile, State};
 use std::alloc::{AllocError, Global};
 use sv_lexer::{lex, place_behind};
-use sv_macro::coming::Coming;
 use sv_macro::stack::Stack;
-use sv_source::{Files, Loaded, Place, Text, Tokens};
+use sv_source::{Files, Loaded, Place, Text};
 
 /// What stands at the first of some paths that isn't absent.
 #[derive(Drop, Debug)]
@@ -31,7 +30,6 @@ pub fn load_first<F: Files>(
     limit: u64,
 ) -> Result<Found, ExpandFail>
     requires { limit < 2 ^ 32 }
-    ensures answer { FindsTold (F.contents files.old) paths.now limit result }
     ensures reaches { SearchReaches (F.contents files.old) paths.now limit result }
     ensures within { FoundWithin limit result }
     ensures same { F.contents files.new ≡ F.contents files.old }
@@ -53,17 +51,6 @@ pub fn load_first<F: Files>(
     Ok(Found::Absent)
 }
 
-// The tokens of a file come next.
-fn push_raw(coming: &mut Stack<Coming>, tokens: Tokens) -> Result<(), AllocError>
-    ensures { OnOk result (coming.new ≡ map Coming.Raw tokens ++ coming.old) }
-{
-    let mut tokens = tokens;
-    while let Some(token) = tokens.pop() {
-        coming.push(Coming::Raw(token))?;
-    }
-    Ok(())
-}
-
 impl State {
     /// The most bytes that the next file may have.
     pub fn room_left(&self) -> u64
@@ -83,7 +70,8 @@ impl State {
     ) -> Result<(), AllocError>
         requires bounded { Bounded self.old }
         requires within { length bytes.now ≤ spec.room_left (seen self.old) }
-        ensures { OnOk result (seen self.new ≡ spec.opened top (seen self.old) (record { path = path; bytes = bytes.now })) }
+        ensures state { OnOk result (seen self.new ≡ spec.opened top (seen self.old) (record { path = path; bytes = bytes.now })) }
+        ensures calls { OnOk result (self.new.calls ≡ self.old.calls) }
     {
         let start = Place {
             file: self.names.len() as u32,
@@ -91,8 +79,7 @@ impl State {
             col: 1,
         };
         let tokens = lex(alloc, start.file, bytes)?;
-        self.coming.push(Coming::FileEnd)?;
-        push_raw(&mut self.coming, tokens)?;
+        self.coming.push_file(alloc, tokens)?;
         self.files.push(OpenFile {
             path: path.copy(alloc)?,
             conditionals: Stack::new(alloc),

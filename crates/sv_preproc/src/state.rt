@@ -1,6 +1,7 @@
 // How far an expansion has come.
 
-use sv_macro::coming::Coming;
+use sv_macro::brackets::Bracket;
+use sv_macro::pending::Pending;
 use sv_macro::stack::Stack;
 use sv_macro::table::Table;
 use sv_source::{FileNames, Items, Place, Text, Token, Tokens};
@@ -36,24 +37,11 @@ pub struct OpenFile {
     pub conditionals: Stack<Conditional>,
 }
 
-/// A kind of bracket.
-#[derive(Clone, Copy, PartialEq, Eq, Debug)]
-pub enum Bracket {
-    /// Parentheses.
-    Round,
-    /// Square brackets.
-    Square,
-    /// Braces.
-    Curly,
-}
-
 /// A macro call whose arguments are read.
 #[derive(Drop, Debug)]
 pub struct Call {
     /// The token that uses the macro.
     pub used: Token,
-    /// How many formals the macro has.
-    pub arity: usize,
     /// How many expansions were going on around the call.
     pub level: usize,
     /// The open brackets in the argument, the innermost first.
@@ -68,7 +56,7 @@ pub struct Call {
 #[derive(Drop)]
 pub struct State {
     /// What is still to come of the files that are open.
-    pub coming: Stack<Coming>,
+    pub coming: Pending,
     /// The macros.
     pub macros: Table,
     /// The open files, the innermost first.

@@ -4,7 +4,8 @@ ghost use Rattle.sv_preproc.specs.Expansion as spec;
 ghost use Rattle.sv_preproc.specs.Branches as branches;
 ghost use Rattle.sv_preproc.specs.States.{goes};
 ghost use Rattle.sv_macro.specs.Tokens.{said_by};
-ghost use Rattle.sv_preproc.specs.Code.{seen, Turns, Bounded};
+ghost use Rattle.sv_preproc.specs.Code.{seen, whole, Turns, Bounded};
+ghost use Rattle.sv_preproc.specs.Machine.{acted, move};
 
 use crate::settings::{Settings, Texts};
 use crate::state::State;
@@ -24,7 +25,7 @@ const DEPTH_LIMIT: usize = 17;
 
 impl State {
     fn define(&mut self, alloc: Global, token: Token) -> Result<Turn, Fail>
-        ensures { Turns (spec.define (seen self.old) token) (seen self.new) result }
+        ensures { Turns (acted self.old.calls (spec.define (seen self.old) token)) self.new result }
     {
         let line = take_line(alloc, &mut self.coming)?;
         match read_definition(alloc, line.as_slice())? {
@@ -39,13 +40,24 @@ impl State {
     }
 
     fn undefine(&mut self, token: Token) -> Result<Turn, Fail>
-        ensures { Turns (spec.undefine (seen self.old) token) (seen self.new) result }
+        ensures { Turns (acted self.old.calls (spec.undefine (seen self.old) token)) self.new result }
     {
-        let Some(name) = take_name(&mut self.coming)? else {
+        let Some(name) = take_name(&mut self.coming) else {
             return Err(broken(201, token));
         };
         self.macros.undefine(&name);
         Ok(Turn::Go)
+    }
+
+    // The directive, where files nest too deep for another.
+    fn too_deep(&self, token: Token) -> Option<Token>
+        ensures { result ≡ spec.too_deep self.now.files token }
+    {
+        if self.files.len() >= DEPTH_LIMIT {
+            Some(token)
+        } else {
+            None
+        }
     }
 
     // The file that a string names.
@@ -56,14 +68,11 @@ impl State {
         token: Token,
         string: Token,
     ) -> Result<Turn, Fail>
-        ensures { Turns (spec.include_in set.now (seen self.now) token string self.now.files) (seen self.now) result }
+        ensures { Turns (acted self.now.calls (spec.include_in set.now (seen self.now) token string self.now.files)) self.now result }
     {
         let Some(file) = self.files.top() else {
             return Err(broken(201, token));
         };
-        if self.files.len() >= DEPTH_LIMIT {
-            return Err(broken(206, token));
-        }
         let path = between_quotes(string.text.as_bytes());
         let paths = candidates(alloc, set.dirs.as_slice(), file.path.as_bytes(), path)?;
         let word = Text::from_bytes(alloc, path)?;
@@ -72,13 +81,14 @@ impl State {
             top: false,
             place: string.place,
             word,
+            deep: self.too_deep(token),
         }))
     }
 
     fn include(&mut self, alloc: Global, set: &Settings, token: Token) -> Result<Turn, Fail>
-        ensures { Turns (spec.include set.now (seen self.old) token) (seen self.new) result }
+        ensures { Turns (acted self.old.calls (spec.include set.now (seen self.old) token)) self.new result }
     {
-        let Some(string) = take_raw(&mut self.coming)? else {
+        let Some(string) = take_raw(&mut self.coming) else {
             return Err(broken(201, token));
         };
         if !is_string(&string) {
@@ -89,9 +99,9 @@ impl State {
 
     // A directive that is dropped with tokens of its line.
     fn drop_with(&mut self, token: Token, shapes: &[Shape]) -> Result<Turn, Fail>
-        ensures { Turns (spec.dropped_with (seen self.old) token shapes.now) (seen self.new) result }
+        ensures { Turns (acted self.old.calls (spec.dropped_with (seen self.old) token shapes.now)) self.new result }
     {
-        if take_shapes(&mut self.coming, shapes)? {
+        if take_shapes(&mut self.coming, shapes) {
             Ok(Turn::Go)
         } else {
             Err(broken(201, token))
@@ -107,7 +117,7 @@ impl State {
         word: Word,
     ) -> Result<Turn, Fail>
         requires { Bounded self.old }
-        ensures { Turns (spec.obeyed set.now (seen self.old) token word) (seen self.new) result }
+        ensures { Turns (acted self.old.calls (spec.obeyed set.now (seen self.old) token word)) self.new result }
     {
         match word {
             Word::Branch(condition) => self.select_branch(token, condition),
@@ -141,7 +151,7 @@ impl State {
     // A directive or the use of a macro.
     fn direct(&mut self, alloc: Global, set: &Settings, token: Token) -> Result<Turn, Fail>
         requires { Bounded self.old }
-        ensures { Turns (spec.directive set.now (seen self.old) token (said_by token)) (seen self.new) result }
+        ensures { Turns (acted self.old.calls (spec.directive set.now (seen self.old) token (said_by token))) self.new result }
     {
         let word = said_by(&token);
         if word == Word::Use {
@@ -155,7 +165,7 @@ impl State {
 
     // A token in a branch that isn't taken.
     fn skip(&mut self, token: Token) -> Result<Turn, Fail>
-        ensures { Turns (spec.skipped (seen self.old) token token.kind) (seen self.new) result }
+        ensures { Turns (acted self.old.calls (spec.skipped (seen self.old) token token.kind)) self.new result }
     {
         match token.kind {
             Kind::Cut => Err(broken(208, token)),
@@ -170,7 +180,7 @@ impl State {
     // A token anywhere else.
     fn take(&mut self, alloc: Global, set: &Settings, token: Token) -> Result<Turn, Fail>
         requires { Bounded self.old }
-        ensures { Turns (spec.taken set.now (seen self.old) token token.kind) (seen self.new) result }
+        ensures { Turns (acted self.old.calls (spec.taken set.now (seen self.old) token token.kind)) self.new result }
     {
         match token.kind {
             Kind::Directive => self.direct(alloc, set, token),
@@ -193,7 +203,7 @@ impl State {
 
     fn read(&mut self, alloc: Global, set: &Settings, token: Token) -> Result<Turn, Fail>
         requires { Bounded self.old }
-        ensures { Turns (spec.raw set.now (seen self.old) token) (seen self.new) result }
+        ensures { Turns (acted self.old.calls (spec.raw set.now (seen self.old) token)) self.new result }
     {
         if self.skips() {
             self.skip(token)
@@ -204,11 +214,8 @@ impl State {
 
     // A file ends.
     fn end_file(&mut self) -> Result<Turn, Fail>
-        ensures { Turns (spec.file_ends (seen self.old) self.old.calls) (seen self.new) result }
+        ensures { Turns (acted self.old.calls (spec.file_ends (seen self.old) self.old.files)) self.new result }
     {
-        if let Some(call) = self.calls.pop() {
-            return Err(broken(208, call.used));
-        }
         let Some(file) = self.files.pop() else {
             return Ok(Turn::Go);
         };
@@ -219,24 +226,12 @@ impl State {
         }
     }
 
-    fn close_body(&mut self, name: &Text)
-        ensures { spec.body_closed (seen self.old) name.now ≡ goes (seen self.new) }
+    // A body ends.
+    fn end_body(&mut self, name: &Text) -> Result<Turn, Fail>
+        ensures { Turns (acted self.old.calls (spec.body_ends (seen self.old) name.now)) self.new result }
     {
         self.macros.mark(name, false);
         self.uses = self.uses.saturating_sub(1);
-    }
-
-    // A body ends.
-    fn end_body(&mut self, name: &Text) -> Result<Turn, Fail>
-        ensures { Turns (spec.body_ends (seen self.old) name.now self.old.calls) (seen self.new) result }
-    {
-        if let Some(call) = self.calls.pop() {
-            if call.level == self.uses {
-                return Err(broken(208, call.used));
-            }
-            self.calls.push(call)?;
-        }
-        self.close_body(name);
         Ok(Turn::Go)
     }
 
@@ -244,7 +239,7 @@ impl State {
     fn next_file(&mut self, alloc: Global, set: &Settings) -> Result<Turn, Fail>
         requires bounded { Bounded self.old }
         requires files { length set.now.files ≤ 2 ^ 30 }
-        ensures { Turns (spec.next_file (seen self.old) (slice_get set.now.files self.old.next)) (seen self.new) result }
+        ensures { Turns (acted self.old.calls (spec.next_file (seen self.old) (slice_get set.now.files self.old.next))) self.new result }
     {
         let Some(path) = set.files.get(self.next) else {
             return Ok(Turn::Done);
@@ -263,6 +258,7 @@ impl State {
             top: true,
             place,
             word,
+            deep: None,
         }))
     }
 
@@ -270,7 +266,7 @@ impl State {
     pub fn step(&mut self, alloc: Global, set: &Settings) -> Result<Turn, Fail>
         requires bounded { Bounded self.old }
         requires files { length set.now.files ≤ 2 ^ 30 }
-        ensures { Turns (spec.step set.now (seen self.old)) (seen self.new) result }
+        ensures { Turns (move set.now (whole self.old)) self.new result }
     {
         match self.coming.pop() {
             None => self.next_file(alloc, set),

@@ -1,7 +1,7 @@
 // What a step of an expansion comes to.
 
 use crate::settings::Texts;
-use sv_source::{Place, Text};
+use sv_source::{Place, Text, Token};
 
 /// A file that is wanted.
 #[derive(Drop, Debug)]
@@ -14,6 +14,8 @@ pub struct Search {
     pub place: Place,
     /// The word of that refusal.
     pub word: Text,
+    /// The directive that wants it, where files nest too deep.
+    pub deep: Option<Token>,
 }
 
 /// What a step comes to.

@@ -1,6 +1,9 @@
-use Rattle.std.proofs.Common.{◌≡◌, drop}
+use Rattle.std.proofs.Common.{◌≡◌, length}
 use Rattle.sv_macro.specs.Shapes.{behind_shapes}
 use Rattle.sv_macro.proofs.shapes.take_shapes.Given as goal
 
-abbrev pub invariant-loop-shape : goal.invariant-loop-shape
-invariant-loop-shape l = behind_shapes (drop l.shape-index l.shapes) l.coming ≡ behind_shapes l.shapes l.initial.coming
+abbrev pub invariant-loop-rest : goal.invariant-loop-rest
+invariant-loop-rest l = behind_shapes l.rest l.coming ≡ behind_shapes l.shapes l.initial.coming
+
+abbrev pub decreases-loop-rest : goal.decreases-loop-rest
+decreases-loop-rest l = length l.rest

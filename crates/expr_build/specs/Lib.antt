@@ -1,0 +1,4 @@
+pub mod Nodes
+pub mod Words
+pub mod Expressions
+pub mod Types

@@ -1,0 +1,5 @@
+use Rattle.sv_types.proofs.ReadLaws as Laws
+use Rattle.sv_types.proofs.laws.whole_is_read.Goals as goal
+
+pub returns : goal.returns
+returns c = Laws.whole_is_read

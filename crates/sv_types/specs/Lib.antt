@@ -1,0 +1,15 @@
+pub mod Layouts
+pub mod Values
+pub mod Windows
+pub mod Surroundings
+pub mod Meanings
+pub mod Paths
+pub mod Operators
+pub mod Expressions
+pub mod Runs
+pub mod Efforts
+pub mod Flows
+pub mod Statements
+pub mod Functions
+pub mod Machine
+pub mod Laws

@@ -1,0 +1,12 @@
+pub mod class
+pub mod Rows
+pub mod Fitness
+pub mod Derivations
+pub mod OneReading
+pub mod Fits
+pub mod Induction
+pub mod HelperNames
+pub mod Lines
+pub mod Positions
+pub mod Written
+pub mod Takes

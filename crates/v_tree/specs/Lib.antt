@@ -1,0 +1,17 @@
+pub mod Names
+pub mod Reserved
+pub mod Tokens
+pub mod Symbols
+pub mod Heads
+pub mod Table
+pub mod Parts
+pub mod Meaning
+pub mod Reading
+pub mod Grammatical
+pub mod Printing
+pub mod Scopes
+pub mod ExprRules
+pub mod StmtRules
+pub mod Rules
+pub mod Rows
+pub mod Takings

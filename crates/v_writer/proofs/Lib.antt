@@ -1,0 +1,13 @@
+pub mod Margins
+pub mod Levels
+pub mod Layouts
+pub mod Sheets
+pub mod Phrases
+pub mod Spelled
+pub mod Pieces
+pub mod Said
+pub mod WrittenExprs
+pub mod WrittenStmts
+pub mod WrittenSignals
+pub mod WrittenItems
+pub mod ReadsBack

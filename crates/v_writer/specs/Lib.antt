@@ -1,0 +1,5 @@
+pub mod Layout
+pub mod Sheets
+pub mod Margins
+pub mod Pages
+pub mod Writing
