@@ -119,7 +119,9 @@ fn operand(
 {
     match expr {
         sv_tree::Expr::Unary {
-            operator, operand, ..
+            operator,
+            operand,
+            ..
         } => inverted(alloc, tokens, *operator, operand.get()),
         _ => plain(alloc, tokens, expr),
     }
@@ -160,11 +162,7 @@ fn binary(
 }
 
 /// An operand alone.
-fn single(
-    alloc: Global,
-    tokens: &[Token],
-    expr: &sv_tree::Expr,
-) -> Result<Option<Expr>, AllocError>
+fn single(alloc: Global, tokens: &[Token], expr: &sv_tree::Expr) -> Result<Option<Expr>, AllocError>
     ensures { IfOk result (λ x. x ≡ means.single_of tokens.now expr.now) }
 {
     match operand(alloc, tokens, expr)? {
@@ -174,7 +172,11 @@ fn single(
 }
 
 /// An expression of one or two operands.
-pub fn expr(alloc: Global, tokens: &[Token], expr: &sv_tree::Expr) -> Result<Option<Expr>, AllocError>
+pub fn expr(
+    alloc: Global,
+    tokens: &[Token],
+    expr: &sv_tree::Expr,
+) -> Result<Option<Expr>, AllocError>
     ensures { IfOk result (λ x. x ≡ means.expr_of tokens.now expr.now) }
 {
     match expr {
@@ -187,4 +189,3 @@ pub fn expr(alloc: Global, tokens: &[Token], expr: &sv_tree::Expr) -> Result<Opt
         _ => single(alloc, tokens, expr),
     }
 }
-

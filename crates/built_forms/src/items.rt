@@ -201,7 +201,9 @@ fn always(
         Always::Comb { body, .. } => comb(alloc, tokens, body),
         Always::Latch { .. } => Ok(None),
         Always::Ff {
-            edges: list, body, ..
+            edges: list,
+            body,
+            ..
         } => edges(alloc, tokens, list.as_slice(), body),
         Always::Plain { .. } => Ok(None),
     }

@@ -15,9 +15,7 @@ use sv_tree::{Header, Label, SourceTree, Unit};
 fn is_plain_header(header: &Header) -> bool
     ensures { result ≡ means.is_plain_header header.now }
 {
-    header.lifetime.is_none()
-        && header.imports.as_slice().is_empty()
-        && header.parameters.is_none()
+    header.lifetime.is_none() && header.imports.as_slice().is_empty() && header.parameters.is_none()
 }
 
 /// The ports of a header.

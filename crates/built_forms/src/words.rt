@@ -41,4 +41,3 @@ pub fn name(alloc: Global, tokens: &[Token], index: u32) -> Result<Option<Spot>,
         },
     }
 }
-

@@ -13,7 +13,11 @@ use sv_core::{
 use sv_source::{Boxed, Items, Text};
 
 /// The signal that a name stands for, or the bits of a literal.
-fn primary(alloc: Global, names: &Names, primary: &built_forms::Primary) -> Result<Primary, AllocError>
+fn primary(
+    alloc: Global,
+    names: &Names,
+    primary: &built_forms::Primary,
+) -> Result<Primary, AllocError>
     requires { names.now.next < 2 ^ 32 }
     ensures { IfOk result (λ p. (ns : List (List ℕ)) → Numbers names.now ns → p ≡ primary_of ns primary.now) }
 {
@@ -27,7 +31,11 @@ fn primary(alloc: Global, names: &Names, primary: &built_forms::Primary) -> Resu
 }
 
 /// An operand.
-fn operand(alloc: Global, names: &Names, operand: &built_forms::Operand) -> Result<Operand, AllocError>
+fn operand(
+    alloc: Global,
+    names: &Names,
+    operand: &built_forms::Operand,
+) -> Result<Operand, AllocError>
     requires { names.now.next < 2 ^ 32 }
     ensures { IfOk result (λ a. (ns : List (List ℕ)) → Numbers names.now ns → a ≡ operand_of ns operand.now) }
 {

@@ -9,8 +9,8 @@ ghost use Rattle.sv2v_top.specs.source.Lookup.{Numbers, holds};
 ghost use Rattle.sv2v_top.specs.source.Answers.{undeclared_refusal, UndeclaredGives};
 
 use crate::package_scope::Names;
-use built_forms::{Item, Module, Port};
 use crate::uses::{Use, find_in};
+use built_forms::{Item, Module, Port};
 use std::alloc::{AllocError, Global};
 use sv_source::{Refusal, Spot, Text};
 

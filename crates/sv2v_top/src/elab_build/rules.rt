@@ -14,8 +14,8 @@ ghost use Rattle.sv2v_top.specs.source.Lookup.{Numbers, holds};
 
 use crate::literals::{decimal_up_to, is_plain};
 use crate::package_scope::Names;
-use built_forms::{Item, Module, Stmt};
 use crate::uses::{Found, Literal, Role, Use, find_in, has_at_most};
+use built_forms::{Item, Module, Stmt};
 use std::alloc::{AllocError, Global};
 use sv_core::{Signal, SignalKind};
 use sv_source::{Items, Refusal, Spot, Text};
