@@ -3,13 +3,10 @@ use Rattle.std.specs.Prelude.{ℕ, zero, suc, Bool, true, false, ◌&&◌, ◌||
 use Rattle.std.specs.Str.{bytes_eq}
 use Rattle.b4_core.specs.declared.operators.BinOp.{BinOp}
 use Rattle.b4_core.specs.declared.operators.BinOp.TheVariants as B
-use Rattle.sv_source.specs.declared.token.Kind.{Kind}
 use Rattle.sv_source.specs.declared.token.Token.{Token}
 use Rattle.sv_source.specs.declared.token.Spot.{Spot}
 use Rattle.sv_macro.specs.Tokens.{is_name_kind}
 use Rattle.sv_tree.specs.declared.declarations.Declarator.{Declarator}
-use Rattle.sv_tree.specs.declared.declarations.Import.{Import}
-use Rattle.sv_tree.specs.declared.declarations.Initializer.{Initializer}
 use Rattle.sv_tree.specs.declared.expressions.Cast.{Cast}
 use Rattle.sv_tree.specs.declared.expressions.Dimension.{Dimension, Dimension-F, out-Dimension}
 use Rattle.sv_tree.specs.declared.expressions.Expr as X
@@ -26,10 +23,7 @@ use Rattle.sv_tree.specs.declared.items.Item as Y
 use Rattle.sv_tree.specs.declared.names.Direction as W
 use Rattle.sv_tree.specs.declared.names.Direction.TheVariants as D
 use Rattle.sv_tree.specs.declared.names.Label.{Label}
-use Rattle.sv_tree.specs.declared.names.Lifetime.{Lifetime}
-use Rattle.sv_tree.specs.declared.names.NetOrVariable.{NetOrVariable}
 use Rattle.sv_tree.specs.declared.names.QualifiedName.{QualifiedName}
-use Rattle.sv_tree.specs.declared.names.Signing.{Signing}
 use Rattle.sv_tree.specs.declared.operators.AssignmentOperator.{AssignmentOperator}
 use Rattle.sv_tree.specs.declared.operators.AssignmentOperator.TheVariants.{Assign, Nonblocking}
 use Rattle.sv_tree.specs.declared.operators.BinaryOperator.{BinaryOperator}
@@ -37,7 +31,6 @@ use Rattle.sv_tree.specs.declared.operators.BinaryOperator.TheVariants as O
 use Rattle.sv_tree.specs.declared.operators.UnaryOperator.{UnaryOperator}
 use Rattle.sv_tree.specs.declared.operators.UnaryOperator.TheVariants.{Invert}
 use Rattle.sv_tree.specs.declared.ports.Header.{Header}
-use Rattle.sv_tree.specs.declared.ports.ParameterPortList.{ParameterPortList}
 use Rattle.sv_tree.specs.declared.ports.Port as Q
 use Rattle.sv_tree.specs.declared.ports.PortList.{PortList}
 use Rattle.sv_tree.specs.declared.ports.PortText.{PortText}
@@ -47,14 +40,12 @@ use Rattle.sv_tree.specs.declared.processes.Always.TheVariants as A
 use Rattle.sv_tree.specs.declared.processes.EdgeKeyword.{EdgeKeyword}
 use Rattle.sv_tree.specs.declared.processes.EdgeKeyword.TheVariants.{Posedge, Negedge}
 use Rattle.sv_tree.specs.declared.processes.EventEdge.{EventEdge}
-use Rattle.sv_tree.specs.declared.processes.EventMember.{EventMember}
 use Rattle.sv_tree.specs.declared.processes.NetAssignment.{NetAssignment}
 use Rattle.sv_tree.specs.declared.statements.BlockItem.{BlockItem, BlockItem-F, out-BlockItem}
 use Rattle.sv_tree.specs.declared.statements.CaseItem.{CaseItem}
-use Rattle.sv_tree.specs.declared.statements.Else.{Else, Else-F, out-Else}
+use Rattle.sv_tree.specs.declared.statements.Else.{Else, out-Else}
 use Rattle.sv_tree.specs.declared.statements.Lvalue.{Lvalue, Lvalue-F, out-Lvalue}
 use Rattle.sv_tree.specs.declared.statements.Stmt as Z
-use Rattle.sv_tree.specs.declared.statements.UniquePriority.{UniquePriority}
 use Rattle.sv_tree.specs.declared.types.KeywordType.{KeywordType}
 use Rattle.sv_tree.specs.declared.types.Member.{Member}
 use Rattle.sv_tree.specs.declared.types.TypeKeyword.{TypeKeyword}
@@ -65,7 +56,6 @@ use Rattle.sv_tree.specs.declared.units.SourceTree.{SourceTree}
 use Rattle.sv_tree.specs.declared.units.Unit as U
 use Rattle.sv_tree.specs.declared.units.Unit.TheVariants as N
 use Rattle.built_forms.specs.declared.forms.Assign as F
-use Rattle.built_forms.specs.declared.forms.Declaration.{Declaration}
 use Rattle.built_forms.specs.declared.forms.Direction.{Direction}
 use Rattle.built_forms.specs.declared.forms.Direction.TheVariants.{Input, Output}
 use Rattle.built_forms.specs.declared.forms.Expr.{Expr}

@@ -1,6 +1,5 @@
-use Rattle.std.proofs.Common.{◌≡◌, ◌+◌, Some, IfOk, sym, subst, ◌∙◌, arith}
-use Rattle.built_forms.specs.Built.{block_item_of, stmt_within}
-use Rattle.built_forms.proofs.Gathering.{step-built, one-deeper}
+use Rattle.std.proofs.Common.{◌≡◌, ◌+◌, IfOk, sym, subst, arith}
+use Rattle.built_forms.proofs.Gathering.{one-deeper}
 use Rattle.built_forms.proofs.statements.+statement.Goals as goal
 
 pub stmt-returns-in-Some : goal.stmt-returns-in-Some
