@@ -1,3 +1,4 @@
+pub mod Levels
 pub mod Lengths
 pub mod Cuts
 pub mod Marks

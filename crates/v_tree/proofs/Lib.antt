@@ -9,3 +9,4 @@ pub mod HelperNames
 pub mod Lines
 pub mod Positions
 pub mod Written
+pub mod Takes

@@ -14,3 +14,4 @@ pub mod ExprRules
 pub mod StmtRules
 pub mod Rules
 pub mod Rows
+pub mod Takings

@@ -7,6 +7,7 @@ mod items;
 mod names;
 mod operators;
 mod parts;
+mod plain;
 mod reader;
 mod reading;
 mod reserved;
@@ -24,6 +25,7 @@ pub use names::{
 };
 pub use operators::{VBinaryOp, VUnaryOp};
 pub use parts::{VPart, VParts};
+pub use plain::print_names;
 pub use reader::grammar;
 pub use reading::reads_once;
 pub use reserved::{is_reserved, is_simple};

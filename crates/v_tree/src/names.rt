@@ -111,7 +111,7 @@ pub fn print_name(alloc: Global, path: &Text) -> Result<Text, AllocError>
 }
 
 /// Appends a decimal number.
-fn push_decimal(n: u32, to: &mut Text) -> Result<(), AllocError>
+pub(crate) fn push_decimal(n: u64, to: &mut Text) -> Result<(), AllocError>
     ensures { OnOk result (to.new ≡ to.old ++ decimal n) }
 {
     let mut buffer = Buffer::new();
@@ -128,9 +128,9 @@ fn push_kind(kind: HelperKind, to: &mut Text) -> Result<(), AllocError>
         HelperKind::TwoState => to.push_bytes(b"two_state"),
         HelperKind::Select { part, index } => {
             to.push_bytes(b"select_")?;
-            push_decimal(part, to)?;
+            push_decimal(u64::from(part), to)?;
             to.push_bytes(b"_")?;
-            push_decimal(index, to)
+            push_decimal(u64::from(index), to)
         }
         HelperKind::WildEq => to.push_bytes(b"wild_eq"),
     }
@@ -145,7 +145,7 @@ pub fn helper_name(alloc: Global, h: &Helper) -> Result<Text, AllocError>
     let mut name = Text::from_bytes(alloc, b"sv2v_h_")?;
     push_kind(h.kind, &mut name)?;
     name.push_bytes(b"_")?;
-    push_decimal(h.width, &mut name)?;
+    push_decimal(u64::from(h.width), &mut name)?;
     Ok(name)
 }
 

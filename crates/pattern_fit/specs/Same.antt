@@ -1,0 +1,71 @@
+-- When two types are one type (IEEE 1800-2017 clause 6.22.1): structs, unions and enums by their declarations, others by their
+-- form.
+use Rattle.std.specs.Prelude.{ℕ, Bool, false, not, ◌&&◌, ◌==◌, cond, ℤ}
+use Rattle.std.specs.Ordering.{int_eq}
+use Rattle.sv_types.specs.declared.types.SvType.{SvType, SvType-F, out-SvType, fold-SvType}
+use Rattle.sv_types.specs.declared.types.Member.{Member, Member-F}
+
+abbrev pub same_bool : Bool → Bool → Bool
+same_bool a b = cond a b (not b)
+
+abbrev pub of_scalar : Bool → Bool → SvType-F SvType Member → Bool
+of_scalar four s (SvType-F.Scalar f t) = same_bool four f && same_bool s t
+of_scalar four s (SvType-F.PackedArray l r t item) = false
+of_scalar four s (SvType-F.Struct id packed t ms) = false
+of_scalar four s (SvType-F.Union id t ms) = false
+of_scalar four s (SvType-F.Enum id base names) = false
+of_scalar four s (SvType-F.UnpackedArray l r item) = false
+
+abbrev pub is_packed_array : ℤ → ℤ → Bool → (SvType → Bool) → SvType-F SvType Member → Bool
+is_packed_array left right s same (SvType-F.Scalar f t) = false
+is_packed_array left right s same (SvType-F.PackedArray l r t item) = int_eq left l && (int_eq right r && (same_bool s t && same item))
+is_packed_array left right s same (SvType-F.Struct id packed t ms) = false
+is_packed_array left right s same (SvType-F.Union id t ms) = false
+is_packed_array left right s same (SvType-F.Enum id base names) = false
+is_packed_array left right s same (SvType-F.UnpackedArray l r item) = false
+
+abbrev pub of_struct : ℕ → SvType-F SvType Member → Bool
+of_struct n (SvType-F.Scalar f t) = false
+of_struct n (SvType-F.PackedArray l r t item) = false
+of_struct n (SvType-F.Struct id packed t ms) = n == id
+of_struct n (SvType-F.Union id t ms) = false
+of_struct n (SvType-F.Enum id base names) = false
+of_struct n (SvType-F.UnpackedArray l r item) = false
+
+abbrev pub of_union : ℕ → SvType-F SvType Member → Bool
+of_union n (SvType-F.Scalar f t) = false
+of_union n (SvType-F.PackedArray l r t item) = false
+of_union n (SvType-F.Struct id packed t ms) = false
+of_union n (SvType-F.Union id t ms) = n == id
+of_union n (SvType-F.Enum id base names) = false
+of_union n (SvType-F.UnpackedArray l r item) = false
+
+abbrev pub of_enum : ℕ → SvType-F SvType Member → Bool
+of_enum n (SvType-F.Scalar f t) = false
+of_enum n (SvType-F.PackedArray l r t item) = false
+of_enum n (SvType-F.Struct id packed t ms) = false
+of_enum n (SvType-F.Union id t ms) = false
+of_enum n (SvType-F.Enum id base names) = n == id
+of_enum n (SvType-F.UnpackedArray l r item) = false
+
+abbrev pub is_unpacked_array : ℤ → ℤ → (SvType → Bool) → SvType-F SvType Member → Bool
+is_unpacked_array left right same (SvType-F.Scalar f t) = false
+is_unpacked_array left right same (SvType-F.PackedArray l r t item) = false
+is_unpacked_array left right same (SvType-F.Struct id packed t ms) = false
+is_unpacked_array left right same (SvType-F.Union id t ms) = false
+is_unpacked_array left right same (SvType-F.Enum id base names) = false
+is_unpacked_array left right same (SvType-F.UnpackedArray l r item) = int_eq left l && (int_eq right r && same item)
+
+abbrev pub same_step : SvType-F (SvType → Bool) (SvType → Bool) → SvType → Bool
+same_step (SvType-F.Scalar four s) u = of_scalar four s (out-SvType u)
+same_step (SvType-F.PackedArray l r s item) u = is_packed_array l r s item (out-SvType u)
+same_step (SvType-F.Struct id packed s ms) u = of_struct id (out-SvType u)
+same_step (SvType-F.Union id s ms) u = of_union id (out-SvType u)
+same_step (SvType-F.Enum id base names) u = of_enum id (out-SvType u)
+same_step (SvType-F.UnpackedArray l r item) u = is_unpacked_array l r item (out-SvType u)
+
+abbrev pub same_member : Member-F (SvType → Bool) (SvType → Bool) → SvType → Bool
+same_member m u = m.of u
+
+abbrev pub same_type : SvType → SvType → Bool
+same_type = fold-SvType (SvType → Bool) (SvType → Bool) same_step same_member

@@ -1,0 +1,5 @@
+//! Tests of assignment patterns.
+#![tactic(auto)]
+
+#[cfg(test)]
+mod cases;

@@ -1,0 +1,5 @@
+pub mod Depths
+pub mod Kept
+pub mod Lengths
+pub mod OneReading
+mod Numbers
