@@ -1,12 +1,8 @@
 -- What comes next, with its list.
-use Rattle.std.proofs.Common.{◌≡◌, Bool, true, cond, List, [], ◌∷◌, Option, slice_get, false, refl, sym, ap, ◌∙◌, subst, MatchOption}
+use Rattle.std.proofs.Common.{◌≡◌, List, [], ◌∷◌, Option, slice_get, false, refl, sym, ap, ◌∙◌, subst, MatchOption}
 use Rattle.sv_macro.specs.Waiting.{comings, Marked, Tops, stops, waiting, first_list}
 use Rattle.sv_macro.specs.declared.coming.Coming.{Coming}
 use Rattle.sv_macro.specs.declared.pending.Item.{Item}
-use Rattle.sv_macro.specs.declared.pending.ListSize.{ListSize}
-use Rattle.sv_macro.specs.declared.pending.Waiting.{Waiting}
-use Rattle.sv_macro.specs.Lines.{is_newline}
-use Rattle.sv_macro.specs.Waiting.{first_is_bare, with_first, one_item}
 
 -- the topmost item
 pub topmost : (items : List Item) (o : Option Item) → o ≡ slice_get items 0 → Marked items → MatchOption o (comings items ≡ []) (λ top. Tops top (comings items))
@@ -17,12 +13,3 @@ topmost (i ∷ is) o e m = rw e (record { is = refl; list = m.0 })
 pub one_more : (items more : List Item) (coming : List Coming) (item : Item) → coming ≡ comings items → more ≡ item ∷ items → Marked items →
     (stops item.what ≡ false → item.list ≡ first_list (waiting coming)) → Marked more
 one_more items more coming item e is m list = subst Marked (sym is) (λ s. list s ∙ ap (λ (c : List Coming). first_list (waiting c)) e, m)
-
--- a list that has a token has one also with another item
-same_size : (b : Bool) (size : ListSize) → size.bare ≡ false → size ≡ cond {A = ListSize} b size (record size { bare = false })
-same_size true size e = refl
-same_size false size e = λ i. record size { bare = e i }
-
-pub same_first : (item : Coming) (ws : List Waiting) → first_is_bare ws ≡ false → ws ≡ with_first (one_item item) ws
-same_first item [] e = refl
-same_first item (w ∷ ws) e = λ i. (record w { size = same_size (is_newline item) w.size e i }) ∷ ws

@@ -1,5 +1,5 @@
 -- Brackets and commas, and which brackets are open behind a token.
-use Rattle.std.specs.Prelude.{ℕ, ◌==◌, ◌&&◌, Bool, true, false, List, [], ◌∷◌, if◌then◌else◌, codes}
+use Rattle.std.specs.Prelude.{Bool, true, false, List, [], ◌∷◌, if◌then◌else◌, codes}
 use Rattle.sv_source.specs.declared.token.Kind.{Kind}
 use Rattle.sv_source.specs.declared.token.Kind.TheVariants.{Mark}
 use Rattle.sv_source.specs.declared.token.Token.{Token}
@@ -9,38 +9,28 @@ use Rattle.sv_macro.specs.declared.brackets.Bracket.TheVariants.{Round, Square, 
 use Rattle.sv_macro.specs.declared.brackets.Sign.{Sign}
 use Rattle.sv_macro.specs.declared.brackets.Sign.TheVariants.{Opens, Closes, ClosesStar, Comma, Other}
 
--- what a mark is to brackets and lists, by its bytes: 40 is `(` and 41 `)`, 91 is `[` and 93 `]`
-abbrev pub round_or_square : ℕ → Sign → Sign
-round_or_square c other =
-    if c == 40 then Opens Round
-    else if c == 41 then Closes Round
-    else if c == 91 then Opens Square
-    else if c == 93 then Closes Square
+-- what a mark is to brackets and lists
+abbrev pub opening : Token → Sign → Sign
+opening t other =
+    if is t (codes "(") then Opens Round
+    else if is t (codes "(*") then Opens Round
+    else if is t (codes "[") then Opens Square
+    else if is t (codes "{") then Opens Curly
     else other
 
--- 123 is `{` and 125 `}`, and 44 is the comma
-abbrev pub curly_or_comma : ℕ → Sign
-curly_or_comma c =
-    if c == 123 then Opens Curly
-    else if c == 125 then Closes Curly
-    else if c == 44 then Comma
-    else Other
+abbrev pub closing : Token → Sign → Sign
+closing t other =
+    if is t (codes ")") then Closes Round
+    else if is t (codes "*)") then ClosesStar
+    else if is t (codes "]") then Closes Square
+    else if is t (codes "}") then Closes Curly
+    else other
 
--- `(*` and `*)`
-abbrev pub two_bytes : ℕ → ℕ → Sign
-two_bytes c d =
-    if (c == 40) && (d == 42) then Opens Round
-    else if (c == 42) && (d == 41) then ClosesStar
-    else Other
-
-abbrev pub sign_of_text : List ℕ → Sign
-sign_of_text [] = Other
-sign_of_text (c ∷ []) = round_or_square c (curly_or_comma c)
-sign_of_text (c ∷ d ∷ []) = two_bytes c d
-sign_of_text (c ∷ d ∷ e ∷ rest) = Other
+abbrev pub comma : Token → Sign
+comma t = if is t (codes ",") then Comma else Other
 
 abbrev pub sign_by : Kind → Token → Sign
-sign_by Mark t = sign_of_text t.text
+sign_by Mark t = opening t (closing t (comma t))
 sign_by _ t = Other
 
 -- what a token is to brackets and lists

@@ -57,10 +57,6 @@ abbrev pub with_first : (ListSize → ListSize) → List Waiting → List Waitin
 with_first f [] = []
 with_first f (w ∷ ws) = (record w { size = f w.size }) ∷ ws
 
-abbrev pub first_is_bare : List Waiting → Bool
-first_is_bare [] = false
-first_is_bare (w ∷ ws) = w.size.bare
-
 -- a closing bracket that isn't a parenthesis is an ordinary token where its bracket isn't opened before
 abbrev pub closed_other : Bracket → Coming → List Waiting → List Waiting
 closed_other b item [] = []

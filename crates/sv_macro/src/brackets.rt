@@ -33,55 +33,45 @@ pub enum Sign {
     Other,
 }
 
-fn round_or_square(byte: u8, other: Sign) -> Sign
-    ensures { result ≡ spec.round_or_square byte other }
+fn opening(token: &Token, other: Sign) -> Sign
+    ensures { result ≡ spec.opening token.now other }
 {
-    if byte == b'(' {
+    if is(token, b"(") {
         Sign::Opens(Bracket::Round)
-    } else if byte == b')' {
-        Sign::Closes(Bracket::Round)
-    } else if byte == b'[' {
+    } else if is(token, b"(*") {
+        Sign::Opens(Bracket::Round)
+    } else if is(token, b"[") {
         Sign::Opens(Bracket::Square)
-    } else if byte == b']' {
-        Sign::Closes(Bracket::Square)
+    } else if is(token, b"{") {
+        Sign::Opens(Bracket::Curly)
     } else {
         other
     }
 }
 
-fn curly_or_comma(byte: u8) -> Sign
-    ensures { result ≡ spec.curly_or_comma byte }
+fn closing(token: &Token, other: Sign) -> Sign
+    ensures { result ≡ spec.closing token.now other }
 {
-    if byte == b'{' {
-        Sign::Opens(Bracket::Curly)
-    } else if byte == b'}' {
+    if is(token, b")") {
+        Sign::Closes(Bracket::Round)
+    } else if is(token, b"*)") {
+        Sign::ClosesStar
+    } else if is(token, b"]") {
+        Sign::Closes(Bracket::Square)
+    } else if is(token, b"}") {
         Sign::Closes(Bracket::Curly)
-    } else if byte == b',' {
+    } else {
+        other
+    }
+}
+
+fn comma(token: &Token) -> Sign
+    ensures { result ≡ spec.comma token.now }
+{
+    if is(token, b",") {
         Sign::Comma
     } else {
         Sign::Other
-    }
-}
-
-fn two_bytes(first: u8, second: u8) -> Sign
-    ensures { result ≡ spec.two_bytes first second }
-{
-    if first == b'(' && second == b'*' {
-        Sign::Opens(Bracket::Round)
-    } else if first == b'*' && second == b')' {
-        Sign::ClosesStar
-    } else {
-        Sign::Other
-    }
-}
-
-fn sign_of_text(text: &[u8]) -> Sign
-    ensures { result ≡ spec.sign_of_text text.now }
-{
-    match text {
-        [byte] => round_or_square(*byte, curly_or_comma(*byte)),
-        [first, second] => two_bytes(*first, *second),
-        _ => Sign::Other,
     }
 }
 
@@ -91,7 +81,7 @@ pub fn sign_of(token: &Token) -> Sign
     ensures { result ≡ spec.sign_of token.now }
 {
     match token.kind {
-        Kind::Mark => sign_of_text(token.text.as_bytes()),
+        Kind::Mark => opening(token, closing(token, comma(token))),
         _ => Sign::Other,
     }
 }

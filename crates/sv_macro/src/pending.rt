@@ -121,23 +121,10 @@ fn one_item(item: &Coming, size: ListSize) -> ListSize
     }
 }
 
-fn is_bare(waiting: &Stack<Waiting>) -> bool
-    ensures { result ≡ spec.first_is_bare waiting.now }
-{
-    match waiting.top() {
-        Some(first) => first.size.bare,
-        None => false,
-    }
-}
-
 // What is outside the brackets of the innermost goes on with an item.
-#[tactic(auto, using(crate::proofs::Topmost::same_first))]
 fn go_on(item: &Coming, waiting: &mut Stack<Waiting>) -> Result<(), AllocError>
     ensures { OnOk result (waiting.new ≡ spec.with_first (spec.one_item item.now) waiting.old) }
 {
-    if !is_bare(waiting) {
-        return Ok(());
-    }
     let Some(first) = waiting.pop() else {
         return Ok(());
     };
