@@ -20,3 +20,4 @@ pub mod OneOutcome
 pub mod Reaching
 pub mod Opening
 pub mod Examples
+pub mod Breaks

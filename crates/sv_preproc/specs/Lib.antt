@@ -5,6 +5,7 @@ pub mod Expansion
 pub mod Searches
 pub mod Machine
 pub mod Runs
+pub mod Breaks
 pub mod Code
 pub mod Answers
 pub mod Left

@@ -9,6 +9,7 @@ ghost use Rattle.sv_preproc.specs.Runs as spec;
 ghost use Rattle.sv_preproc.specs.Searches as searches;
 ghost use Rattle.sv_preproc.specs.States.{broken, goes};
 ghost use Rattle.sv_preproc.specs.Left.{Ready, Settles};
+ghost use Rattle.sv_preproc.specs.Breaks.{LeastIsAnswered};
 
 use crate::loading::{Found, load_first};
 use crate::settings::{Define, ExpandFail, Expanded, Settings};
@@ -227,3 +228,10 @@ pub fn expand<F: Files>(
     while state.advance(alloc, set, files)? {}
     Ok(state.finished(alloc)?)
 }
+
+/// The law that of the rules that are broken at a state by what comes next, each for itself, a step answers the one with
+/// the least number, and that where it answers none none is broken.
+#[tactic(auto, using(crate::proofs::Breaks::least_is_answered))]
+pub fn least_is_answered()
+    ensures { LeastIsAnswered }
+{}

@@ -10,5 +10,5 @@ mod state;
 mod step;
 mod turn;
 
-pub use expansion::expand;
+pub use expansion::{expand, least_is_answered};
 pub use settings::{Define, Defines, ExpandFail, Expanded, Settings, Texts};
