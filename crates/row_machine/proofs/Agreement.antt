@@ -42,7 +42,7 @@ module _ (m : Map) where
     -- the bases are alike, but for bits that are written anyway
     pub record SameBase (base base' : Valuation) : Type 0 where
       pub images : (q q' : Place) → m.origin q' ≡ Some q → (base' q' ≡ base q) ⊎ Overwritten m d q
-      pub others : (q' : Place) → m.origin q' ≡ None → base' q' ≡ e.rest q'
+      pub others : (q' : Place) → m.origin q' ≡ None → NoneWrites of_process e.combs q' → base' q' ≡ e.start q'
 
     pub matched_woken : (s s' : Started) (v : Valuation) → Typed m v → Matched s s' → Matched (woken d v s) (woken e (lifted m v) s')
     matched_woken s s' v typed h = record {
@@ -144,7 +144,7 @@ module _ (m : Map) where
                   ∙ ap (λ b. changed (only_if b (w.0.assigns (lifted m v)) q') (base' q')) (h.copies w.0 w.1 copy)
                   ∙ ap (λ c. changed c (base' q')) (copy.assigns v typed q' w.2))
             ]
-            | inr n ↦ simulates.unwritten q' o n v typed ∙ sym (bases.others q' o) ∙ sym (at_rest e sound_e.well_written s' (lifted m v) base' q' n)
+            | inr n ↦ simulates.unwritten q' o n v typed ∙ sym (bases.others q' o n) ∙ sym (at_rest e sound_e.well_written s' (lifted m v) base' q' n)
           ]
 
       pub settled_alike : Settled e s' base' (lifted m v)

@@ -27,8 +27,6 @@ same_machine d e a = λ i. record {
   combs = same_list AlikeProcesses same_process d.combs e.combs a.combs i;
   edges = same_list AlikeEdges same_edge d.edges e.edges a.edges i;
   inputs = a.inputs i;
-  registers = a.registers i;
   initial = λ q. a.initial q i;
   start = λ q. a.start q i;
-  rest = λ q. a.rest q i;
 }

@@ -41,10 +41,8 @@ source = record {
   combs = inverts input ∷ [];
   edges = [];
   inputs = input ∷ [];
-  registers = [];
   initial = zero_at input;
   start = zero_at input;
-  rest = zero_at input;
 }
 
 abbrev copier : Process
@@ -55,10 +53,8 @@ target = record {
   combs = copier ∷ inverts copied ∷ [];
   edges = [];
   inputs = input ∷ [];
-  registers = [];
   initial = zero_at copied;
-  start = zero_at copied;
-  rest = zero_at input;
+  start = zero_at input;
 }
 
 abbrev origin_of : Bool → Place → Option Place
@@ -120,16 +116,10 @@ unwritten : (q' : Place) → through.origin q' ≡ None → NoneWrites (λ (p : 
 unfolding has
 unwritten q' o n = clash (has (copied ∷ []) q') (subst (λ q. has (copied ∷ []) q ≡ true) (is_copied q' o) refl) (n copier (inl refl))
 
-no_register : has [] copied ≡ false
-unfolding has
-no_register = refl
-
 simulates : Simulates through source target
 simulates = record {
   inputs = images_of (input ∷ []) not_input;
-  registers = images_of [] no_register;
-  start = λ q q' o reg. elim (has-member [] q reg) [ ];
-  rest = λ q q' o i r. inl (ap (zero_at input) (same_place q q' o));
+  start = λ q q' o i. inl (ap (zero_at input) (same_place q q' o));
   unwritten = λ q' o n v typed. absurd (unwritten q' o n);
   twin = λ p m. elim m as (λ k. (t : Process) × Member target.combs t × Twin through source target p t) [
     | inl e ↦ (inverts copied, inr (inl refl), subst (λ x. Twin through source target x (inverts copied)) (sym e) twin)
@@ -205,7 +195,6 @@ keeps v typed q b e f =
 source_typed : TypedMachine through source
 source_typed = record {
   start = at_start;
-  rest = at_start;
   combs = λ p m. elim m [ inl e ↦ subst (λ x. KeepsTypes through x.assigns) (sym e) keeps | inr k ↦ elim k [ ] ];
   edges = λ p m. elim m [ ];
 }

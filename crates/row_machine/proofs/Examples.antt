@@ -44,10 +44,8 @@ clocked = record {
   combs = inverter ∷ [];
   edges = flip_flop ∷ [];
   inputs = one_bit 0 ∷ one_bit 1 ∷ [];
-  registers = one_bit 2 ∷ [];
   initial = λ q. X;
   start = λ q. X;
-  rest = λ q. X;
 }
 
 abbrev seen_at : ℕ → List Valuation → List Bit4
@@ -78,17 +76,15 @@ combinational zero = record {
   combs = follower zero ∷ [];
   edges = [];
   inputs = one_bit 0 ∷ [];
-  registers = [];
   initial = λ q. X;
-  start = λ q. X;
-  rest = λ q. Zero;
+  start = λ q. Zero;
 }
 
 from_time_zero : seen_at 3 (trace_of (combinational true) (follower true ∷ []) (row_of X X ∷ row_of Zero X ∷ row_of X X ∷ [])) ≡ X ∷ One ∷ X ∷ []
 unfolding has
 from_time_zero = refl
 
--- not started in the first row, so the bit holds its rest; once started it stays so
+-- not started in the first row, so the bit holds what it held at the start; once started it stays so
 once_woken : seen_at 3 (trace_of (combinational false) (follower false ∷ []) (row_of X X ∷ row_of Zero X ∷ row_of X X ∷ [])) ≡ Zero ∷ One ∷ X ∷ []
 unfolding has
 once_woken = refl
@@ -99,10 +95,8 @@ ring = record {
   combs = assignment (one_bit 4 ∷ []) (one_bit 3 ∷ []) (λ v q. inverse (v (one_bit 4))) ∷ assignment (one_bit 3 ∷ []) (one_bit 4 ∷ []) (λ v q. v (one_bit 3)) ∷ [];
   edges = [];
   inputs = [];
-  registers = [];
   initial = λ q. Zero;
   start = λ q. Zero;
-  rest = λ q. Zero;
 }
 
 abbrev ring_after : ℕ → Bit4

@@ -2,7 +2,7 @@
 use Rattle.row_machine.specs.Machine.{at_zero}
 use Rattle.row_machine.specs.Settle.{Settled}
 use Rattle.row_machine.specs.Order.{free, follows}
-use Rattle.row_machine.specs.Laws.{TraceOrUnsettled, TraceIsSettled, OneUnsettled, ReachedOrChanging, PlacesAreAnOrder, FreeOrStuck, LeftAreStuck, OneSettled, SettlingEnds, EachHasOneTrace, OrderFrees, IndependentAreFree, OneRunSettles, RunsTrace, RoundsReach, RoundsTrace, RoundTraceIsTrace, OneRoundTrace, AlikeAreEqual, SimulationAgrees, TargetIsFree, RefinementTranslates, AlikeTranslates}
+use Rattle.row_machine.specs.Laws.{FootprintsAreUnseen, TraceOrUnsettled, TraceIsSettled, OneUnsettled, ReachedOrChanging, PlacesAreAnOrder, FreeOrStuck, LeftAreStuck, OneSettled, SettlingEnds, EachHasOneTrace, OrderFrees, IndependentAreFree, OneRunSettles, RunsTrace, RoundsReach, RoundsTrace, RoundTraceIsTrace, OneRoundTrace, AlikeAreEqual, SimulationAgrees, TargetIsFree, RefinementTranslates, AlikeTranslates}
 use Rattle.row_machine.proofs.Basics.{clash}
 use Rattle.row_machine.proofs.Settled.{settled_once}
 use Rattle.row_machine.proofs.Settling.{settled_at, settles}
@@ -17,6 +17,7 @@ use Rattle.row_machine.proofs.OrderOfPlaces as OrderOfPlaces
 use Rattle.row_machine.proofs.Stuck as Stuck
 use Rattle.row_machine.proofs.Runs as Runs
 use Rattle.row_machine.proofs.Alike as Alike
+use Rattle.row_machine.proofs.Footprints as Footprints
 use Rattle.row_machine.proofs.TracesAgree as TracesAgree
 use Rattle.row_machine.proofs.Dependence as Dependence
 use Rattle.row_machine.proofs.Translation as Translation
@@ -93,3 +94,6 @@ refinement_translates = Translation.translates
 
 pub alike_translates : AlikeTranslates
 alike_translates = Translation.alike_translates
+
+pub footprints_are_unseen : FootprintsAreUnseen
+footprints_are_unseen = Footprints.same_traces

@@ -26,3 +26,4 @@ pub mod Stuck
 pub mod OrderOfPlaces
 pub mod RoundsEnd
 pub mod Unsettled
+pub mod Footprints

@@ -60,9 +60,7 @@ module _ (d : Machine) where
   own_simulation : Simulates identity d d
   own_simulation = record {
     inputs = own_writes d.inputs;
-    registers = own_writes d.registers;
-    start = λ q q' o reg. ap d.start (same_place q q' o);
-    rest = λ q q' o i r. inl (ap d.rest (same_place q q' o));
+    start = λ q q' o i. inl (ap d.start (same_place q q' o));
     unwritten = λ q' o n v typed. image_of q' o;
     twin = λ p m. (p, m, own_twin p);
     source = λ t m. inl (t, m, own_twin t);
@@ -76,7 +74,6 @@ module _ (d : Machine) where
   own_types : TypedMachine identity d
   own_types = record {
     start = λ q e. clash false e refl;
-    rest = λ q e. clash false e refl;
     combs = λ p m v typed q b e f. clash false f refl;
     edges = λ p m v typed q b e f. clash false f refl;
   }

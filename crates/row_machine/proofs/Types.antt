@@ -30,12 +30,11 @@ module _ (m : Map) where
   module _ (d : Machine) (typed : TypedMachine m d) where
     pub base_typed : (row now : Valuation) → ((q : Place) → has d.inputs q ≡ true → Fits m q (row q)) → Typed m now → Typed m (base_of d row now)
     base_typed row now at_row at_now q =
-        choose (has d.inputs q) (has d.registers q) (at_row q)
+        choose (has d.inputs q) (at_row q)
       where
-        choose : (a b : Bool) → (a ≡ true → Fits m q (row q)) → Fits m q (cond a (row q) (cond b (now q) (d.rest q)))
-        choose true b h = h refl
-        choose false true h = at_now q
-        choose false false h = typed.rest q
+        choose : (a : Bool) → (a ≡ true → Fits m q (row q)) → Fits m q (cond a (row q) (now q))
+        choose true h = h refl
+        choose false h = at_now q
 
     pub after_edges_typed : (last w : Valuation) → Typed m w → Typed m (after_edges d last w)
     after_edges_typed last w at_w =

@@ -46,7 +46,6 @@ KeepsTypes m assigns = (v : Valuation) → Typed m v → (q : Place) (b : Bit4) 
 
 pub record TypedMachine (m : Map) (d : Machine) : Type 0 where
   pub start : Typed m d.start
-  pub rest : Typed m d.rest
   pub combs : (p : Process) → Member d.combs p → KeepsTypes m p.assigns
   pub edges : (p : EdgeProcess) → Member d.edges p → KeepsTypes m p.updates
 
@@ -86,10 +85,8 @@ module _ (m : Map) where
   -- the target e has a process for each process of the source d, and copies
   pub record Simulates (d e : Machine) : Type 0 where
     pub inputs : SameWrites d.inputs e.inputs
-    pub registers : SameWrites d.registers e.registers
-    pub start : (q q' : Place) → m.origin q' ≡ Some q → has d.registers q ≡ true → e.start q' ≡ d.start q
-    pub rest : (q q' : Place) → m.origin q' ≡ Some q → has d.inputs q ≡ false → has d.registers q ≡ false → (e.rest q' ≡ d.rest q) ⊎ Overwritten m d q
-    pub unwritten : (q' : Place) → m.origin q' ≡ None → NoneWrites (λ (p : Process). p.writes) e.combs q' → (v : Valuation) → Typed m v → m.extra v q' ≡ e.rest q'
+    pub start : (q q' : Place) → m.origin q' ≡ Some q → has d.inputs q ≡ false → (e.start q' ≡ d.start q) ⊎ Overwritten m d q
+    pub unwritten : (q' : Place) → m.origin q' ≡ None → NoneWrites (λ (p : Process). p.writes) e.combs q' → (v : Valuation) → Typed m v → m.extra v q' ≡ e.start q'
     pub twin : (p : Process) → Member d.combs p → (t : Process) × Member e.combs t × Twin d e p t
     pub source : (t : Process) → Member e.combs t → ((p : Process) × Member d.combs p × Twin d e p t) ⊎ Copy t
     pub edge_twin : (p : EdgeProcess) → Member d.edges p → (t : EdgeProcess) × Member e.edges t × EdgeTwin d e p t

@@ -20,7 +20,5 @@ pub record Alike (d e : Machine) : Type 0 where
   pub combs : AllZip AlikeProcesses d.combs e.combs
   pub edges : AllZip AlikeEdges d.edges e.edges
   pub inputs : d.inputs ≡ e.inputs
-  pub registers : d.registers ≡ e.registers
   pub initial : (q : Place) → d.initial q ≡ e.initial q
   pub start : (q : Place) → d.start q ≡ e.start q
-  pub rest : (q : Place) → d.rest q ≡ e.rest q

@@ -11,6 +11,7 @@ use Rattle.row_machine.specs.Runs.{trace_of}
 use Rattle.row_machine.specs.Rounds.{round_limit, Reaches, ChangesABit, HasRoundTrace}
 use Rattle.row_machine.specs.Unsettled.{Unsettled}
 use Rattle.row_machine.specs.Alike.{Alike}
+use Rattle.row_machine.specs.Footprints.{SameRuns, SameTraces}
 use Rattle.row_machine.specs.Agreement.{Map, TypedMachine, Simulates, SameRow, TracesAgree}
 use Rattle.row_machine.specs.Dependence.{AddsNoDependence}
 use Rattle.row_machine.specs.Translation.{Refines, Translates, identity}
@@ -96,6 +97,10 @@ OneUnsettled = (d : Machine) (rows : List Valuation) (k j : ℕ) (t u : Started)
 -- machines that are alike are equal
 abbrev pub AlikeAreEqual : Type 0
 AlikeAreEqual = (d e : Machine) → Alike d e → d ≡ e
+
+-- machines that differ in what their processes are said to read and write have the same traces
+abbrev pub FootprintsAreUnseen : Type 0
+FootprintsAreUnseen = (d e : Machine) → SameRuns d e → SameTraces d e
 
 -- a target that simulates its source has its traces
 abbrev pub SimulationAgrees : Type 0

@@ -14,3 +14,4 @@ pub mod Stuck
 pub mod Unsettled
 pub mod Places
 pub mod Steps
+pub mod Footprints

@@ -38,14 +38,11 @@ pub record Machine : Type 0 where
   pub edges : List EdgeProcess
   -- the bits of the top's inputs
   pub inputs : List Place
-  -- the bits that edge processes write
-  pub registers : List Place
   -- what every bit holds before the first row
   pub initial : Valuation
-  -- what a register holds when the first row is settled: `initial`, or what an `initial` statement gave it
+  -- What a bit holds when the first row is settled and no process assigns it. A bit that a process writes holds `initial`,
+  -- or what an `initial` statement gave it; one that none writes holds that too if it is a variable's, and else rests at z.
   pub start : Valuation
-  -- what any other bit holds where no process assigns it
-  pub rest : Valuation
 
 -- a set of started processes
 abbrev pub Started : Type 0
@@ -59,9 +56,9 @@ at_zero p = p.from_zero
 abbrev pub told : Started → Valuation → Process → Changes
 told s v p = only_if (s p) (p.assigns v)
 
--- what the processes leave alone: the row in the inputs, the current values in the registers
+-- what the processes leave alone: the row in the inputs, and the current value in each other bit
 abbrev pub base_of : Machine → Valuation → Valuation → Valuation
-base_of d row now q = cond (has d.inputs q) (row q) (cond (has d.registers q) (now q) (d.rest q))
+base_of d row now q = cond (has d.inputs q) (row q) (now q)
 
 -- the valuation after the updates of those edge processes that have their edge, in order
 abbrev pub after_edges : Machine → Valuation → Valuation → Valuation

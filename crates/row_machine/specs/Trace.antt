@@ -4,7 +4,7 @@ use Rattle.row_machine.specs.Valuation.{Valuation}
 use Rattle.row_machine.specs.Machine.{Machine, Started, at_zero, base_of, after_edges}
 use Rattle.row_machine.specs.Settle.{Settled, SettlesBy}
 
--- One row. `last` is the valuation after the row before, `held` what the registers hold, `s` the started set,
+-- One row. `last` is the valuation after the row before, `held` what each bit holds by itself, `s` the started set,
 -- `t` and `v` the started set and the valuation after the row.
 pub record RowStepBy (IsSettled : Started → Valuation → Valuation → Type 0) (d : Machine) (row last held : Valuation) (s t : Started) (v : Valuation) : Type 0 where
   -- the inputs have the row's values, no edge process has run yet

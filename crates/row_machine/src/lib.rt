@@ -11,6 +11,7 @@ ghost use Rattle.row_machine.specs.Laws.{
   OneUnsettled,
   ReachedOrChanging,
   FreeOrStuck,
+  FootprintsAreUnseen,
   LeftAreStuck,
   PlacesAreAnOrder,
   AlikeAreEqual,
@@ -126,6 +127,12 @@ pub fn one_unsettled()
 /// Machines whose processes and values are alike at each point are equal.
 pub fn alike_are_equal()
     ensures { AlikeAreEqual }
+{}
+
+/// Machines that differ only in the bits that their processes are said to read and write have the same traces, and the
+/// second has the first one's traces by rounds if its limit isn't lower.
+pub fn footprints_are_unseen()
+    ensures { FootprintsAreUnseen }
 {}
 
 /// A target that simulates its source has the source's traces and no others, for rows that are alike.
