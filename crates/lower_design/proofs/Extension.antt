@@ -283,8 +283,8 @@ module _ (d : Design) (t : Translatable d) where
   wide : (s : Signal) → Member ss s → 1 ≤ s.width
   wide = t.some_bits
 
-  rest-below : (q : Place) → q.signal < length ss → Target.rest_of us inits procs q ≡ X
-  rest-below q low =
+  start-below : (q : Place) → q.signal < length ss → Target.start_of us inits procs q ≡ X
+  start-below q low =
       elim (true_or_false (has (Target.places_from Target.is_net 0 us) q)) [
         | inr f ↦ ap (λ b. cond (b && not (is_written us procs q)) Z (given us inits q)) f ∙ given-below q low
         | inl h ↦ (let o = net-at (is_driven ps) (has_comb ps) 0 ss wide q h in
@@ -299,8 +299,8 @@ module _ (d : Design) (t : Translatable d) where
       never_z true x = refl
       never_z false x = refl
 
-  rest-beyond : (q : Place) → length ss ≤ q.signal → Target.rest_of us inits procs q ≡ given us inits q
-  rest-beyond q high =
+  start-beyond : (q : Place) → length ss ≤ q.signal → Target.start_of us inits procs q ≡ given us inits q
+  start-beyond q high =
       elim (true_or_false (has (Target.places_from Target.is_net 0 us) q)) [
         | inr f ↦ ap (λ b. cond (b && not (is_written us procs q)) Z (given us inits q)) f
         | inl h ↦ (let o = net-at (is_driven ps) (has_comb ps) 0 ss wide q h in
@@ -348,11 +348,6 @@ module _ (d : Design) (t : Translatable d) where
   edges-below : (p : M.EdgeProcess) → Member (Source.edges_of ss ps) p → EdgeBelow (length ss) p
   edges-below p m = let a = edge-member ss ps p m in subst (EdgeBelow (length ss)) (sym a.is) (edge-below a.process a.member a.edges a.kind)
 
-  registers-below : (q : Place) → has (Source.machine d).registers q ≡ true → q.signal < length ss
-  registers-below q h =
-      let r = has-flat (λ (e : M.EdgeProcess). e.writes) (Source.edges_of ss ps) q h in
-      (edges-below r.0 r.1).writes q r.2
-
   abbrev pub extra : Valuation
   extra = given us inits
 
@@ -361,15 +356,12 @@ module _ (d : Design) (t : Translatable d) where
     combs = combs-same ps (λ p m. m);
     edges = edges-same ps (λ p m. m);
     inputs = inputs-same (is_driven ps) (has_comb ps) 0 ss wide;
-    registers = ap (flat_map (λ (e : M.EdgeProcess). e.writes)) (edges-same ps (λ p m. m));
     initial = λ q low. refl;
-    start = given-below;
-    rest = rest-below;
-    beyond = rest-beyond;
+    start = start-below;
+    beyond = start-beyond;
     combs_below = combs-below;
     edges_below = edges-below;
     inputs_below = λ q h. (let low : q.signal < 0 + length ss = inputs-below 0 ss q h in omega (arith, low));
-    registers_below = registers-below;
   }
 
   -- the machine of the target

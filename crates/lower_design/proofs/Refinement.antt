@@ -73,15 +73,12 @@ module _ (n : ℕ) where
     pub combs : AllZip ReadsMore d.combs e.combs
     pub edges : e.edges ≡ d.edges
     pub inputs : e.inputs ≡ d.inputs
-    pub registers : e.registers ≡ d.registers
     pub initial : (q : Place) → IsBelow q → e.initial q ≡ d.initial q
     pub start : (q : Place) → IsBelow q → e.start q ≡ d.start q
-    pub rest : (q : Place) → IsBelow q → e.rest q ≡ d.rest q
-    pub beyond : (q : Place) → n ≤ q.signal → e.rest q ≡ extra q
+    pub beyond : (q : Place) → n ≤ q.signal → e.start q ≡ extra q
     pub combs_below : (p : Process) → Member d.combs p → CombBelow p
     pub edges_below : (p : EdgeProcess) → Member d.edges p → EdgeBelow p
     pub inputs_below : (q : Place) → has d.inputs q ≡ true → IsBelow q
-    pub registers_below : (q : Place) → has d.registers q ≡ true → IsBelow q
 
   -- each source bit shows under its own place
   abbrev pub under_own : Valuation → Map
@@ -129,7 +126,6 @@ module _ (n : ℕ) where
     typed : (d : Machine) → TypedMachine m d
     typed d = record {
       start = λ q e. absurd (false≢true e);
-      rest = λ q e. absurd (false≢true e);
       combs = λ p k v at q b e f. absurd (false≢true f);
       edges = λ p k v at q b e f. absurd (false≢true f);
     }
@@ -174,9 +170,7 @@ module _ (n : ℕ) where
       simulates : Simulates m d e
       simulates = record {
         inputs = subst (λ qs. SameWrites m d.inputs qs) (sym x.inputs) (same_writes d.inputs x.inputs_below);
-        registers = subst (λ qs. SameWrites m d.registers qs) (sym x.registers) (same_writes d.registers x.registers_below);
-        start = λ q q' o r. x.start q' (is_below q q' o) ∙ ap d.start (same_place q q' o);
-        rest = λ q q' o i r. inl (x.rest q' (is_below q q' o) ∙ ap d.rest (same_place q q' o));
+        start = λ q q' o i. inl (x.start q' (is_below q q' o) ∙ ap d.start (same_place q q' o));
         unwritten = λ q' o k v at. sym (x.beyond q' (is_beyond q' o));
         twin = λ p k. (let r = zip-there ReadsMore d.combs e.combs x.combs p k in (r.0, r.1, twin p r.0 k r.2));
         source = λ t k. (let r = zip-back ReadsMore d.combs e.combs x.combs t k in inl (r.0, r.1, twin r.0 t r.1 r.2));

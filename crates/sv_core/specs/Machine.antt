@@ -88,8 +88,6 @@ machine d = record {
   combs = combs_of d.signals d.processes;
   edges = edges_of d.signals d.processes;
   inputs = inputs_from 0 d.signals;
-  registers = flat_map (λ (e : M.EdgeProcess). e.writes) (edges_of d.signals d.processes);
   initial = λ q. X;
   start = λ q. X;
-  rest = λ q. X;
 }

@@ -152,23 +152,14 @@ module _ (d : Parts) where
   edge_of_kind p Star = []
   edge_of_kind p (Edges es) = edge es p ∷ []
 
-  -- a register is written by an edge process or a latch
-  abbrev pub registers_of : Doing → ProcessKind → List Place
-  registers_of p Continuous = []
-  registers_of p Link = []
-  registers_of p Comb = []
-  registers_of p Latch = writes_of p
-  registers_of p Star = []
-  registers_of p (Edges es) = later_writes_of p
-
   -- whether a process writes a bit
   abbrev pub is_written : Place → Bool
   is_written q =
       list_any (λ (p : ProcessMeaning). let f = p.does.flow unseen in covered (uses_of f.writes) q || covered (uses_of f.later) q) d.processes
 
-  -- A bit that some process writes, or that a variable holds, keeps its initial value until something assigns it.
-  abbrev pub rest : Valuation
-  rest q =
+  -- a bit that some process writes, or that a variable holds, keeps its initial value until something assigns it
+  abbrev pub start : Valuation
+  start q =
       of_signal d.signals X (λ s. cond (holds_value s.kind || is_written q) (slice_index_or s.initial q.bit X) (undriven (slice_index_or s.of.two_state q.bit false))) q.signal
 
   abbrev pub machine_of : M.Machine
@@ -176,10 +167,8 @@ module _ (d : Parts) where
     combs = flat_map (λ (p : ProcessMeaning). comb_of p.does p.kind) d.processes;
     edges = flat_map (λ (p : ProcessMeaning). edge_of_kind p.does p.kind) d.processes;
     inputs = filter (λ q. of_signal d.signals false (λ s. s.is_top_input) q.signal) places;
-    registers = flat_map (λ (p : ProcessMeaning). registers_of p.does p.kind) d.processes;
     initial = initial;
-    start = initial;
-    rest = rest;
+    start = start;
   }
 
 -- Before the first row a variable holds its declared value, and any other signal x, or 0 in a two-state bit. The top is

@@ -116,19 +116,17 @@ abbrev pub places_from : (Kind → Bool) → ℕ → List Signal → List Place
 places_from chosen n [] = []
 places_from chosen n (s ∷ rest) = cond (chosen s.kind) (places_of n s.width) [] ++ places_from chosen (suc n) rest
 
--- a bit of a net that nothing writes is z (clause 4.6); any other bit rests at what an `initial` gave it, or at x
-abbrev pub rest_of : List Signal → List InitialValue → List Process → Valuation
-rest_of ss inits ps q = cond (has (places_from is_net 0 ss) q && not (is_written ss ps q)) Z (given ss inits q)
+-- a bit of a net that nothing writes is z (clause 4.6); any other bit holds what an `initial` gave it, or x
+abbrev pub start_of : List Signal → List InitialValue → List Process → Valuation
+start_of ss inits ps q = cond (has (places_from is_net 0 ss) q && not (is_written ss ps q)) Z (given ss inits q)
 
 abbrev pub machine_of : List Signal → List InitialValue → List Process → M.Machine
 machine_of ss inits ps = record {
   combs = combs_of ss inits ps;
   edges = edges_of ss ps;
   inputs = places_from is_input 0 ss;
-  registers = flat_map (λ (e : M.EdgeProcess). e.writes) (edges_of ss ps);
   initial = initial;
-  start = given ss inits;
-  rest = rest_of ss inits ps;
+  start = start_of ss inits ps;
 }
 
 -- the machine of the module with the top's name

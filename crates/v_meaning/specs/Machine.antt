@@ -64,8 +64,8 @@ module _ (own : ℕ) (d : Parts) where
   initial q = of_signal d.signals X (λ s. slice_index_or s.initial q.bit X) q.signal
 
   -- at time zero, once every `initial` has been made
-  abbrev pub start : Valuation
-  start q = elim (last_initial d.initials q.signal) [ None ↦ initial q | Some v ↦ slice_index_or v q.bit X ]
+  abbrev pub given : Valuation
+  given q = elim (last_initial d.initials q.signal) [ None ↦ initial q | Some v ↦ slice_index_or v q.bit X ]
 
   abbrev pub writes_of : Process → List Place
   writes_of p = filter (covered (p.does.writes p.scope)) places
@@ -95,7 +95,7 @@ module _ (own : ℕ) (d : Parts) where
   -- An `always @*` runs once a signal that it reads changes (clause 9.7.5). An `initial` that gives such a signal another value
   -- than it held before starts it at time zero, and from then on it waits for nothing.
   abbrev pub is_triggered : Process → Bool
-  is_triggered p = list_any (λ q. not (same4 (start q) (initial q))) (names_of p)
+  is_triggered p = list_any (λ q. not (same4 (given q) (initial q))) (names_of p)
 
   abbrev pub star : Process → M.Process
   star p = comb (is_triggered p) (cond (is_triggered p) [] (names_of p)) p
@@ -121,10 +121,10 @@ module _ (own : ℕ) (d : Parts) where
   is_written q =
       list_any (λ (p : Process). covered (p.does.writes p.scope) q || covered (p.does.later p.scope) q) d.processes
 
-  -- A bit that nothing writes rests at what it holds at time zero if a variable holds it, and at z if it is a net's
-  -- (clause 4.6). A bit that a process writes keeps its current value where no run assigns it.
-  abbrev pub rest : Valuation
-  rest q = of_signal d.signals X (λ s. cond (holds_value s.kind) (start q) Z) q.signal
+  -- A bit of a net that nothing writes is z (clause 4.6). Any other bit keeps what it holds at time zero until a run
+  -- assigns it.
+  abbrev pub start : Valuation
+  start q = of_signal d.signals X (λ s. cond (holds_value s.kind || is_written q) (given q) Z) q.signal
 
   -- the top's inputs: its own signals stand in front
   abbrev pub is_top_input : Place → Bool
@@ -135,10 +135,8 @@ module _ (own : ℕ) (d : Parts) where
     combs = flat_map (λ (p : Process). comb_of p.starts p) d.processes;
     edges = flat_map (λ (p : Process). edge_of_process p.starts p) d.processes;
     inputs = filter is_top_input places;
-    registers = filter is_written places;
     initial = initial;
     start = start;
-    rest = rest;
   }
 
 -- the machine of the instance of the top and of all instances in it
