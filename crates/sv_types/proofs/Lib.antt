@@ -7,4 +7,11 @@ pub mod Picks
 pub mod Components
 pub mod ReadLaws
 pub mod WriteLaws
+pub mod OperatorLengths
+pub mod Terms
+pub mod ValueLengths
+pub mod TypeShapes
+pub mod DoingLevels
+pub mod Heads
+pub mod Widths
 mod Examples

@@ -1,6 +1,6 @@
 -- What an expression means: its value at each width and sign (IEEE 1800-2017 clauses 11.6 to 11.8), what it names as a
 -- select path, and what a process that values it reads.
-use Rattle.std.specs.Prelude.{ℕ, ◌+◌, max, Bool, true, false, ◌&&◌, ◌==◌, cond, List, [], ◌∷◌, ◌++◌, length, take, map, flat_map, Option, Some, None}
+use Rattle.std.specs.Prelude.{ℕ, ◌+◌, max, Bool, true, false, ◌&&◌, ◌==◌, nat_lt, cond, List, [], ◌∷◌, ◌++◌, length, take, map, flat_map, Option, Some, None}
 use Rattle.std.specs.List.{list_all}
 use Rattle.b4_core.specs.declared.bit.Bit4.{Bit4}
 use Rattle.b4_core.specs.Vectors.{ext}
@@ -112,6 +112,10 @@ same_sign false b = cond b false true
 abbrev pub misfit : Layout → ℕ → Bool → ℕ
 misfit of w s = cond ((length of.two_state == w) && same_sign of.signed s) 0 1
 
+-- 0 where a type has a bit, as each type of the language does, else 1
+abbrev pub without_bits : Layout → ℕ
+without_bits of = cond (nat_lt 0 (length of.two_state)) 0 1
+
 -- An expression that is no path: its type and token, the width and sign that the rules give it (clause 11.6.1, table 11-21),
 -- the width of its own arithmetic in a context, its operands and its value.
 abbrev pub plain : Layout → ℕ → ℕ → Bool → (ℕ → ℕ) → List Operand → (ℕ → Bool → Around → List Bit4) → Meaning
@@ -141,7 +145,7 @@ plain of at w s own operands value =
       arithmetic = λ fs c. max (own c) (most (map (λ (p : Operand). p.of.arithmetic fs (p.at c)) operands));
       indexing = most (map (λ (p : Operand). p.of.indexing) operands);
       widest = max n (most (map (λ (p : Operand). p.of.widest) operands));
-      misfits = misfit of w s + total (map (λ (p : Operand). p.of.misfits) operands);
+      misfits = without_bits of + (misfit of w s + total (map (λ (p : Operand). p.of.misfits) operands));
     }
 
 -- the bits that the prefix of a path names, if it stands on a signal or local
@@ -215,5 +219,5 @@ selected of at p =
       arithmetic = λ fs c. p.arithmetic fs;
       indexing = p.indexing;
       widest = max n p.widest;
-      misfits = p.misfits;
+      misfits = without_bits of + p.misfits;
     }

@@ -368,6 +368,16 @@ pub fn bits_of(alloc: Global, t: &SvType, v: &Value) -> Result<Vec4, AllocError>
     Ok(Vec4::from_vec(to))
 }
 
+/// Bits as the type `t` of at most 2^22 bits stores them: 0 in place of x and z in two-state bits (IEEE 1800-2017 clause
+/// 6.3.2). `AllocError` where memory runs out.
+pub fn store(alloc: Global, t: &SvType, v: &Vec4) -> Result<Vec4, AllocError>
+    requires { width_of t.now ≤ 4194304 }
+    ensures { IfOk result (λ r. r ≡ stored (layout t.now).two_state v.now) }
+{
+    let marks = marks_of(alloc, t)?;
+    Ok(Vec4::from_vec(stored_bits(alloc, &marks, v.as_slice())?))
+}
+
 /// The value of the type `t` that has these bits, as many as the type has, at most 2^22. An x or z bit is 0 in the value
 /// where the bit is two-state (IEEE 1800-2017 clause 6.3.2). `AllocError` where memory runs out.
 #[tactic(auto, using(crate::proofs::Stored::storing))]

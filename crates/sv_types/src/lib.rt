@@ -9,7 +9,7 @@ mod laws;
 mod statement;
 mod types;
 
-pub use convert::{MOST_BITS, bits_of, default_of, is_narrow, of_bits, width};
+pub use convert::{MOST_BITS, bits_of, default_of, is_narrow, of_bits, store, width};
 pub use design::{
     Design, EdgeList, EdgeOn, Instance, InstancePort, InstancePorts, Instances, LinkedMember,
     LinkedMembers, Process, ProcessKind, Processes, Signal, SignalKind, Signals,

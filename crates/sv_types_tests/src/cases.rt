@@ -3,7 +3,7 @@ use b4_core::{Bit4, Vec4};
 use std::alloc::Global;
 use std::process::Abort;
 use std::test::Fail;
-use sv_types::{SvType, Value, bits_of, default_of, is_narrow, of_bits, width};
+use sv_types::{SvType, Value, bits_of, default_of, is_narrow, of_bits, store, width};
 
 // The words of a type; bits, the most significant first; the value that has them; and the default.
 const CASES: &[(&str, &str, &str, &str)] = &[
@@ -116,6 +116,15 @@ fn default_text(alloc: Global, t: &SvType) -> Result<Vec<u8>, Fail> {
     Ok(shown)
 }
 
+// The bits as the type stores them.
+fn stored_text(alloc: Global, t: &SvType, v: &Vec4) -> Result<Vec<u8>, Fail> {
+    let mut shown = Vec::new(alloc);
+    if is_narrow(t) {
+        put_bits(&store(alloc, t, v)?, &mut shown)?;
+    }
+    Ok(shown)
+}
+
 // The bits of a value's text, without its brackets.
 fn is_flat(shown: &[u8], back: &[u8]) -> bool {
     shown
@@ -129,9 +138,11 @@ fn values_and_bits(rt: HostRuntime) -> Result<(), Fail> {
     let alloc = rt.alloc();
     for (words, bits, value, default) in CASES {
         let t = type_of(alloc, words)?;
-        let (shown, back) = there_and_back(alloc, &t, &vector(alloc, bits)?)?;
+        let v = vector(alloc, bits)?;
+        let (shown, back) = there_and_back(alloc, &t, &v)?;
         assert_eq!(rt; shown.as_slice(), value.as_bytes());
         assert!(rt; is_flat(&shown, &back));
+        assert_eq!(rt; stored_text(alloc, &t, &v)?.as_slice(), back.as_slice());
         assert_eq!(rt; default_text(alloc, &t)?.as_slice(), default.as_bytes());
     }
     Ok(())
