@@ -5,6 +5,8 @@ pub mod Expansion
 pub mod Searches
 pub mod Machine
 pub mod Runs
+pub mod Leads
+pub mod Relation
 pub mod Breaks
 pub mod Code
 pub mod Answers
