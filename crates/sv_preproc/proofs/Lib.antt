@@ -9,6 +9,7 @@ pub mod UsesBack
 pub mod ArgumentsBack
 pub mod FilesBack
 pub mod OneRelation
+pub mod FirstBreaks
 pub mod MoveFalls
 pub mod MachineEnds
 pub mod Through

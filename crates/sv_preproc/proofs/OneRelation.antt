@@ -13,7 +13,7 @@ use Rattle.sv_preproc.specs.Searches.{Ending, finished, stopped, failed, Finds, 
 use Rattle.sv_preproc.specs.Runs.{Outcome, expands, refused, start, end_token, Comes, LooksAt, HasOutcome}
 use Rattle.sv_preproc.specs.Leads as leads
 use Rattle.sv_preproc.specs.Leads.{Use, Doing, steps, argument_in, next, with_argument, body_of, call_of, given, Leads}
-use Rattle.sv_preproc.specs.Relation.{LeadsTo, Leading, OneRelation}
+use Rattle.sv_preproc.specs.Relation.{LeadsTo, Leading, IsOneRelation}
 use Rattle.sv_preproc.specs.declared.settings.Settings.{Settings}
 use Rattle.sv_preproc.specs.declared.state.Call.{Call}
 use Rattle.sv_preproc.specs.declared.turn.Search.{Search}
@@ -202,8 +202,8 @@ leading_comes set few contents outcome l =
     let P : Outcome → Type 0 = Comes set (Some contents) in
     subst P same h.comes
 
-pub one_relation : (set : Settings) → length set.files ≤ 2 ^ 30 → OneRelation set
-one_relation set few = record {
+pub one_relation : IsOneRelation
+one_relation = λ set few. record {
   leads = comes_leading set;
   looks = λ contents path l. run_leads set (Some contents) (failed path) l;
   comes = leading_comes set few;

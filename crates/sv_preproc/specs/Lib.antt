@@ -8,6 +8,7 @@ pub mod Runs
 pub mod Leads
 pub mod Relation
 pub mod Breaks
+pub mod FirstBreaks
 pub mod Code
 pub mod Answers
 pub mod Left

@@ -1,5 +1,5 @@
 -- That an expansion, a move at a time, is the relation.
-use Rattle.std.specs.Prelude.{◌≡◌, ℕ, List, [], ◌∷◌, ◌++◌, Option, Some}
+use Rattle.std.specs.Prelude.{◌≡◌, ℕ, ◌^◌, ◌≤◌, List, [], ◌∷◌, ◌++◌, length, Option, Some}
 use Rattle.sv_source.specs.Loading.{Contents}
 use Rattle.sv_preproc.specs.declared.settings.Settings.{Settings}
 use Rattle.sv_preproc.specs.States.{State}
@@ -21,3 +21,6 @@ pub record OneRelation (set : Settings) : Type 0 where
   pub looks : (contents : Contents) (path : List ℕ) → LooksAt set contents path → LeadsTo set (Some contents) (failed path)
   -- where the contents of the files are told, the relation leads to that outcome and no other
   pub comes : (contents : Contents) (outcome : Outcome) → Leading set (Some contents) outcome → Comes set (Some contents) outcome
+
+abbrev pub IsOneRelation : Type 0
+IsOneRelation = (set : Settings) → length set.files ≤ 2 ^ 30 → OneRelation set
