@@ -10,6 +10,8 @@ ghost use Rattle.sv_preproc.specs.Searches as searches;
 ghost use Rattle.sv_preproc.specs.States.{broken, goes};
 ghost use Rattle.sv_preproc.specs.Left.{Ready, Settles};
 ghost use Rattle.sv_preproc.specs.Breaks.{LeastIsAnswered};
+ghost use Rattle.sv_preproc.specs.FirstBreaks.{FirstIsAnswered};
+ghost use Rattle.sv_preproc.specs.Relation.{IsOneRelation};
 
 use crate::loading::{Found, load_first};
 use crate::settings::{Define, ExpandFail, Expanded, Settings};
@@ -234,4 +236,20 @@ pub fn expand<F: Files>(
 #[tactic(auto, using(crate::proofs::Breaks::least_is_answered))]
 pub fn least_is_answered()
     ensures { LeastIsAnswered }
+{}
+
+/// The law that an expansion, a move at a time, is the relation of its steps in which arguments are expanded by the
+/// relation itself: what it comes to and the paths that it looks at are those of the relation, and where the contents of
+/// the files are told the relation leads to that outcome and no other.
+#[tactic(auto, using(crate::proofs::OneRelation::one_relation))]
+pub fn one_relation()
+    ensures { IsOneRelation }
+{}
+
+/// The law that the refusal of an expansion is at the first state at which a rule is broken: a state that the expansion
+/// comes to at which one is broken is its last, with the least of them; else the refusal is of a token that is delivered,
+/// of a body that is placed or of a file that is looked for.
+#[tactic(auto, using(crate::proofs::FirstBreaks::first_is_answered))]
+pub fn first_is_answered()
+    ensures { FirstIsAnswered }
 {}

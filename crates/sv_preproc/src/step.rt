@@ -149,6 +149,7 @@ impl State {
     }
 
     // A directive or the use of a macro.
+    #[inline(never)]
     fn direct(&mut self, alloc: Global, set: &Settings, token: Token) -> Result<Turn, Fail>
         requires { Bounded self.old }
         ensures { Turns (acted self.old.calls (spec.directive set.now (seen self.old) token (said_by token))) self.new result }
@@ -164,6 +165,7 @@ impl State {
     }
 
     // A token in a branch that isn't taken.
+    #[inline(never)]
     fn skip(&mut self, token: Token) -> Result<Turn, Fail>
         ensures { Turns (acted self.old.calls (spec.skipped (seen self.old) token token.kind)) self.new result }
     {
@@ -178,6 +180,7 @@ impl State {
     }
 
     // A token anywhere else.
+    #[inline(always)]
     fn take(&mut self, alloc: Global, set: &Settings, token: Token) -> Result<Turn, Fail>
         requires { Bounded self.old }
         ensures { Turns (acted self.old.calls (spec.taken set.now (seen self.old) token token.kind)) self.new result }
@@ -201,6 +204,7 @@ impl State {
         }
     }
 
+    #[inline(always)]
     fn read(&mut self, alloc: Global, set: &Settings, token: Token) -> Result<Turn, Fail>
         requires { Bounded self.old }
         ensures { Turns (acted self.old.calls (spec.raw set.now (seen self.old) token)) self.new result }
@@ -236,6 +240,7 @@ impl State {
     }
 
     // The next file of the command line.
+    #[inline(never)]
     fn next_file(&mut self, alloc: Global, set: &Settings) -> Result<Turn, Fail>
         requires bounded { Bounded self.old }
         requires files { length set.now.files ≤ 2 ^ 30 }
