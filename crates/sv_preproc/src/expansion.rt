@@ -179,7 +179,7 @@ impl State {
     {
         match self.step(alloc, set) {
             Ok(Turn::Go) => Ok(true),
-            Ok(Turn::Look(search)) => self.load(alloc, files, search),
+            Ok(Turn::Look(search)) => self.load(alloc, files, Box::into_inner(search)),
             Ok(Turn::Done) => Ok(false),
             Err(fail) => Err(self.stopped(alloc, fail)),
         }

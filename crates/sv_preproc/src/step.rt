@@ -76,13 +76,14 @@ impl State {
         let path = between_quotes(string.text.as_bytes());
         let paths = candidates(alloc, set.dirs.as_slice(), file.path.as_bytes(), path)?;
         let word = Text::from_bytes(alloc, path)?;
-        Ok(Turn::Look(Search {
+        let search = Search {
             paths,
             top: false,
             place: string.place,
             word,
             deep: self.too_deep(token),
-        }))
+        };
+        Ok(Turn::Look(Box::new(alloc, search)?))
     }
 
     fn include(&mut self, alloc: Global, set: &Settings, token: Token) -> Result<Turn, Fail>
@@ -258,13 +259,14 @@ impl State {
             col: 1,
         };
         self.next += 1;
-        Ok(Turn::Look(Search {
+        let search = Search {
             paths,
             top: true,
             place,
             word,
             deep: None,
-        }))
+        };
+        Ok(Turn::Look(Box::new(alloc, search)?))
     }
 
     /// One step.
