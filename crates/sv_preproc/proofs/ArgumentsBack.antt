@@ -1,11 +1,10 @@
 -- A move in an argument of an open call is a step of that argument alone, or its end.
-use Rattle.std.proofs.Common.{◌≡◌, ℕ, zero, suc, ◌+◌, ◌-◌, ◌==◌, ◌&&◌, not, Bool, true, false, cond, List, [], ◌∷◌, ◌++◌, Option, Some, None, refl, sym, ap, ◌∙◌, subst, arith}
+use Rattle.std.proofs.Common.{◌≡◌, ℕ, zero, suc, ◌+◌, ◌-◌, ◌==◌, ◌&&◌, not, Bool, true, false, cond, List, [], ◌∷◌, ◌++◌, Option, refl, sym, ap, ◌∙◌, subst, arith}
 use Rattle.std.proofs.lemmas.Bool.Decides.{nat_tests}
 use Rattle.sv_source.specs.Loading.{Contents}
 use Rattle.sv_source.specs.declared.token.Kind.{Kind}
 use Rattle.sv_source.specs.declared.token.Kind.TheVariants as K
 use Rattle.sv_source.specs.declared.token.Token.{Token}
-use Rattle.sv_source.specs.declared.refusal.Refusal.{Refusal}
 use Rattle.sv_macro.specs.Tokens.{said_by}
 use Rattle.sv_macro.specs.Macros.{marked}
 use Rattle.sv_macro.specs.Brackets.{sign_of, sign_by, brackets_behind}
@@ -26,13 +25,13 @@ use Rattle.sv_preproc.specs.Uses as uses
 use Rattle.sv_preproc.specs.Expansion as spec
 use Rattle.sv_preproc.specs.Machine as mach
 use Rattle.sv_preproc.specs.Machine.{Machine, Move, machine, is_open, reading, plain, acted, given_to, in_brackets, in_call, into_argument, call_goes_on, call_complete, argument_ends}
-use Rattle.sv_preproc.specs.Searches.{Ending, finished}
+use Rattle.sv_preproc.specs.Searches.{finished}
 use Rattle.sv_preproc.specs.Leads as leads
 use Rattle.sv_preproc.specs.Leads.{Use, steps, expands, next, with_argument, Leads}
 use Rattle.sv_preproc.specs.declared.settings.Settings.{Settings}
 use Rattle.sv_preproc.specs.declared.state.Call.{Call}
 use Rattle.sv_preproc.proofs.NestedLists.{listed, Head, closes, splits, belongs, head_of, Inside, IsOutside, sign_other, not_other}
-use Rattle.sv_preproc.proofs.Frames.{Frame, use_of, opens, delivered_in, inner, Fits, Sound, From, Back, under, goes_back, list_leads}
+use Rattle.sv_preproc.proofs.Frames.{Frame, use_of, opens, inner, Fits, Sound, From, Back, under, goes_back, list_leads}
 use Rattle.sv_preproc.proofs.UsesBack.{Reads, Acts, acts_says, expanded_tells, use_acts}
 
 -- only a mark is a bracket or a comma
@@ -133,9 +132,14 @@ module _ (set : Settings) (told : Option Contents) (c : Call) (cs : List Call) (
       let sound : Sound (machine v (call ∷ cs)) (f ∷ fs) text = record { fits = (depth, behind, e, i, w); inside = refl; reads = λ _. r.reads } in
       let given : leads.given s t ≡ step.goes (inner v (call ∷ cs) text) = ap (λ (b : Bool). leads.given (record s { inside = b }) t) r.inside in
       let P : Move → Type 0 = Moves u.delivered (step.gives t s) in
-      subst P (sym is) (f ∷ fs, text, sound, λ ending l.
-        let Q : Step → Type 0 = λ st. Leads set told (steps st) l.0 in
-        (l.0, leads.gives t s l.0 (subst Q (sym given) (leads.goes (inner v (call ∷ cs) text) l.0 l.1)), l.2))
+      subst P (sym is) (
+        f ∷ fs,
+        text,
+        sound,
+        λ ending l.
+            let Q : Step → Type 0 = λ st. Leads set told (steps st) l.0 in
+            (l.0, leads.gives t s l.0 (subst Q (sym given) (leads.goes (inner v (call ∷ cs) text) l.0 l.1)), l.2),
+      )
 
   -- the last argument ends
   complete_tells : (u : State) → u.uses ≡ c.level → f.others ≡ [] → Fits c.level u.coming cs fs f.behind → Reads (c ∷ cs) u → Moves u.delivered (step.done (inner u (c ∷ cs) [])) (call_complete u c cs)
@@ -147,8 +151,8 @@ module _ (set : Settings) (told : Option Contents) (c : Call) (cs : List Call) (
       let b = expanded_tells set told cs fs (plain cs) (λ s. refl) (λ r names. refl) v f.behind c.used (c.arguments ++ c.argument ∷ []) (subst P (sym e) w) (record { inside = refl; reads = r.reads }) in
       under set told (From set told (opens u.delivered cs fs) (uses.expanded (inner v cs f.behind) c.used (c.arguments ++ c.argument ∷ [])))
       (From set told (opens u.delivered (c ∷ cs) (f ∷ fs)) (step.done s)) (call_complete u c cs) (λ ending l.
-        let Q : List (List Coming) → Type 0 = λ x. Leads set told (expands a s x) l.0 in
-        (finished s, leads.done s, (l.0, subst Q (sym last) (leads.body a s l.0 l.1), l.2))) b
+      let Q : List (List Coming) → Type 0 = λ x. Leads set told (expands a s x) l.0 in
+      (finished s, leads.done s, (l.0, subst Q (sym last) (leads.body a s l.0 l.1), l.2))) b
 
   -- another argument ends
   ends_tells : (u : State) (text : List Coming) (more : List (List Coming)) (behind : List Coming) → u.uses ≡ c.level → c.brackets ≡ [] → f.others ≡ text ∷ more → taken [] u.coming ≡ listed text more behind →
@@ -159,11 +163,15 @@ module _ (set : Settings) (told : Option Contents) (c : Call) (cs : List Call) (
       let s : State = inner u (c ∷ cs) [] in
       let a : Use = with_argument (use_of u.delivered c cs f) c.argument in
       let P : List Bracket → Type 0 = λ l. taken l u.coming ≡ listed text more behind in
-      let sound : Sound (reading u (call ∷ cs)) (frame ∷ fs) text = record { fits = (zero, behind, omega (arith, e), subst P (sym brackets) is, w); inside = refl; reads = λ _. r.reads } in
-      (frame ∷ fs, text, sound, λ ending l.
-        let k = list_leads set told a s text more (opens u.delivered cs fs) ending l in
-        let Q : List (List Coming) → Type 0 = λ x. Leads set told (expands a s x) k.0 in
-        (finished s, leads.done s, (k.0, subst Q (sym others) k.1, k.2)))
+      let sound : Sound (reading u (call ∷ cs)) (frame ∷ fs) text = record { fits = (zero, behind, omega (arith, e), subst P (sym brackets) is, w); inside = refl; reads = λ _. r.reads } in (
+        frame ∷ fs,
+        text,
+        sound,
+        λ ending l.
+            let k = list_leads set told a s text more (opens u.delivered cs fs) ending l in
+            let Q : List (List Coming) → Type 0 = λ x. Leads set told (expands a s x) k.0 in
+            (finished s, leads.done s, (k.0, subst Q (sym others) k.1, k.2)),
+      )
 
   -- a token that is looked at
   file_tells : (u : State) (text : List Coming) (t : Token) (word : Word) → Reads (c ∷ cs) u → Tells u.delivered
@@ -172,7 +180,7 @@ module _ (set : Settings) (told : Option Contents) (c : Call) (cs : List Call) (
   file_tells u text t word r =
       let no : spec.in_file u ≡ false = ap (λ (b : Bool). not b && (u.uses == 0)) r.inside in
       let P : Bool → Type 0 = λ b. Tells u.delivered (elim b as (λ _. Step) [ true ↦ spec.obeyed set (inner u (c ∷ cs) text) t word | false ↦ broken (inner u (c ∷ cs) text) 201 t ])
-        (elim b as (λ _. Step) [ true ↦ spec.obeyed set u t word | false ↦ broken u 201 t ]) in
+      (elim b as (λ _. Step) [ true ↦ spec.obeyed set u t word | false ↦ broken u 201 t ]) in
       subst P (sym no) (acts_says set told (c ∷ cs) (f ∷ fs) u text 201 t)
 
   directive_tells : (u : State) (text : List Coming) (t : Token) (word : Word) → Fits u.uses u.coming (c ∷ cs) (f ∷ fs) text → Reads (c ∷ cs) u →
@@ -203,7 +211,7 @@ module _ (set : Settings) (told : Option Contents) (c : Call) (cs : List Call) (
       Tells u.delivered (step.gives t (inner u (c ∷ cs) text)) (step.gives t u) → Reads (c ∷ cs) u → Tells u.delivered (spec.raw set (inner u (c ∷ cs) text) t) (spec.raw set u t)
   raw_tells u text t stays gives r =
       let P : Bool → Type 0 = λ b. Tells u.delivered (elim b as (λ _. Step) [ true ↦ spec.skipped (inner u (c ∷ cs) text) t t.kind | false ↦ spec.taken set (inner u (c ∷ cs) text) t t.kind ])
-        (elim b as (λ _. Step) [ true ↦ spec.skipped u t t.kind | false ↦ spec.taken set u t t.kind ]) in
+      (elim b as (λ _. Step) [ true ↦ spec.skipped u t t.kind | false ↦ spec.taken set u t t.kind ]) in
       subst P (sym r.reads) (kind_tells u text t t.kind refl stays gives r)
 
   -- the mark that ends an argument

@@ -1,5 +1,5 @@
 -- A move in a file, with no open call, is a step.
-use Rattle.std.proofs.Common.{◌≡◌, ℕ, zero, suc, ◌+◌, ◌-◌, nat_lt, Bool, true, false, cond, List, [], ◌∷◌, ◌++◌, slice_get, Option, Some, None, refl, sym, ap, ◌∙◌, subst}
+use Rattle.std.proofs.Common.{◌≡◌, ℕ, ◌+◌, nat_lt, Bool, true, false, cond, List, [], ◌∷◌, ◌++◌, slice_get, Option, Some, None, refl, sym, ap, ◌∙◌, subst}
 use Rattle.sv_source.specs.Loading.{Contents}
 use Rattle.sv_source.specs.declared.token.Kind.{Kind}
 use Rattle.sv_source.specs.declared.token.Kind.TheVariants as K
@@ -13,7 +13,6 @@ use Rattle.sv_macro.specs.declared.words.Word.{Word}
 use Rattle.sv_macro.specs.declared.words.Word.TheVariants as W
 use Rattle.sv_macro.specs.declared.definition.Defining.{Defining}
 use Rattle.sv_macro.specs.declared.definition.Defining.TheVariants.{Defines, BreaksAt, BreaksList, IllFormed}
-use Rattle.sv_macro.specs.declared.shapes.Shape.{Shape}
 use Rattle.sv_macro.specs.declared.coming.Coming.{Coming}
 use Rattle.sv_macro.specs.declared.coming.Coming.TheVariants.{Raw, Kept, FileEnd, UseEnd}
 use Rattle.sv_preproc.specs.States as step
@@ -77,10 +76,14 @@ module _ (set : Settings) (told : Option Contents) where
       (end, leads.gives t s end (subst P (sym (given_is s t true i e)) (leads.breaks (record { rule = 207; place = t.place; word = t.text }) s.names)), refl)
   delivers s t false i e =
       let n : State = record s { delivered = s.delivered ++ t ∷ []; spent = s.spent + 1 } in
-      let sound : Sound (machine n []) [] s.coming = record { fits = refl; inside = i; reads = λ no. absurd (let x : false ≡ true = no in cc) } in
-      ([], s.coming, sound, λ ending l.
-        let P : Step → Type 0 = λ st. Leads set told (steps st) l.0 in
-        (l.0, leads.gives t s l.0 (subst P (sym (given_is s t false i e)) (leads.goes n l.0 l.1)), l.2))
+      let sound : Sound (machine n []) [] s.coming = record { fits = refl; inside = i; reads = λ no. absurd (let x : false ≡ true = no in cc) } in (
+        [],
+        s.coming,
+        sound,
+        λ ending l.
+            let P : Step → Type 0 = λ st. Leads set told (steps st) l.0 in
+            (l.0, leads.gives t s l.0 (subst P (sym (given_is s t false i e)) (leads.goes n l.0 l.1)), l.2),
+      )
 
   gives : (s : State) (t : Token) → s.inside ≡ false → In (step.gives t s)
   gives s t i = delivers s t (nat_lt spending_limit (s.spent + 1)) i refl

@@ -3,7 +3,6 @@ use Rattle.std.proofs.Common.{◌≡◌, ℕ, Bool, true, false, cond, List, [],
 use Rattle.sv_source.specs.Loading.{Contents}
 use Rattle.sv_source.specs.declared.token.Token.{Token}
 use Rattle.sv_source.specs.declared.refusal.Refusal.{Refusal}
-use Rattle.sv_macro.specs.Including.{Held}
 use Rattle.sv_macro.specs.declared.coming.Coming.{Coming}
 use Rattle.sv_preproc.specs.States as step
 use Rattle.sv_preproc.specs.States.{State, Step}
@@ -143,7 +142,7 @@ module _ (set : Settings) (told : Option Contents) where
 pub first_is_answered : FirstIsAnswered
 first_is_answered = λ set told. record {
   stops = λ s other p b.
-    let k = own_broken set told s other (next set s) (own_step set told s) b in
-    (k.rule, k.names, k.least, passed_leads set told (steps (next set (start set))) (next set s) k.rule k.names p k.is);
+      let k = own_broken set told s other (next set s) (own_step set told s) b in
+      (k.rule, k.names, k.least, passed_leads set told (steps (next set (start set))) (next set s) k.rule k.names p k.is);
   is = λ r names l. from_next set told (start set) (steps (next set (start set))) r names (λ st p. p) (last_of set told (steps (next set (start set))) (stopped r names) r names l refl);
 }

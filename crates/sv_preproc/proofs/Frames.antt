@@ -1,11 +1,11 @@
 -- What a machine with open calls leads to: what the innermost argument leads to, then the arguments that are left of its
 -- call and the body, and so on outwards.
-use Rattle.std.proofs.Common.{◌≡◌, ℕ, zero, suc, ◌+◌, Bool, true, false, List, [], ◌∷◌, ◌++◌, drop, Option, Some, None, All, refl, sym, ap, ◌∙◌, subst, arith}
+use Rattle.std.proofs.Common.{◌≡◌, ℕ, suc, ◌+◌, true, false, List, [], ◌∷◌, ◌++◌, drop, Option, All, refl, ap, arith}
 use Rattle.sv_source.specs.Loading.{Contents}
 use Rattle.sv_source.specs.declared.token.Token.{Token}
 use Rattle.sv_source.specs.declared.refusal.Refusal.{Refusal}
 use Rattle.sv_macro.specs.Lines.{behind_lines, any_token, first_by}
-use Rattle.sv_macro.specs.Lists.{Taken, taken}
+use Rattle.sv_macro.specs.Lists.{taken}
 use Rattle.sv_macro.specs.declared.coming.Coming.{Coming}
 use Rattle.sv_macro.specs.declared.coming.Coming.TheVariants.{UseEnd}
 use Rattle.sv_preproc.specs.States as step
@@ -17,9 +17,8 @@ use Rattle.sv_preproc.specs.Searches.{Ending, finished, stopped, failed}
 use Rattle.sv_preproc.specs.Leads as leads
 use Rattle.sv_preproc.specs.Leads.{Use, Doing, steps, expands, argument_in, next, with_argument, body_of, Leads}
 use Rattle.sv_preproc.specs.declared.settings.Settings.{Settings}
-use Rattle.sv_preproc.specs.declared.turn.Search.{Search}
 use Rattle.sv_preproc.specs.declared.state.Call.{Call}
-use Rattle.sv_preproc.proofs.NestedLists.{Same_list, Inside, Opened, Next, neither, both, NoList, IsToken, list_inside, lines_inside, next_inside, tokens_inside}
+use Rattle.sv_preproc.proofs.NestedLists.{Same_list, Inside, Opened, Next, neither, both, IsToken, list_inside, lines_inside, next_inside, tokens_inside}
 
 -- of an open call: what comes behind its list in the text that holds it, and its arguments that are left
 pub record Frame : Type 0 where

@@ -6,7 +6,7 @@ use Rattle.sv_source.specs.declared.token.Kind.TheVariants as K
 use Rattle.sv_source.specs.declared.token.Token.{Token}
 use Rattle.sv_macro.specs.Tokens.{is, is_line, is_line_kind, is_continued, is_continued_kind}
 use Rattle.sv_macro.specs.Lines.{is_newline, behind_lines, any_token, first_by}
-use Rattle.sv_macro.specs.Brackets.{sign_of, sign_by, same_bracket, closing_one, brackets_behind, is_parenthesis, is_parenthesis_kind, opening, closing, comma}
+use Rattle.sv_macro.specs.Brackets.{sign_of, sign_by, same_bracket, closing_one, brackets_behind, is_parenthesis, is_parenthesis_kind, closing, comma}
 use Rattle.sv_macro.specs.Lists as lists
 use Rattle.sv_macro.specs.Lists.{Taken, Place_in_list, at_end, splitting, belonging, sign_in, place_in, ended, first_longer, with_item, with_split, taken}
 use Rattle.sv_macro.specs.declared.brackets.Bracket.{Bracket}
@@ -15,7 +15,7 @@ use Rattle.sv_macro.specs.declared.brackets.Sign.{Sign}
 use Rattle.sv_macro.specs.declared.brackets.Sign.TheVariants.{Opens, Closes, ClosesStar, Comma, Other}
 use Rattle.sv_macro.specs.declared.coming.Coming.{Coming}
 use Rattle.sv_macro.specs.declared.coming.Coming.TheVariants.{Raw, Kept, FileEnd, UseEnd}
-use Rattle.sv_macro.proofs.Taken.{Some_arguments, some_arguments}
+use Rattle.sv_macro.proofs.Taken.{some_arguments}
 
 -- a list that is closed
 abbrev pub listed : List Coming → List (List Coming) → List Coming → Taken

@@ -10,7 +10,7 @@ use Rattle.sv_preproc.specs.States.{State, Step}
 use Rattle.sv_preproc.specs.Machine as mach
 use Rattle.sv_preproc.specs.Machine.{Machine, machine, is_open, plain, move, Runs}
 use Rattle.sv_preproc.specs.Searches.{Ending, finished, stopped, failed, Finds, room_left, opened, lost, found, found_in}
-use Rattle.sv_preproc.specs.Runs.{Outcome, expands, refused, start, end_token, Comes, LooksAt, HasOutcome}
+use Rattle.sv_preproc.specs.Runs.{Outcome, expands, refused, start, end_token, Comes}
 use Rattle.sv_preproc.specs.Leads as leads
 use Rattle.sv_preproc.specs.Leads.{Use, Doing, steps, argument_in, next, with_argument, body_of, call_of, given, Leads}
 use Rattle.sv_preproc.specs.Relation.{LeadsTo, Leading, IsOneRelation}

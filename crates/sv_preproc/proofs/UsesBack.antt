@@ -1,5 +1,5 @@
 -- A use of a macro is the same use, seen from the innermost argument alone or with all that comes.
-use Rattle.std.proofs.Common.{◌≡◌, ℕ, zero, suc, ◌+◌, ◌&&◌, nat_lt, not, Bool, true, false, List, [], ◌∷◌, ◌++◌, drop, length, Option, Some, None, All, codes, refl, sym, ap, ◌∙◌, subst, arith}
+use Rattle.std.proofs.Common.{◌≡◌, ℕ, zero, suc, ◌+◌, ◌&&◌, nat_lt, not, Bool, true, false, List, [], ◌∷◌, ◌++◌, drop, length, Option, Some, None, All, codes, refl, sym, ◌∙◌, subst, arith}
 use Rattle.std.specs.Option.{IfSome}
 use Rattle.sv_source.specs.Loading.{Contents}
 use Rattle.sv_source.specs.declared.token.Token.{Token}
@@ -7,8 +7,8 @@ use Rattle.sv_source.specs.declared.refusal.Refusal.{Refusal}
 use Rattle.sv_macro.specs.Tokens.{name_of}
 use Rattle.sv_macro.specs.Macros.{marked, placed_count, placed}
 use Rattle.sv_macro.specs.Brackets.{is_parenthesis}
-use Rattle.sv_macro.specs.Lines.{behind_lines, any_token, first_by}
-use Rattle.sv_macro.specs.Lists.{Taken, taken, survey, fits, first_of, is_barred, is_cut, is_bare}
+use Rattle.sv_macro.specs.Lines.{behind_lines}
+use Rattle.sv_macro.specs.Lists.{taken, survey, fits, first_of, is_barred, is_cut, is_bare}
 use Rattle.sv_macro.specs.declared.lists.Survey.{Survey}
 use Rattle.sv_macro.specs.declared.macros.Macro.{Macro}
 use Rattle.sv_macro.specs.declared.coming.Coming.{Coming}
@@ -20,7 +20,6 @@ use Rattle.sv_preproc.specs.Branches.{skips}
 use Rattle.sv_preproc.specs.Uses as uses
 use Rattle.sv_preproc.specs.Machine as mach
 use Rattle.sv_preproc.specs.Machine.{Machine, Move, machine, is_open, reading, acted}
-use Rattle.sv_preproc.specs.Searches.{Ending}
 use Rattle.sv_preproc.specs.Leads as leads
 use Rattle.sv_preproc.specs.Leads.{Use, expands, call_of, Leads}
 use Rattle.sv_preproc.specs.declared.settings.Settings.{Settings}
@@ -103,12 +102,16 @@ module _ (set : Settings) (told : Option Contents) (calls : List Call) (fs : Lis
       let is : taken [] s.coming ≡ listed some.first some.rest (taken [] s.coming).behind = (λ i. record { arguments = some.are i; closed = closed i; behind = (taken [] s.coming).behind }) in
       let sound : Sound (reading s (call ∷ calls)) (frame ∷ fs) some.first = record { fits = (zero, (taken [] s.coming).behind, omega arith, is, same.behind closed); inside = refl; reads = λ _. r.reads } in
       let called : u ≡ call_of used (inner s calls text) = (λ i. record { used = used; arguments = []; behind = (taken [] text).behind; inside = sym r.inside i; delivered = delivered_in s.delivered calls }) in
-      let arguments : some.first ∷ some.rest ≡ (taken [] text).arguments = sym some.are ∙ sym same.arguments in
-      (frame ∷ fs, some.first, sound, λ e l.
-        let a = list_leads set told u (inner s calls text) some.first some.rest (opens s.delivered calls fs) e l in
-        let P : Use → Type 0 = λ v. Leads set told (expands v (inner s calls text) (taken [] text).arguments) a.0 in
-        let Q : List (List Coming) → Type 0 = λ as'. Leads set told (expands u (inner s calls text) as') a.0 in
-        (a.0, leads.takes used (inner s calls text) a.0 (subst P called (subst Q arguments a.1)), a.2))
+      let arguments : some.first ∷ some.rest ≡ (taken [] text).arguments = sym some.are ∙ sym same.arguments in (
+        frame ∷ fs,
+        some.first,
+        sound,
+        λ e l.
+            let a = list_leads set told u (inner s calls text) some.first some.rest (opens s.delivered calls fs) e l in
+            let P : Use → Type 0 = λ v. Leads set told (expands v (inner s calls text) (taken [] text).arguments) a.0 in
+            let Q : List (List Coming) → Type 0 = λ as'. Leads set told (expands u (inner s calls text) as') a.0 in
+            (a.0, leads.takes used (inner s calls text) a.0 (subst P called (subst Q arguments a.1)), a.2),
+      )
 
   begins_acts : (s : State) (text : List Coming) (used : Token) (arity : ℕ) → Reads calls s → SameFor s.uses calls fs text s.coming → (taken [] s.coming).closed ≡ true →
       Acts s.delivered (uses.list_begins (inner s calls text) used arity (taken [] text).behind) (uses.list_begins s used arity (taken [] s.coming).behind)
@@ -144,7 +147,7 @@ module _ (set : Settings) (told : Option Contents) (calls : List Call) (fs : Lis
       let args : (taken [] s.coming).arguments ≡ (taken [] text).arguments = sym same.arguments in
       let is : list ≡ survey (taken [] text) = (λ i. record { barred = first_of is_barred (args i); cut = first_of is_cut (args i); closed = sym same.closed i; count = length (args i); bare = is_bare (args i) }) in
       subst P is (fitting_acts s text used list.barred (list.closed && not (fits arity list)) _ _ (counted_acts s text used busy _ _
-        (closed_acts s text used list.cut list.closed _ _ (λ closed. begins_acts (uses.once_more s) text used arity (record { inside = r.inside; reads = r.reads }) same closed))))
+      (closed_acts s text used list.cut list.closed _ _ (λ closed. begins_acts (uses.once_more s) text used arity (record { inside = r.inside; reads = r.reads }) same closed))))
 
   list_from_acts : (s : State) (text : List Coming) (used : Token) (busy : Bool) (arity : ℕ) (o : Option Token) → Reads calls s → ((t : Token) → o ≡ Some t → is_parenthesis t ≡ true → SameFor s.uses calls fs text s.coming) →
       Acts s.delivered (uses.list_from (inner s calls text) used busy arity o) (uses.list_from s used busy arity o)
