@@ -1,5 +1,5 @@
 -- The expansion, a move at a time, is the relation.
-use Rattle.std.proofs.Common.{◌≡◌, ℕ, ◌^◌, ◌≤◌, nat_lt, Bool, true, false, List, [], ◌∷◌, ◌++◌, length, Option, Some, None, refl, sym, ap, ◌∙◌, subst}
+use Rattle.std.proofs.Common.{◌≡◌, ℕ, ◌^◌, ◌≤◌, nat_lt, Bool, true, false, List, [], ◌∷◌, ◌++◌, length, Option, Some, None, Result, Ok, Err, refl, sym, ap, ◌∙◌, subst}
 use Rattle.sv_source.specs.Loading.{Contents}
 use Rattle.sv_source.specs.declared.token.Token.{Token}
 use Rattle.sv_source.specs.declared.refusal.Refusal.{Refusal}
@@ -15,6 +15,10 @@ use Rattle.sv_preproc.specs.Leads as leads
 use Rattle.sv_preproc.specs.Leads.{Use, Doing, steps, argument_in, next, with_argument, body_of, call_of, given, Leads}
 use Rattle.sv_preproc.specs.Relation.{LeadsTo, Leading, IsOneRelation}
 use Rattle.sv_preproc.specs.declared.settings.Settings.{Settings}
+use Rattle.sv_preproc.specs.declared.settings.Expanded.{Expanded}
+use Rattle.sv_preproc.specs.declared.settings.ExpandFail.{ExpandFail}
+use Rattle.sv_preproc.specs.declared.settings.ExpandFail.TheVariants.{Memory, FileFault, Refused}
+use Rattle.sv_preproc.specs.Answers.{Reaches, LeadsBy}
 use Rattle.sv_preproc.specs.declared.state.Call.{Call}
 use Rattle.sv_preproc.specs.declared.turn.Search.{Search}
 use Rattle.sv_macro.specs.Lists.{taken}
@@ -194,6 +198,13 @@ module _ (set : Settings) (contents : Contents) where
 comes_leading : (set : Settings) (told : Option Contents) (outcome : Outcome) → Comes set told outcome → Leading set told outcome
 comes_leading set told (expands ts names) c = (c.last, run_leads set told (finished c.last) c.runs, c.tokens, c.files)
 comes_leading set told (refused r names) c = run_leads set told (stopped r names) c
+
+-- an answer that is what the expansion comes to is what the relation leads to
+pub reaches_leads : (set : Settings) (told : Option Contents) (result : Result Expanded ExpandFail) → Reaches set told result → LeadsBy set told result
+reaches_leads set told (Ok e) r = comes_leading set told (expands e.tokens e.files) r
+reaches_leads set told (Err Memory) r = tt
+reaches_leads set told (Err (FileFault path)) r = λ contents is. run_leads set (Some contents) (failed path) (r contents is)
+reaches_leads set told (Err (Refused refusal files)) r = comes_leading set told (refused refusal files) r
 
 leading_comes : (set : Settings) → length set.files ≤ 2 ^ 30 → (contents : Contents) (outcome : Outcome) → Leading set (Some contents) outcome → Comes set (Some contents) outcome
 leading_comes set few contents outcome l =

@@ -1,7 +1,7 @@
 // Whole expansions (IEEE 1800-2017 clause 22).
 ghost use Rattle.std.specs.Prelude.{◌≡◌, true, ◌≤◌, ◌<◌, ◌^◌, ◌++◌, ◌∷◌, [], fold, length, OnOk, IfOk};
 ghost use Rattle.sv_source.specs.Loading.{Contents};
-ghost use Rattle.sv_preproc.specs.Answers.{Cause, Says, Deep, Opens, Stops, LoadReaches, AdvanceReaches, Reaches};
+ghost use Rattle.sv_preproc.specs.Answers.{Cause, Says, Deep, Opens, Stops, LoadReaches, AdvanceReaches, Reaches, LeadsBy};
 ghost use Rattle.sv_preproc.specs.Code.{seen, whole, Bounded};
 ghost use Rattle.sv_macro.specs.Tables.{macros_in};
 ghost use Rattle.sv_preproc.specs.Runs.{command_macros};
@@ -220,6 +220,8 @@ pub fn expand<F: Files>(
     requires { length set.now.files ≤ 2 ^ 30 }
     // The answer is what the expansion comes to: by the files where their contents are told, else by what searches find.
     ensures comes { Reaches set.now (F.contents files.old) result }
+    // The same by the relation in which the arguments of a call are expanded by the relation itself.
+    ensures leads { LeadsBy set.now (F.contents files.old) result }
     // For any contents the expansion comes to one outcome: tokens or a refusal, and not both.
     ensures one { (contents : Contents) → spec.HasOutcome set.now contents }
     ensures same { F.contents files.new ≡ F.contents files.old }
