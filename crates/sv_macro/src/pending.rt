@@ -108,6 +108,7 @@ fn leave_kind(kind: Bracket, waiting: &mut Stack<Waiting>)
     }
 }
 
+#[inline(always)]
 fn one_item(item: &Coming, size: ListSize) -> ListSize
     ensures { result ≡ spec.one_item item.now size }
 {
@@ -122,6 +123,7 @@ fn one_item(item: &Coming, size: ListSize) -> ListSize
 }
 
 // What is outside the brackets of the innermost goes on with an item.
+#[inline(always)]
 fn go_on(item: &Coming, waiting: &mut Stack<Waiting>) -> Result<(), AllocError>
     ensures { OnOk result (waiting.new ≡ spec.with_first (spec.one_item item.now) waiting.old) }
 {
@@ -182,6 +184,7 @@ fn close_other(kind: Bracket, item: &Coming, waiting: &mut Stack<Waiting>) -> Re
     })
 }
 
+#[inline(always)]
 fn pass_sign(sign: Sign, item: &Coming, waiting: &mut Stack<Waiting>) -> Result<(), AllocError>
     ensures { OnOk result (waiting.new ≡ spec.with_sign sign item.now waiting.old) }
 {
@@ -200,6 +203,7 @@ fn pass_sign(sign: Sign, item: &Coming, waiting: &mut Stack<Waiting>) -> Result<
 }
 
 // The brackets that wait before an item.
+#[inline(always)]
 fn pass(item: &Coming, waiting: &mut Stack<Waiting>) -> Result<(), AllocError>
     ensures { OnOk result (waiting.new ≡ spec.passed item.now waiting.old) }
 {
@@ -224,6 +228,7 @@ fn pass(item: &Coming, waiting: &mut Stack<Waiting>) -> Result<(), AllocError>
 }
 
 // The list that would begin here.
+#[inline(always)]
 fn first_list(waiting: &Stack<Waiting>) -> Option<ListSize>
     ensures { result ≡ spec.first_list waiting.now }
 {
@@ -235,6 +240,7 @@ fn first_list(waiting: &Stack<Waiting>) -> Option<ListSize>
 
 impl Pending {
     // The item comes next, with the list that begins behind it.
+    #[inline(always)]
     fn push_item(&mut self, what: Coming, list: Option<ListSize>) -> Result<(), AllocError>
         requires { spec.stops what ≡ false → list ≡ spec.first_list (spec.waiting self.old) }
         ensures { OnOk result (self.new ≡ what ∷ self.old) }
@@ -243,6 +249,7 @@ impl Pending {
     }
 
     // The item comes next.
+    #[inline(always)]
     fn push_next(&mut self, item: Coming, waiting: &mut Stack<Waiting>) -> Result<(), AllocError>
         requires { waiting.old ≡ spec.waiting self.old }
         ensures items { OnOk result (self.new ≡ item ∷ self.old) }

@@ -71,6 +71,7 @@ impl<T: Drop> Stack<T> {
     }
 
     /// Puts a value on top.
+    #[inline(always)]
     pub fn push(&mut self, item: T) -> Result<(), AllocError>
         ensures pushed { OnOk result (self.new ≡ item ∷ self.old) }
         ensures same { OnErr result (self.new ≡ self.old) }

@@ -1,5 +1,5 @@
 -- Of the rules that are broken at a state a step answers the one with the least number.
-use Rattle.std.proofs.Common.{◌≡◌, ◌⊎◌, inl, inr, ℕ, zero, suc, ◌+◌, ◌==◌, ◌≤◌, ◌&&◌, ◌||◌, nat_lt, not, Bool, true, false, cond, List, [], ◌∷◌, drop, length, slice_get, Option, Some, None, refl, sym, ap, ◌∙◌, subst, arith}
+use Rattle.std.proofs.Common.{◌≡◌, ◌⊎◌, inl, inr, ℕ, zero, suc, ◌≤◌, ◌&&◌, not, Bool, true, false, cond, List, [], ◌∷◌, drop, length, slice_get, Option, Some, None, refl, sym, ap, ◌∙◌, subst, arith}
 use Rattle.sv_source.specs.declared.token.Kind.{Kind}
 use Rattle.sv_source.specs.declared.token.Kind.TheVariants as K
 use Rattle.sv_source.specs.declared.token.Token.{Token}
@@ -8,7 +8,7 @@ use Rattle.sv_macro.specs.Tokens.{is, is_name, is_string, name_of, said_by}
 use Rattle.sv_macro.specs.Macros.{placed_count, placed}
 use Rattle.sv_macro.specs.Brackets.{is_parenthesis}
 use Rattle.sv_macro.specs.Lists.{Taken, taken, survey, fits, or_else}
-use Rattle.sv_macro.specs.Definitions.{is_use, barred, barred_kind, first_barred, unless_barred, of_body, formals_of, with_formals, has_formals, with_list, behind_name, behind_line, line_of, defining}
+use Rattle.sv_macro.specs.Definitions.{is_use, barred, barred_kind, first_barred, unless_barred, of_body, formals_of, with_formals, has_formals, with_list, behind_line, line_of, defining}
 use Rattle.sv_macro.specs.Shapes.{behind_shapes}
 use Rattle.sv_macro.specs.declared.lists.Survey.{Survey}
 use Rattle.sv_macro.specs.declared.macros.Macro.{Macro}
@@ -17,7 +17,7 @@ use Rattle.sv_macro.specs.declared.coming.Coming.TheVariants.{Raw, Kept, FileEnd
 use Rattle.sv_macro.specs.declared.definition.Formals.{Formals}
 use Rattle.sv_macro.specs.declared.definition.Formals.TheVariants.{Listed, Departs, Ends}
 use Rattle.sv_macro.specs.declared.definition.Defining.{Defining}
-use Rattle.sv_macro.specs.declared.definition.Defining.TheVariants.{Defines, BreaksAt, BreaksList, IllFormed}
+use Rattle.sv_macro.specs.declared.definition.Defining.TheVariants.{BreaksAt, IllFormed}
 use Rattle.sv_macro.specs.declared.words.Condition.{Condition}
 use Rattle.sv_macro.specs.declared.words.Condition.TheVariants.{Ifdef, Ifndef, Elsif, Else, Endif}
 use Rattle.sv_macro.specs.declared.words.Word.{Word}
@@ -25,11 +25,11 @@ use Rattle.sv_macro.specs.declared.words.Word.TheVariants as W
 use Rattle.sv_preproc.specs.declared.settings.Settings.{Settings}
 use Rattle.sv_preproc.specs.declared.state.Conditional.{Conditional}
 use Rattle.sv_preproc.specs.declared.state.OpenFile.{OpenFile}
-use Rattle.sv_preproc.specs.States.{State, Step, goes, gives, takes, looks, done, breaks, broken, spending_limit, with_coming, next_raw, next_any, next_name, behind_next}
+use Rattle.sv_preproc.specs.States.{State, Step, goes, gives, takes, looks, done, breaks, broken, with_coming, next_raw, next_any, next_name, behind_next}
 use Rattle.sv_preproc.specs.Uses as uses
 use Rattle.sv_preproc.specs.Branches as branches
 use Rattle.sv_preproc.specs.Expansion as spec
-use Rattle.sv_preproc.specs.Breaks.{Rules, none, when, over, unpasted, body_rules, use_rules, list_rules, if_sound, begun_rules, with_list_rules, list_from_rules, use_of_rules, used_rules, unnamed, unbalanced, branch_rules, branches_rules, by_number, definition_rules, include_rules, dropped_rules, obeyed_rules, directive_rules, skipped_word_rules, skipped_rules, token_rules, raw_rules, first_open, file_rules, rules_at, rules, refusal_at, paste_at, Breaks, directive, undefined, number, own, balance, limit, closed, paste, IsLeast, Answered, LeastIsAnswered}
+use Rattle.sv_preproc.specs.Breaks.{Rules, none, when, over, unpasted, body_rules, use_rules, if_sound, begun_rules, with_list_rules, list_from_rules, use_of_rules, used_rules, unnamed, unbalanced, branch_rules, branches_rules, definition_rules, include_rules, dropped_rules, obeyed_rules, directive_rules, skipped_word_rules, skipped_rules, token_rules, raw_rules, first_open, file_rules, rules_at, rules, refusal_at, paste_at, Breaks, directive, undefined, number, own, balance, limit, closed, paste, IsLeast, Answered, LeastIsAnswered}
 
 -- the first of the rules by their numbers
 abbrev at_least : ℕ → Option Token → Option Refusal → Option Refusal

@@ -2,6 +2,14 @@ pub mod Weights
 pub mod Falls
 pub mod StepFalls
 pub mod Searches
+pub mod NestedLists
+pub mod Frames
+pub mod BodyTokens
+pub mod UsesBack
+pub mod ArgumentsBack
+pub mod FilesBack
+pub mod OneRelation
+pub mod FirstBreaks
 pub mod MoveFalls
 pub mod MachineEnds
 pub mod Through

@@ -1,5 +1,6 @@
 -- Runs that come to an ending by what their searches find.
 use Rattle.std.proofs.Common.{◌≡◌, ℕ, ◌<◌, Bool, true, false, List, [], ◌∷◌, ◌++◌, length, Option, Some, Result, Ok, Err, IfOk, sym, ap, ◌∙◌, subst}
+use Rattle.std.specs.Global.{Box}
 use Rattle.sv_lexer.proofs.Raw.{tokens_from-count}
 use Rattle.sv_source.specs.Loading.{Contents}
 use Rattle.sv_source.specs.declared.refusal.Fail.{Fail}
@@ -44,8 +45,10 @@ module _ (set : Settings) (told : Option Contents) where
 pub go_of : (mv : Move) (now : Held_state) (result : Result Turn Fail) (turn : Turn) → result ≡ Ok turn → turn ≡ Go → Turns mv now result → mv ≡ mach.goes (whole now)
 go_of mv now result turn e f t = (let P : Result Turn Fail → Type 0 = Turns mv now in subst P (e ∙ ap Ok f) t)
 
-pub look_of : (mv : Move) (now : Held_state) (result : Result Turn Fail) (turn : Turn) (search : Search) → result ≡ Ok turn → turn ≡ Look search → Turns mv now result → mv ≡ mach.looks search (whole now)
-look_of mv now result turn search e f t = (let P : Result Turn Fail → Type 0 = Turns mv now in subst P (e ∙ ap Ok f) t)
+pub look_of : (mv : Move) (now : Held_state) (result : Result Turn Fail) (turn : Turn) (held : Box Search) (search : Search) → result ≡ Ok turn → turn ≡ Look held → search ≡ held.value → Turns mv now result → mv ≡ mach.looks search (whole now)
+look_of mv now result turn held search e f is t =
+    let P : Result Turn Fail → Type 0 = Turns mv now in
+    subst P (e ∙ ap Ok f) t ∙ ap (λ (q : Search). mach.looks q (whole now)) (sym is)
 
 pub done_of : (mv : Move) (now : Held_state) (result : Result Turn Fail) (turn : Turn) → result ≡ Ok turn → turn ≡ Done → Turns mv now result → mv ≡ mach.done (whole now)
 done_of mv now result turn e f t = (let P : Result Turn Fail → Type 0 = Turns mv now in subst P (e ∙ ap Ok f) t)

@@ -10,6 +10,7 @@ use Rattle.sv_preproc.specs.Machine.{Machine, Runs}
 use Rattle.sv_preproc.specs.Searches as runs
 use Rattle.sv_preproc.specs.Searches.{Ending, finished, stopped, failed, room_left, opened, found}
 use Rattle.sv_preproc.specs.Runs.{expands, refused, Comes, LooksAt}
+use Rattle.sv_preproc.specs.Relation.{LeadsTo, Leading}
 use Rattle.sv_preproc.specs.declared.settings.Settings.{Settings}
 use Rattle.sv_preproc.specs.declared.settings.Expanded.{Expanded}
 use Rattle.sv_preproc.specs.declared.settings.ExpandFail.{ExpandFail}
@@ -26,6 +27,13 @@ Reaches set told (Ok e) = Comes set told (expands e.tokens e.files)
 Reaches set told (Err Memory) = Unit {0}
 Reaches set told (Err (FileFault path)) = (contents : Contents) → told ≡ Some contents → LooksAt set contents path
 Reaches set told (Err (Refused refusal files)) = Comes set told (refused refusal files)
+
+-- the same by the relation in which arguments are expanded by the relation itself
+abbrev pub LeadsBy : Settings → Option Contents → Result Expanded ExpandFail → Type 0
+LeadsBy set told (Ok e) = Leading set told (expands e.tokens e.files)
+LeadsBy set told (Err Memory) = Unit {0}
+LeadsBy set told (Err (FileFault path)) = (contents : Contents) → told ≡ Some contents → LeadsTo set (Some contents) (failed path)
+LeadsBy set told (Err (Refused refusal files)) = Leading set told (refused refusal files)
 
 -- a fault is answered only where the count of faults rose; tokens and refusals leave the count as it was, and it never
 -- falls

@@ -2,18 +2,16 @@
 use Rattle.std.specs.Prelude.{◌≡◌, ℕ, zero, suc, ◌+◌, ◌==◌, ◌≤◌, ◌&&◌, nat_lt, not, Bool, true, false, List, [], ◌∷◌, Option, Some, None, codes}
 use Rattle.sv_source.specs.declared.token.Kind.{Kind}
 use Rattle.sv_source.specs.declared.token.Kind.TheVariants.{Cut, Directive, Quote}
-use Rattle.sv_source.specs.declared.token.Place.{Place}
 use Rattle.sv_source.specs.declared.token.Token.{Token}
 use Rattle.sv_source.specs.declared.refusal.Refusal.{Refusal}
 use Rattle.sv_macro.specs.Tokens.{is_string, name_of, said_by}
 use Rattle.sv_macro.specs.Macros.{placed_count, placed}
 use Rattle.sv_macro.specs.Brackets.{is_parenthesis}
 use Rattle.sv_macro.specs.Lists.{Taken, taken, survey, fits, or_else}
-use Rattle.sv_macro.specs.Definitions.{line_of, behind_line, defining}
+use Rattle.sv_macro.specs.Definitions.{line_of, defining}
 use Rattle.sv_macro.specs.Shapes.{behind_shapes}
 use Rattle.sv_macro.specs.declared.lists.Survey.{Survey}
 use Rattle.sv_macro.specs.declared.macros.Macro.{Macro}
-use Rattle.sv_macro.specs.declared.shapes.Shape.{Shape}
 use Rattle.sv_macro.specs.declared.coming.Coming.{Coming}
 use Rattle.sv_macro.specs.declared.coming.Coming.TheVariants.{Raw, Kept, FileEnd, UseEnd}
 use Rattle.sv_macro.specs.declared.definition.Defining.{Defining}

@@ -32,7 +32,7 @@ whole s = record { state = seen s; calls = s.calls }
 -- the state that a move leaves, and its answer, are those of this move
 abbrev pub Turns : Move → State → Result Turn Fail → Type 0
 Turns move now (Ok Go) = move ≡ machine.goes (whole now)
-Turns move now (Ok (Look search)) = move ≡ machine.looks search (whole now)
+Turns move now (Ok (Look search)) = move ≡ machine.looks search.value (whole now)
 Turns move now (Ok Done) = move ≡ machine.done (whole now)
 Turns move now (Err Memory) = Unit {0}
 Turns move now (Err (Refused refusal)) = move ≡ machine.breaks refusal now.names

@@ -5,7 +5,10 @@ pub mod Expansion
 pub mod Searches
 pub mod Machine
 pub mod Runs
+pub mod Leads
+pub mod Relation
 pub mod Breaks
+pub mod FirstBreaks
 pub mod Code
 pub mod Answers
 pub mod Left

@@ -40,6 +40,7 @@ fn unjoined(alloc: Global, place: Place) -> Result<Fail, AllocError>
 
 impl State {
     // A token that has no meaning for the expansion, outside calls.
+    #[inline(always)]
     fn deliver(&mut self, token: Token) -> Result<Turn, Fail>
         requires bounded { Bounded self.old }
         requires alone { self.old.calls ≡ [] }
@@ -133,6 +134,7 @@ impl State {
     }
 
     // A token of the innermost call.
+    #[inline(never)]
     fn read_argument(&mut self, alloc: Global, call: Call, token: Token) -> Result<Turn, Fail>
         requires { Bounded self.old }
         ensures { Turns (machine.in_call (seen self.old) call self.old.calls token) self.new result }
@@ -148,6 +150,7 @@ impl State {
     }
 
     /// A token that has no meaning for the expansion is delivered: to the argument that is read, or at the end.
+    #[inline(always)]
     pub fn give_on(&mut self, alloc: Global, token: Token) -> Result<Turn, Fail>
         requires { Bounded self.old }
         ensures { Turns (machine.given_to (seen self.old) token self.old.calls) self.new result }

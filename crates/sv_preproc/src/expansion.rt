@@ -1,7 +1,7 @@
 // Whole expansions (IEEE 1800-2017 clause 22).
 ghost use Rattle.std.specs.Prelude.{◌≡◌, true, ◌≤◌, ◌<◌, ◌^◌, ◌++◌, ◌∷◌, [], fold, length, OnOk, IfOk};
 ghost use Rattle.sv_source.specs.Loading.{Contents};
-ghost use Rattle.sv_preproc.specs.Answers.{Cause, Says, Deep, Opens, Stops, LoadReaches, AdvanceReaches, Reaches};
+ghost use Rattle.sv_preproc.specs.Answers.{Cause, Says, Deep, Opens, Stops, LoadReaches, AdvanceReaches, Reaches, LeadsBy};
 ghost use Rattle.sv_preproc.specs.Code.{seen, whole, Bounded};
 ghost use Rattle.sv_macro.specs.Tables.{macros_in};
 ghost use Rattle.sv_preproc.specs.Runs.{command_macros};
@@ -10,6 +10,8 @@ ghost use Rattle.sv_preproc.specs.Searches as searches;
 ghost use Rattle.sv_preproc.specs.States.{broken, goes};
 ghost use Rattle.sv_preproc.specs.Left.{Ready, Settles};
 ghost use Rattle.sv_preproc.specs.Breaks.{LeastIsAnswered};
+ghost use Rattle.sv_preproc.specs.FirstBreaks.{FirstIsAnswered};
+ghost use Rattle.sv_preproc.specs.Relation.{IsOneRelation};
 
 use crate::loading::{Found, load_first};
 use crate::settings::{Define, ExpandFail, Expanded, Settings};
@@ -177,7 +179,7 @@ impl State {
     {
         match self.step(alloc, set) {
             Ok(Turn::Go) => Ok(true),
-            Ok(Turn::Look(search)) => self.load(alloc, files, search),
+            Ok(Turn::Look(search)) => self.load(alloc, files, Box::into_inner(search)),
             Ok(Turn::Done) => Ok(false),
             Err(fail) => Err(self.stopped(alloc, fail)),
         }
@@ -218,6 +220,8 @@ pub fn expand<F: Files>(
     requires { length set.now.files ≤ 2 ^ 30 }
     // The answer is what the expansion comes to: by the files where their contents are told, else by what searches find.
     ensures comes { Reaches set.now (F.contents files.old) result }
+    // The same by the relation in which the arguments of a call are expanded by the relation itself.
+    ensures leads { LeadsBy set.now (F.contents files.old) result }
     // For any contents the expansion comes to one outcome: tokens or a refusal, and not both.
     ensures one { (contents : Contents) → spec.HasOutcome set.now contents }
     ensures same { F.contents files.new ≡ F.contents files.old }
@@ -234,4 +238,20 @@ pub fn expand<F: Files>(
 #[tactic(auto, using(crate::proofs::Breaks::least_is_answered))]
 pub fn least_is_answered()
     ensures { LeastIsAnswered }
+{}
+
+/// The law that an expansion, a move at a time, is the relation of its steps in which arguments are expanded by the
+/// relation itself: what it comes to and the paths that it looks at are those of the relation, and where the contents of
+/// the files are told the relation leads to that outcome and no other.
+#[tactic(auto, using(crate::proofs::OneRelation::one_relation))]
+pub fn one_relation()
+    ensures { IsOneRelation }
+{}
+
+/// The law that the refusal of an expansion is at the first state at which a rule is broken: a state that the expansion
+/// comes to at which one is broken is its last, with the least of them; else the refusal is of a token that is delivered,
+/// of a body that is placed or of a file that is looked for.
+#[tactic(auto, using(crate::proofs::FirstBreaks::first_is_answered))]
+pub fn first_is_answered()
+    ensures { FirstIsAnswered }
 {}

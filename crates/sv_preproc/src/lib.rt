@@ -10,5 +10,5 @@ mod state;
 mod step;
 mod turn;
 
-pub use expansion::{expand, least_is_answered};
+pub use expansion::{expand, first_is_answered, least_is_answered, one_relation};
 pub use settings::{Define, Defines, ExpandFail, Expanded, Settings, Texts};

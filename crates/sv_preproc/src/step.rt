@@ -76,13 +76,14 @@ impl State {
         let path = between_quotes(string.text.as_bytes());
         let paths = candidates(alloc, set.dirs.as_slice(), file.path.as_bytes(), path)?;
         let word = Text::from_bytes(alloc, path)?;
-        Ok(Turn::Look(Search {
+        let search = Search {
             paths,
             top: false,
             place: string.place,
             word,
             deep: self.too_deep(token),
-        }))
+        };
+        Ok(Turn::Look(Box::new(alloc, search)?))
     }
 
     fn include(&mut self, alloc: Global, set: &Settings, token: Token) -> Result<Turn, Fail>
@@ -149,6 +150,7 @@ impl State {
     }
 
     // A directive or the use of a macro.
+    #[inline(never)]
     fn direct(&mut self, alloc: Global, set: &Settings, token: Token) -> Result<Turn, Fail>
         requires { Bounded self.old }
         ensures { Turns (acted self.old.calls (spec.directive set.now (seen self.old) token (said_by token))) self.new result }
@@ -164,6 +166,7 @@ impl State {
     }
 
     // A token in a branch that isn't taken.
+    #[inline(never)]
     fn skip(&mut self, token: Token) -> Result<Turn, Fail>
         ensures { Turns (acted self.old.calls (spec.skipped (seen self.old) token token.kind)) self.new result }
     {
@@ -178,6 +181,7 @@ impl State {
     }
 
     // A token anywhere else.
+    #[inline(always)]
     fn take(&mut self, alloc: Global, set: &Settings, token: Token) -> Result<Turn, Fail>
         requires { Bounded self.old }
         ensures { Turns (acted self.old.calls (spec.taken set.now (seen self.old) token token.kind)) self.new result }
@@ -201,6 +205,7 @@ impl State {
         }
     }
 
+    #[inline(always)]
     fn read(&mut self, alloc: Global, set: &Settings, token: Token) -> Result<Turn, Fail>
         requires { Bounded self.old }
         ensures { Turns (acted self.old.calls (spec.raw set.now (seen self.old) token)) self.new result }
@@ -236,6 +241,7 @@ impl State {
     }
 
     // The next file of the command line.
+    #[inline(never)]
     fn next_file(&mut self, alloc: Global, set: &Settings) -> Result<Turn, Fail>
         requires bounded { Bounded self.old }
         requires files { length set.now.files ≤ 2 ^ 30 }
@@ -253,13 +259,14 @@ impl State {
             col: 1,
         };
         self.next += 1;
-        Ok(Turn::Look(Search {
+        let search = Search {
             paths,
             top: true,
             place,
             word,
             deep: None,
-        }))
+        };
+        Ok(Turn::Look(Box::new(alloc, search)?))
     }
 
     /// One step.

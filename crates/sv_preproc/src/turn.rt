@@ -24,7 +24,7 @@ pub enum Turn {
     /// The expansion goes on.
     Go,
     /// It goes on with a file.
-    Look(Search),
+    Look(Box<Search>),
     /// It is done.
     Done,
 }
