@@ -4,7 +4,7 @@ use Rattle.ll_engine.specs.declared.table.Part.{Part}
 use Rattle.ll_engine.specs.declared.table.Part.TheVariants.{Term, Non, Maybe, Many}
 use Rattle.ll_engine.specs.declared.table.Row.{Row}
 use Rattle.ll_engine.specs.Class.{IsFit}
-use Rattle.ll_engine.proofs.Fits.{fits_is}
+use Rattle.ll_engine.proofs.class.Sets.{fits_is}
 
 abbrev row : ℕ → List Part → Bool → Row
 row h ps d = record { head = h; parts = ps; deep = d }
@@ -33,4 +33,4 @@ assignments =
     ∷ []
 
 pub assignments_fit : IsFit assignments
-assignments_fit = fits_is 6 assignments refl
+assignments_fit = fits_is assignments 6 14 refl

@@ -21,6 +21,5 @@ pub mod Leading
 pub mod Tests
 pub mod Known
 pub mod Sound
-pub mod Fits
-pub mod Build
+pub mod class
 pub mod Examples

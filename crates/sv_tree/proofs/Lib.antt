@@ -1,4 +1,3 @@
-pub mod class
 pub mod Written
 pub mod Fit
 pub mod Positions

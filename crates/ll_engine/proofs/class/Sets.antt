@@ -1,5 +1,5 @@
 -- The sets by which a table is found to be of the class. One number is kept for each head, and passes over the rows make it grow.
-use Rattle.std.proofs.Common.{◌≡◌, ℕ, zero, suc, max, min, ◌==◌, nat_lt, ltb-true, Bool, true, cond, ◌&&◌, List, [], ◌∷◌, get_or, set, replicate, reverse, length, Option, Some, None}
+use Rattle.std.proofs.Common.{◌≡◌, ℕ, zero, suc, max, min, ◌==◌, nat_lt, ltb-true, Bool, true, cond, ◌&&◌, List, [], ◌∷◌, get_or, set, replicate, reverse, length, Option, Some, None, arith}
 use Rattle.std.specs.List.{list_all}
 use Rattle.std.specs.Int.Bits.{bit_or}
 use Rattle.std.proofs.lemmas.Bool.{and_parts}
@@ -7,9 +7,9 @@ use Rattle.ll_engine.specs.declared.table.Part.{Part}
 use Rattle.ll_engine.specs.declared.table.Part.TheVariants.{Term, Non, Maybe, Many, Chain}
 use Rattle.ll_engine.specs.declared.table.Row.{Row}
 use Rattle.ll_engine.specs.Grammar.{named}
-use Rattle.ll_engine.specs.Class.{IsFit}
-use Rattle.sv_tree.proofs.class.Firsts as Firsts
-use Rattle.sv_tree.proofs.class.Keeping as Keeping
+use Rattle.ll_engine.specs.Class.{IsFit, BreaksAt, no_rows, at_row}
+use Rattle.ll_engine.proofs.class.Firsts as Firsts
+use Rattle.ll_engine.proofs.class.Keeping as Keeping
 
 abbrev pub at : List ℕ → ℕ → ℕ
 at xs h = get_or xs h 0
@@ -105,3 +105,8 @@ module _ (t : List Row) where
       let leads = passes n (pass (leads_grow blanks) back) none in
       checks_is blanks (passes n (pass (firsts_grow blanks) back) none) leads (passes n (follow_rows blanks leads t) none)
       (passes n (pass (ranks_grow blanks) back) none) (passes n (pass sizes_grow back) (replicate heads 1000000)) e
+
+-- so a reader of it is never refused
+pub never_unfit : (t : List Row) → IsFit t → (at : ℕ) → BreaksAt t at → ⊥
+never_unfit t fit at (no_rows e f) = (let h = fit.has_rows in absurd (omega arith))
+never_unfit t fit at (at_row {h = h} {row = row} is breaks before) = breaks (fit.keeps at h row is)

@@ -9,9 +9,9 @@ use Rattle.ll_engine.specs.declared.table.Part.TheVariants.{Term, Non, Maybe, Ma
 use Rattle.ll_engine.specs.declared.table.Row.{Row}
 use Rattle.ll_engine.specs.Grammar.{terminal, named, is_repeated, IsRowOf, HasPart, IsBlank, Begins, HasText}
 use Rattle.ll_engine.specs.Class.{Leads, Follows, ComesAt, StartsWith, LeadsTo, IsFit}
-use Rattle.sv_tree.proofs.class.BitSets.{IsIn, are_within, disjoint, in-left, in-right, in-own, in-within, apart}
-use Rattle.sv_tree.proofs.class.Firsts.{all-at, implies}
-use Rattle.sv_tree.proofs.class.Firsts as Firsts
+use Rattle.ll_engine.proofs.class.BitSets.{IsIn, are_within, disjoint, in-left, in-right, in-own, in-within, apart}
+use Rattle.ll_engine.proofs.class.Firsts.{all-at, implies}
+use Rattle.ll_engine.proofs.class.Firsts as Firsts
 
 contradicts : (a : Bool) → not a ≡ true → a ≡ true → ⊥
 contradicts true e h = false≢true e

@@ -7,7 +7,7 @@ use Rattle.ll_engine.specs.declared.table.Part.{Part}
 use Rattle.ll_engine.specs.declared.table.Part.TheVariants.{Term, Non, Maybe, Many, Chain}
 use Rattle.ll_engine.specs.declared.table.Row.{Row}
 use Rattle.ll_engine.specs.Grammar.{terminal, named, is_optional, IsBlank, Begins}
-use Rattle.sv_tree.proofs.class.BitSets.{IsIn, are_within, in-left, in-right, in-own, in-within}
+use Rattle.ll_engine.proofs.class.BitSets.{IsIn, are_within, in-left, in-right, in-own, in-within}
 
 pub all-at : {A : Type 0} (test : A → Bool) (xs : List A) (i : ℕ) (x : A) → list_all test xs ≡ true → slice_get xs i ≡ Some x → test x ≡ true
 all-at test [] i x e h = cc
