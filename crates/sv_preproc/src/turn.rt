@@ -23,7 +23,7 @@ pub struct Search {
 pub enum Turn {
     /// The expansion goes on.
     Go,
-    /// It goes on with a file.
+    /// It goes on with a file. The box keeps a turn small.
     Look(Box<Search>),
     /// It is done.
     Done,
