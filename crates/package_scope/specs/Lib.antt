@@ -1,0 +1,4 @@
+pub mod Tables
+pub mod Lookup
+pub mod Rules
+pub mod Index
