@@ -1,4 +1,3 @@
-pub mod class
 pub mod Rows
 pub mod Fitness
 pub mod Derivations

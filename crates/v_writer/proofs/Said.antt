@@ -18,8 +18,8 @@ use Rattle.v_tree.specs.Meaning.{row_meanings, by_row, token_part}
 use Rattle.v_tree.specs.Reading.{nesting_limit}
 use Rattle.v_tree.proofs.Fitness.{first, blank, firsts-closed}
 use Rattle.v_tree.proofs.Induction.{Each}
-use Rattle.v_tree.proofs.class.BitSets.{has}
-use Rattle.v_tree.proofs.class.Firsts as Firsts
+use Rattle.ll_engine.proofs.class.BitSets.{has}
+use Rattle.ll_engine.proofs.class.Firsts as Firsts
 use Rattle.v_writer.specs.Layout.{Piece, token, space, line, mark, tokens_of, further, listed}
 use Rattle.v_writer.proofs.Phrases.{Phrase, Derived, front, ended, symbol-read, by-row, non-read, maybe-read, many-read, left-out, tokens-are}
 use Rattle.v_writer.proofs.Pieces.{IsRead, ends, line-on, space-on, tokens-append, comma-on}

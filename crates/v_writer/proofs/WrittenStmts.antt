@@ -36,8 +36,8 @@ use Rattle.v_tree.proofs.Fits.{form_of_case, lval-name-fit, lval-concat-fit, stm
 use Rattle.v_tree.proofs.Induction.{Each, Perhaps, ind-lval, StmtSteps, ind-stmt, ind-branch}
 use Rattle.std.specs.Int.{bit_at}
 use Rattle.v_tree.proofs.Fitness.{first, blank, firsts-closed}
-use Rattle.v_tree.proofs.class.BitSets.{has, disjoint, apart}
-use Rattle.v_tree.proofs.class.Firsts as Firsts
+use Rattle.ll_engine.proofs.class.BitSets.{has, disjoint, apart}
+use Rattle.ll_engine.proofs.class.Firsts as Firsts
 use Rattle.v_tree.proofs.Rows as Rows
 use Rattle.v_writer.specs.Layout.{Piece, space, line, word, mark, name, whole, tokens_of, perhaps, listed, in_turn, sel_layout, expr_layout, lval_layout, range_layout, local_layout, lines, store_mark, stored, label_layout, case_word, case_head, stmt_layout, case_layout, branch_layout, else_of}
 use Rattle.v_writer.proofs.Levels.{lval-name-layout, lval-concat-layout, stmt-block-layout, stmt-if-layout, stmt-case-layout, stmt-assign-layout, branch-statement-layout, branch-empty-layout, case-item-layout, case-default-layout}

@@ -2,8 +2,9 @@ use Rattle.std.proofs.Common.{◌≡◌, List, ℕ, length, Ok, Err, ap, subst, 
 use Rattle.ll_engine.specs.declared.table.Row.{Row}
 use Rattle.ll_engine.specs.Class.{BreaksAt}
 use Rattle.ll_engine.specs.Answers.{NewGives}
+use Rattle.ll_engine.proofs.class.Sets.{never_unfit}
 use Rattle.v_tree.specs.Table.{table}
-use Rattle.v_tree.proofs.Fitness.{table-fits, table_length, never-unfit}
+use Rattle.v_tree.proofs.Fitness.{table-fits, table_length}
 use Rattle.v_tree.proofs.reader.grammar.Goals as goal
 
 pub new-requires : goal.new-requires
@@ -18,7 +19,7 @@ unreachable-requires c =
     let at : ℕ = c.in-Err-Unfit.field-0-0 in
     let given : BreaksAt c.in_ok-grammar_rows.field-0 at =
     subst (λ f. NewGives c.in_ok-grammar_rows.field-0 (Err f)) c.in-Err-Unfit.field-0-is c.in-Err-Unfit.ensures in
-    never-unfit table table-fits at (subst (λ (t : List Row). BreaksAt t at) rows given)
+    never_unfit table table-fits at (subst (λ (t : List Row). BreaksAt t at) rows given)
 
 pub returns-in-Ok : goal.returns-in-Ok
 returns-in-Ok c =

@@ -1,3 +1,0 @@
-pub mod BitSets
-pub mod Firsts
-pub mod Keeping
