@@ -1,5 +1,5 @@
 -- The machine of the lowered design extends the source's.
-use Rattle.std.proofs.Common.{◌≡◌, ℕ, suc, ◌+◌, ◌<◌, ◌≤◌, Bool, true, false, not, ◌&&◌, ◌||◌, cond, List, [], ◌∷◌, ◌++◌, map, flat_map, length, slice_index_or, Some, refl, sym, ap, subst, ◌∙◌, inl, inr, arith}
+use Rattle.std.proofs.Common.{◌≡◌, ℕ, suc, ◌+◌, ◌<◌, ◌≤◌, Bool, true, false, not, ◌&&◌, ◌||◌, cond, List, [], ◌∷◌, ◌++◌, map, length, slice_index_or, Some, refl, sym, ap, subst, ◌∙◌, inl, inr, arith}
 use Rattle.std.specs.List.{slice_get, list_any, AllZip}
 use Rattle.std.proofs.lemmas.Bool.{or_cases, or_left, false≢true, eqb-true}
 use Rattle.b4_core.specs.declared.bit.Bit4.{Bit4}
@@ -43,7 +43,7 @@ use Rattle.lower_design.proofs.Hangs.{stmt-tame}
 use Rattle.lower_design.proofs.Sound.{at-number, comb-member, comb-writes, edge-member, edge-writes, sound}
 use Rattle.lower_design.proofs.Refinement.{ReadsMore, CombBelow, EdgeBelow, SameBelow, Extends, under_own, translates}
 use Rattle.lower_design.proofs.Items.{image_of, images, helpers, values, target_in, target_by, target, has_comb, all-signals, all-initials, all-processes, top-items, range_keeps, ts, found-at, found-below, trigger-found}
-use Rattle.lower_design.proofs.Machines.{has-flat, below-get, edge-same, driver-same, comb-same}
+use Rattle.lower_design.proofs.Machines.{below-get, edge-same, driver-same, comb-same}
 
 -- the inputs are the same
 inputs-same : (driven : ℕ → Bool) (b : Bool) (k : ℕ) (ss : List Signal) → ((s : Signal) → Member ss s → 1 ≤ s.width)

@@ -1,10 +1,10 @@
 -- A trace doesn't look at what processes are said to read and write.
-use Rattle.std.proofs.Common.{◌≡◌, ◌≤◌, ◌<◌, ℕ, zero, suc, Bool, true, false, not, cond, ◌&&◌, ◌||◌, List, [], ◌∷◌, refl, sym, ap, ◌∙◌, subst, arith}
+use Rattle.std.proofs.Common.{◌≡◌, ◌≤◌, ℕ, zero, suc, Bool, not, cond, ◌&&◌, ◌||◌, List, [], ◌∷◌, refl, sym, ap, ◌∙◌, subst, arith}
 use Rattle.std.specs.List.{AllZip, list_any}
-use Rattle.row_machine.specs.Valuation.{Place, Valuation, Changes, has, changed, only_if, put, put_each}
-use Rattle.row_machine.specs.Machine.{Process, EdgeProcess, Machine, Started, at_zero, told, base_of, after_edges}
+use Rattle.row_machine.specs.Valuation.{Valuation, Changes, only_if, put, put_each}
+use Rattle.row_machine.specs.Machine.{Process, Machine, Started, at_zero, told, base_of, after_edges}
 use Rattle.row_machine.specs.Settle.{Settled, SettlesBy, ends, goes_on, differs, woken, adds}
-use Rattle.row_machine.specs.Trace.{RowStepBy, TraceBy, done, row, HasTrace}
+use Rattle.row_machine.specs.Trace.{RowStepBy, TraceBy, done, row}
 use Rattle.row_machine.specs.Rounds.{round, after_rounds, written_bits, Reaches}
 use Rattle.row_machine.specs.Footprints.{RunAlike, UpdateAlike, SameRuns, SameTraces}
 
@@ -84,8 +84,7 @@ module _ (d e : Machine) (same : SameRuns d e) where
     step : (r last held v : Valuation) (s t s' : Started) → Alike s s' → RowStepBy A d r last held s t v → (t' : Started) × RowStepBy B e r last held s' t' v × Alike t t'
     step r last held v s t s' h a =
         let first = settles a.inputs_settle s' h in
-        let second = settles a.updates_settle first.0 first.2 in
-        (
+        let second = settles a.updates_settle first.0 first.2 in (
           second.0,
           record {
             quiet = a.quiet;

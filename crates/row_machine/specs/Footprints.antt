@@ -1,5 +1,5 @@
 -- Machines whose processes run alike, and are said to read and write other bits. A trace doesn't look at these.
-use Rattle.std.specs.Prelude.{◌≡◌, ◌↔◌, ◌≤◌, Bool, List}
+use Rattle.std.specs.Prelude.{◌≡◌, ◌↔◌, ◌≤◌, List}
 use Rattle.std.specs.List.{AllZip}
 use Rattle.row_machine.specs.Valuation.{Place, Valuation, has}
 use Rattle.row_machine.specs.Machine.{Process, EdgeProcess, Machine}

@@ -1,5 +1,5 @@
 -- Lists of numbers of signals.
-use Rattle.std.specs.Prelude.{ℕ, ◌==◌, Bool, true, false, not, ◌&&◌, ◌||◌, List, [], ◌∷◌, if◌then◌else◌}
+use Rattle.std.specs.Prelude.{ℕ, ◌==◌, Bool, false, ◌||◌, List, [], ◌∷◌, if◌then◌else◌}
 
 -- whether the number is one of these
 abbrev pub holds : List ℕ → ℕ → Bool

@@ -11,7 +11,10 @@ const LONGEST: usize = 1 << 24;
 /// Prints a token.
 fn print(rt: &HostRuntime, token: &VToken) -> io::Result<()> {
     let VToken {
-        symbol, at, size, ..
+        symbol,
+        at,
+        size,
+        ..
     } = token;
     match &token.says {
         Says::Nothing => println!(rt; "{at}+{size} {symbol}"),
