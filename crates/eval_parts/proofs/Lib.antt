@@ -1,0 +1,9 @@
+pub mod TypeKinds
+pub mod Efforts
+pub mod Fitting
+pub mod Steps
+pub mod Nodes
+pub mod Lists
+pub mod Seen
+pub mod Finding
+pub mod Products

@@ -1,0 +1,4 @@
+pub mod Surroundings
+pub mod Answers
+pub mod Limits
+pub mod Places
