@@ -1,5 +1,5 @@
 -- How runs of operands go on, and stop.
-use Rattle.std.proofs.Common.{◌≡◌, ℕ, Bool, List, [], ◌∷◌, Option, Some, None, refl, ap, sym, ◌∙◌, subst}
+use Rattle.std.proofs.Common.{◌≡◌, ℕ, List, [], ◌∷◌, Option, Some, None, refl, ap, sym, ◌∙◌, subst}
 use Rattle.sv_types.specs.Surroundings.{Around, Tally, Stop, onward}
 use Rattle.sv_types.specs.Meanings.{Operand, values_all}
 use Rattle.eval_parts.specs.declared.halt.Halt.{Halt}

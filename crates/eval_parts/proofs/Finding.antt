@@ -1,12 +1,12 @@
 -- Paths that are found, step by step.
-use Rattle.std.proofs.Common.{◌≡◌, ℕ, zero, suc, ◌+◌, ◌^◌, ◌<◌, ◌≤◌, max, min, Bool, true, false, ◌&&◌, cond, ℤ, pos, negsuc, ◌+ℤ◌, ◌≤ℤ◌, ◌<ℤ◌, List, [], ◌∷◌, length, Option, Some, None, Ok, Err, refl, arith, ap, sym, ◌∙◌, subst}
-use Rattle.std.specs.Prelude.{slice_index_or, slice_get, nat_lt, neg_ℤ}
+use Rattle.std.proofs.Common.{◌≡◌, ℕ, ◌+◌, ◌^◌, ◌<◌, ◌≤◌, max, min, Bool, true, false, cond, ℤ, pos, negsuc, ◌+ℤ◌, List, length, Option, Some, Ok, Err, refl, arith, ap, sym, ◌∙◌, subst}
+use Rattle.std.specs.Prelude.{slice_index_or, slice_get, nat_lt}
 use Rattle.std.proofs.lemmas.Int.{ints}
 use Rattle.std.proofs.lemmas.Bool.Decides.{nat_tests}
 use Rattle.b4_core.specs.declared.bit.Bit4.{Bit4}
 use Rattle.b4_core.specs.declared.bit.Bit4.TheVariants.{X}
 use Rattle.b4_core.specs.Vectors.{ext}
-use Rattle.sv_types.specs.Layouts.{Layout, layout, stored}
+use Rattle.sv_types.specs.Layouts.{Layout, stored}
 use Rattle.sv_types.specs.Windows.{Window, nowhere, whole, part, picked, tabulated, seen, at_least_0, member_of, element_of, between, slide}
 use Rattle.sv_types.specs.Surroundings.{Around, Tally, Stop, stopped, onward, is_signal, local_number}
 use Rattle.sv_types.specs.Meanings.{Meaning, Path, selected, reads_root}

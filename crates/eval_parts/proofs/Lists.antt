@@ -1,11 +1,11 @@
 -- Several expressions, valued alone from left to right.
-use Rattle.std.proofs.Common.{◌≡◌, ℕ, zero, suc, ◌+◌, ◌*◌, ◌<◌, ◌≤◌, max, Bool, List, [], ◌∷◌, ◌++◌, length, map, drop, replicate, Option, Ok, Err, refl, arith, ap, sym, ◌∙◌, subst, append_assoc, append-nil}
+use Rattle.std.proofs.Common.{◌≡◌, ℕ, zero, suc, ◌≤◌, Bool, List, [], ◌∷◌, ◌++◌, map, drop, replicate, Option, Ok, Err, refl, arith, ap, sym, ◌∙◌, subst, append_assoc}
 use Rattle.b4_core.specs.declared.bit.Bit4.{Bit4}
 use Rattle.sv_types.specs.declared.expression.Expr.{Expr}
 use Rattle.sv_types.specs.declared.expression.Form.TheVariants as V
 use Rattle.sv_types.specs.Layouts.{Layout, layout, width_of, stacked, repeated}
 use Rattle.sv_types.specs.Surroundings.{Around, Tally, Parameter}
-use Rattle.sv_types.specs.Meanings.{Meaning, Operand, wide, signed, alone, by_itself, values_all, most, total}
+use Rattle.sv_types.specs.Meanings.{Meaning, Operand, wide, alone, by_itself, values_all, most, total}
 use Rattle.sv_types.specs.Operators as O
 use Rattle.sv_types.specs.Expressions.{meaning}
 use Rattle.sv_types.proofs.Levels as L
@@ -16,10 +16,9 @@ use Rattle.sv_types.specs.Values.{bits}
 use Rattle.b4_core.specs.Vectors.{ext}
 use Rattle.eval_parts.specs.declared.halt.Halt.{Halt}
 use Rattle.eval_parts.specs.Surroundings.{running}
-use Rattle.eval_parts.specs.Answers.{Gives, Halts, AllGive, alones}
+use Rattle.eval_parts.specs.Answers.{Gives, Halts, alones}
 use Rattle.eval_parts.specs.Limits.{Fits, AllFit}
 use Rattle.eval_parts.proofs.Efforts.{first-on, first-halts}
-use Rattle.eval_parts.proofs.Fitting.{Keeps, fits}
 use Rattle.eval_parts.proofs.Nodes.{nodes}
 use Rattle.eval_parts.proofs.Steps.{at-form}
 

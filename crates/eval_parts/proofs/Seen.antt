@@ -1,14 +1,13 @@
 -- What select paths read, from what they stand on.
-use Rattle.std.proofs.Common.{◌≡◌, ℕ, zero, suc, ◌+◌, ◌<◌, ◌≤◌, max, min, Bool, true, false, ◌&&◌, cond, ℤ, pos, negsuc, ◌+ℤ◌, ◌≤ℤ◌, ◌<ℤ◌, List, [], ◌∷◌, ◌++◌, length, Option, Some, None, refl, arith, ap, sym, ◌∙◌, subst}
-use Rattle.std.specs.Prelude.{slice_index_or, slice_get, nat_lt, int_le, int_lt, ltb}
-use Rattle.std.proofs.lemmas.Int.{ints}
+use Rattle.std.proofs.Common.{◌≡◌, ℕ, zero, suc, ◌+◌, ◌<◌, ◌≤◌, max, min, Bool, true, false, ◌&&◌, cond, ℤ, pos, negsuc, ◌+ℤ◌, List, [], ◌∷◌, ◌++◌, length, Option, Some, None, refl, arith, ap, sym, ◌∙◌, subst}
+use Rattle.std.specs.Prelude.{slice_index_or, nat_lt, int_le, int_lt}
 use Rattle.std.proofs.lemmas.Bool.Decides.{nat_tests}
 use Rattle.b4_core.specs.declared.bit.Bit4.{Bit4}
 use Rattle.b4_core.specs.declared.bit.Bit4.TheVariants.{X}
-use Rattle.row_machine.specs.Valuation.{Place, Valuation}
-use Rattle.row_machine.specs.Places.{vector_at, bits_from}
+use Rattle.row_machine.specs.Valuation.{Valuation}
+use Rattle.row_machine.specs.Places.{bits_from}
 use Rattle.sv_types.specs.Layouts.{Layout, Part}
-use Rattle.sv_types.specs.Windows.{Window, nowhere, whole, trimmed, part, picked, bit_at, tabulated, seen, at_least_0, member_of, element_of, between, slide, elements, rank, lowest_index}
+use Rattle.sv_types.specs.Windows.{Window, nowhere, trimmed, part, picked, bit_at, tabulated, seen, at_least_0, member_of, element_of, between, slide, elements, rank, lowest_index}
 use Rattle.sv_types.proofs.Picks.{tabulated-same}
 use Rattle.eval_parts.specs.Places.{bit_or_x}
 

@@ -1,5 +1,5 @@
 -- What each form gives, from what its parts gave.
-use Rattle.std.proofs.Common.{◌≡◌, ℕ, ◌+◌, ◌<◌, ◌≤◌, max, Bool, ◌||◌, cond, length, map, List, [], ◌∷◌, Option, Ok, Err, refl, arith, ap, sym, ◌∙◌, subst}
+use Rattle.std.proofs.Common.{◌≡◌, ℕ, ◌<◌, ◌≤◌, Bool, ◌||◌, cond, length, List, [], ◌∷◌, Option, Ok, Err, refl, arith, ap, sym, ◌∙◌, subst}
 use Rattle.b4_core.specs.declared.bit.Bit4.{Bit4}
 use Rattle.b4_core.specs.declared.operators.UnOp.{UnOp}
 use Rattle.b4_core.specs.declared.operators.BinOp.{BinOp}
@@ -16,14 +16,12 @@ use Rattle.b4_core.specs.Shift.{shift_value}
 use Rattle.b4_core.specs.Power.{power_value}
 use Rattle.b4_core.specs.Reduce.{reduction}
 use Rattle.b4_core.specs.Compare.{order_value, equality}
-use Rattle.sv_types.specs.declared.types.Value.{Value}
 use Rattle.sv_types.specs.declared.expression.Expr.{Expr}
 use Rattle.sv_types.specs.declared.expression.Form.{Form}
 use Rattle.sv_types.specs.declared.expression.Form.TheVariants as V
-use Rattle.sv_types.specs.Values.{bits}
 use Rattle.sv_types.specs.Layouts.{Layout, layout, stored}
 use Rattle.sv_types.specs.Surroundings.{Around, Parameter}
-use Rattle.sv_types.specs.Meanings.{Meaning, Operand, wide, signed, in_context, by_itself, at_width}
+use Rattle.sv_types.specs.Meanings.{Meaning, wide, signed, in_context, by_itself, at_width}
 use Rattle.sv_types.specs.Operators as O
 use Rattle.sv_types.specs.Expressions.{meaning}
 use Rattle.sv_types.proofs.Levels as L

@@ -1,5 +1,5 @@
 -- The layouts of types, kind by kind, and the types of expressions.
-use Rattle.std.proofs.Common.{◌≡◌, ◌≤◌, ◌<◌, ◌*◌, ℕ, zero, suc, ℤ, Bool, length, ap, arith, sym}
+use Rattle.std.proofs.Common.{◌≡◌, ◌≤◌, ◌<◌, ◌*◌, ℕ, zero, suc, ℤ, Bool, length, ap, arith}
 use Rattle.std.proofs.Math.Nat.{suc-mul}
 use Rattle.sv_types.specs.declared.types.SvType.{SvType}
 use Rattle.sv_types.specs.declared.types.SvType.TheVariants as V

@@ -1,9 +1,9 @@
 -- What signals and locals hold, and a run that goes on.
-use Rattle.std.specs.Prelude.{ℕ, ◌-◌, ◌^◌, Bool, cond, List, Option, Some, None, is_some, slice_index_or}
+use Rattle.std.specs.Prelude.{ℕ, ◌-◌, ◌^◌, cond, List, Option, Some, None, slice_index_or}
 use Rattle.b4_core.specs.declared.bit.Bit4.{Bit4}
 use Rattle.b4_core.specs.declared.bit.Bit4.TheVariants.{X}
-use Rattle.row_machine.specs.Valuation.{Place, Valuation}
-use Rattle.sv_types.specs.Surroundings.{Around, Tally, is_signal}
+use Rattle.row_machine.specs.Valuation.{Valuation}
+use Rattle.sv_types.specs.Surroundings.{Tally, is_signal}
 
 -- a bit of what is held: x where nothing is, which a two-state type stores as 0
 abbrev pub held_bit : Option (List Bit4) → ℕ → Bit4

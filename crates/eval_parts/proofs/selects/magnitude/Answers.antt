@@ -1,7 +1,6 @@
 -- One digit more.
 use Rattle.std.proofs.Common.{◌≡◌, ◌+◌, ◌-◌, ◌*◌, ◌<◌, ◌^◌, drop, length, arith, ap, sym, ◌∙◌, subst}
 use Rattle.b4_core.specs.Vectors.{num}
-use Rattle.b4_core.specs.declared.bit.Bit4.TheVariants.{Zero}
 use Rattle.eval_parts.proofs.Products.{next-num, rest-below}
 use Rattle.eval_parts.proofs.selects.magnitude.Goals as goal
 
