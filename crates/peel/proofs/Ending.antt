@@ -1,9 +1,8 @@
 -- What the steps cost, and what their end says.
-use Rattle.std.proofs.Common.{◌≡◌, ◌⊎◌, ℕ, zero, suc, ◌+◌, ◌-◌, ◌*◌, ◌<◌, ◌≤◌, Bool, true, false, cond, List, [], ◌∷◌, ◌++◌, length, take, set, slice_index_or, refl, sym, ap, ◌∙◌, subst, inl, inr, arith, length-append, length-take-le}
+use Rattle.std.proofs.Common.{◌≡◌, ◌⊎◌, ℕ, zero, suc, ◌+◌, ◌-◌, ◌<◌, ◌≤◌, true, false, cond, List, [], ◌∷◌, ◌++◌, length, set, slice_index_or, refl, sym, ap, ◌∙◌, subst, inl, inr, arith, length-append, length-take-le}
 use Rattle.std.proofs.lemmas.List.{get_or_default}
 use Rattle.std.proofs.lemmas.Bool.{cases_eq}
 use Rattle.row_machine.specs.Valuation.{Member}
-use Rattle.row_machine.specs.Stuck.{Distinct}
 use Rattle.row_machine.proofs.Members.{member-place, append-member, member-front, member-back}
 use Rattle.row_machine.proofs.Basics.{member_at}
 use Rattle.peel.specs.Peeled.{needed, Ascending, IsPeeled}
@@ -234,6 +233,7 @@ peeled_at_end needs s left g ended met are = record {
       where
         not_both : (m : Mark) → m ≡ Fresh → m ≡ Done → ⊥
         not_both m a b = cc
+
     held_low : (p : ℕ) → mark_in s.marks p ≡ Held → p < length needs
     held_low p e = omega (arith, is_low s.marks p (λ f. not_both (mark_in s.marks p) f e), g.marked)
       where

@@ -1,13 +1,13 @@
 -- The steps keep what holds while the numbers are put in order.
-use Rattle.std.proofs.Common.{◌≡◌, ◌⊎◌, ℕ, zero, suc, ◌+◌, ◌-◌, ◌*◌, ◌<◌, ◌≤◌, Bool, true, false, cond, List, [], ◌∷◌, ◌++◌, length, take, set, replicate, slice_index_or, refl, sym, ap, ◌∙◌, subst, inl, inr, arith, length-set, length-take-le, get_or-take}
-use Rattle.std.proofs.lemmas.Bool.{cases_order, cases_eq}
+use Rattle.std.proofs.Common.{◌≡◌, ◌⊎◌, ℕ, zero, suc, ◌+◌, ◌-◌, ◌<◌, ◌≤◌, List, [], ◌∷◌, ◌++◌, length, take, set, replicate, slice_index_or, refl, sym, ap, ◌∙◌, subst, inl, inr, arith, length-set, length-take-le, get_or-take}
+use Rattle.std.proofs.lemmas.Bool.{cases_order}
 use Rattle.std.proofs.lemmas.List.{get_or_default, length-replicate}
 use Rattle.row_machine.specs.Valuation.{Member}
 use Rattle.row_machine.specs.Stuck.{Distinct}
 use Rattle.row_machine.proofs.Members.{member-place, append-member, member-front, member-back}
 use Rattle.row_machine.proofs.Basics.{member_at}
 use Rattle.peel.specs.Peeled.{needed}
-use Rattle.peel.specs.Steps.{mark_in, NoneOpen, Met, NeedsHeld, Going, held_too, finished, given_up, looked, last_of}
+use Rattle.peel.specs.Steps.{mark_in, NoneOpen, NeedsHeld, Going, held_too, finished, given_up, looked, last_of}
 use Rattle.peel.specs.declared.peeling.Mark.{Mark}
 use Rattle.peel.specs.declared.peeling.Mark.TheVariants.{Fresh, Held, Done}
 use Rattle.peel.specs.declared.peeling.Peeling.{Peeling}
@@ -263,11 +263,14 @@ going-start needs s marks seen path order = record {
     fresh_at zero p = refl
     fresh_at (suc n) zero = refl
     fresh_at (suc n) (suc p) = fresh_at n p
+
     zero_at : (n p : ℕ) → slice_index_or (replicate n zero) p zero ≡ zero
     zero_at zero p = refl
     zero_at (suc n) zero = refl
     zero_at (suc n) (suc p) = zero_at n p
+
     all_fresh : (p : ℕ) → mark_in s.marks p ≡ Fresh
     all_fresh p = ap (λ ms. mark_in ms p) marks ∙ fresh_at (length needs) p
+
     none_seen : (p : ℕ) → slice_index_or s.seen p 0 ≡ 0
     none_seen p = ap (λ ks. slice_index_or ks p 0) seen ∙ zero_at (length needs) p

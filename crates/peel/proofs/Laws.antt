@@ -1,14 +1,14 @@
 -- The proofs of the laws, as crates above cite them.
-use Rattle.std.proofs.Common.{◌≡◌, ◌⊎◌, ℕ, zero, suc, ◌+◌, ◌<◌, ◌≤◌, Bool, true, false, List, [], ◌∷◌, ◌++◌, length, take, drop, map, slice_index_or, refl, sym, ap, ◌∙◌, subst, inl, inr, arith}
+use Rattle.std.proofs.Common.{◌≡◌, ℕ, zero, suc, ◌<◌, ◌≤◌, true, false, List, [], ◌∷◌, length, take, slice_index_or, sym, ap, ◌∙◌, subst, inl, inr, arith}
 use Rattle.std.proofs.lemmas.List.{append-nil, get_or_default}
 use Rattle.row_machine.specs.Valuation.{Member}
 use Rattle.row_machine.specs.Machine.{Process}
 use Rattle.row_machine.specs.Order.{Free, free, follows, Ordered}
-use Rattle.row_machine.specs.Stuck.{Distinct, Stuck, at_places, IsOrderOfPlaces}
+use Rattle.row_machine.specs.Stuck.{Stuck, at_places, IsOrderOfPlaces}
 use Rattle.row_machine.proofs.Basics.{true_or_false, member_at}
 use Rattle.row_machine.proofs.Members.{member-place, member-front, member-back, map-member, member-map}
 use Rattle.row_machine.proofs.Laws as Machine
-use Rattle.peel.specs.Peeled.{needed, IsPeeled}
+use Rattle.peel.specs.Peeled.{IsPeeled}
 use Rattle.peel.specs.Laws.{NeedsFollowed, PeeledIsAnOrder, OrderedAreFree, RestIsStuck}
 use Rattle.peel.proofs.Lists.{distinct_places, place-in_take, distinct-front}
 
@@ -32,10 +32,10 @@ module _ (ps : List Process) (d : Process) (needs : List (List ℕ)) (tied : Nee
     free_at zero i below low = absurd (omega arith)
     free_at (suc n) i below low =
         free (λ q m f.
-          let k = member-place ps q m in
-          let same : at k.0 ≡ q = get_or_default ps k.0 d q k.1 ∙ k.2 in
-          let j = place-in_take order i k.0 (stands_before i k.0 low k.1 (ap (follows (at (slice_index_or order i 0))) same ∙ f)) in
-          subst (Free ps) (ap at j.3 ∙ same) (free_at n j.0 (omega (arith, j.1)) j.2)
+        let k = member-place ps q m in
+        let same : at k.0 ≡ q = get_or_default ps k.0 d q k.1 ∙ k.2 in
+        let j = place-in_take order i k.0 (stands_before i k.0 low k.1 (ap (follows (at (slice_index_or order i 0))) same ∙ f)) in
+        subst (Free ps) (ap at j.3 ∙ same) (free_at n j.0 (omega (arith, j.1)) j.2)
         )
 
     pub ordered_free : (p : ℕ) → Member order p → Free ps (at p)
@@ -48,11 +48,11 @@ module _ (ps : List Process) (d : Process) (needs : List (List ℕ)) (tied : Nee
       where
         within : (p : Process) → Member (at_places ps d left) p → Member ps p
         within p m = let k = map-member at left p m in subst (Member ps) (sym k.2) (member_at ps k.0 d (left_low k.0 k.1))
+
         next : (p : Process) → Member (at_places ps d left) p → (q : Process) × Member (at_places ps d left) q × (follows p q ≡ true)
         next p m =
             let k = map-member at left p m in
-            let r = peeled.waiting k.0 k.1 in
-            (
+            let r = peeled.waiting k.0 k.1 in (
               at r.0,
               member-map at left r.0 r.2,
               subst (λ x. follows x (at r.0) ≡ true) (sym k.2) (tied.followed k.0 r.0 (left_low k.0 k.1) (left_low r.0 r.2) r.1),
@@ -75,7 +75,7 @@ module _ (ps : List Process) (d : Process) (needs : List (List ℕ)) (tied : Nee
     none_later i j le low =
         elim (true_or_false (follows (at (slice_index_or order i 0)) (at (slice_index_or order j 0)))) [
           | inl t ↦ (let k = place-in_take order i (slice_index_or order j 0)
-                (stands_before order [] peeled i (slice_index_or order j 0) (omega arith) (ordered_low order [] peeled (slice_index_or order j 0) (member_at order j 0 low)) t) in
+              (stands_before order [] peeled i (slice_index_or order j 0) (omega arith) (ordered_low order [] peeled (slice_index_or order j 0) (member_at order j 0 low)) t) in
               absurd (distinct_places order k.0 j (distinct-front order [] peeled.distinct) (omega (arith, k.1)) low k.3))
           | inr f ↦ f
         ]

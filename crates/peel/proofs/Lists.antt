@@ -1,10 +1,10 @@
 -- Lists that grow at their end.
-use Rattle.std.proofs.Common.{◌≡◌, ◌⊎◌, ℕ, zero, suc, ◌+◌, ◌-◌, ◌*◌, ◌<◌, ◌≤◌, Bool, true, false, cond, List, [], ◌∷◌, ◌++◌, length, take, set, slice_index_or, refl, sym, ap, ◌∙◌, subst, inl, inr, arith, length-append, length-set, get_or-set_same, get_or-set_other}
+use Rattle.std.proofs.Common.{◌≡◌, ◌⊎◌, ℕ, zero, suc, ◌+◌, ◌-◌, ◌<◌, List, [], ◌∷◌, ◌++◌, length, take, set, slice_index_or, refl, sym, ap, ◌∙◌, subst, inl, inr, arith, length-append, get_or-set_same, get_or-set_other}
 use Rattle.std.proofs.lemmas.Bool.{cases_eq, cases_order}
 use Rattle.std.proofs.lemmas.List.{take-append-le, take_at, take_more, take_all, get_or_append_left, get_or_at}
 use Rattle.row_machine.specs.Valuation.{Member}
 use Rattle.row_machine.specs.Stuck.{Distinct}
-use Rattle.row_machine.proofs.Members.{member-place, append-member, member-front, member-back}
+use Rattle.row_machine.proofs.Members.{append-member, member-front, member-back}
 use Rattle.row_machine.proofs.Basics.{member_at}
 use Rattle.peel.specs.Peeled.{needed, Ascending}
 
@@ -30,8 +30,7 @@ distinct-more (x ∷ xs) p distinct new = (
 pub distinct-fewer : (xs : List ℕ) (p : ℕ) → Distinct (xs ++ p ∷ []) → Distinct xs × (Member xs p → ⊥)
 distinct-fewer [] p distinct = (tt, λ m. m)
 distinct-fewer (x ∷ xs) p distinct =
-    let rest = distinct-fewer xs p distinct.1 in
-    (
+    let rest = distinct-fewer xs p distinct.1 in (
       (λ m. distinct.0 (member-front xs (p ∷ []) x m), rest.0),
       λ m. elim m [ inl e ↦ distinct.0 (member-back xs (p ∷ []) x (inl (sym e))) | inr r ↦ rest.1 r ],
     )

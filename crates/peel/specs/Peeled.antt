@@ -1,5 +1,5 @@
 -- An order of things that need each other, and those that no order holds.
-use Rattle.std.specs.Prelude.{◌≡◌, ℕ, ◌<◌, ⊤, List, [], ◌∷◌, ◌++◌, length, take, slice_index_or}
+use Rattle.std.specs.Prelude.{ℕ, ◌<◌, ⊤, List, [], ◌∷◌, ◌++◌, length, take, slice_index_or}
 use Rattle.row_machine.specs.Valuation.{Member}
 use Rattle.row_machine.specs.Stuck.{Distinct}
 

@@ -8,7 +8,7 @@ mod peeling;
 
 ghost use Rattle.peel.specs.Laws.{OrderedAreFree, PeeledIsAnOrder, RestIsStuck};
 
-pub use peeling::{peel, Peeled};
+pub use peeling::{Peeled, peel};
 
 /// Where each process needs exactly those that it follows, and none is left, the places of `peel` are an order of the
 /// processes: none follows itself or a later one.

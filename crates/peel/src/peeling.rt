@@ -186,7 +186,11 @@ impl Peeling {
     {
         let p = self.last();
         let list = needs_of(needs, p);
-        let k = first_open(self.marks.as_slice(), list, self.seen.as_slice()[p as usize]);
+        let k = first_open(
+            self.marks.as_slice(),
+            list,
+            self.seen.as_slice()[p as usize],
+        );
         if k == list.len() {
             self.finish(p)?;
             return Ok(());

@@ -12,11 +12,11 @@ loop-p-preserved c =
       | then-is_held+in_ok-push w ↦
           subst (λ left. Gathered c.args.marks.now left (c.loop-p.p + 1)) (sym (w.left-is ∙ w.in_ok-push.ensures.ok))
           (gathered-more c.args.marks.now c.loop-p.left c.loop-p.p c.loop-p.invariant
-            (sym c.mark_of.ensures ∙ held-true c.mark_of.result (sym c.is_held.ensures ∙ w.if-is_held.true)))
+          (sym c.mark_of.ensures ∙ held-true c.mark_of.result (sym c.is_held.ensures ∙ w.if-is_held.true)))
       | else-is_held w ↦
           subst (λ left. Gathered c.args.marks.now left (c.loop-p.p + 1)) (sym w.left-is)
           (gathered-same c.args.marks.now c.loop-p.left c.loop-p.p c.loop-p.invariant
-            (λ e. held-false c.mark_of.result (sym c.is_held.ensures ∙ w.if-is_held.false) (c.mark_of.ensures ∙ e)))
+          (λ e. held-false c.mark_of.result (sym c.is_held.ensures ∙ w.if-is_held.false) (c.mark_of.ensures ∙ e)))
     ]
 
 pub returns : goal.returns
