@@ -6,7 +6,7 @@ use Rattle.row_machine.specs.Valuation.{Member}
 use Rattle.row_machine.proofs.Members.{member-place, append-member, member-front, member-back}
 use Rattle.row_machine.proofs.Basics.{member_at}
 use Rattle.peel.specs.Peeled.{needed, Ascending, IsPeeled}
-use Rattle.peel.specs.Steps.{mark_in, is_fresh, is_held, fresh_in, Met, NoneOpen, OpenAt, Going, held_too, finished, given_up, looked, last_of, work, AreHeld}
+use Rattle.peel.specs.Steps.{mark_in, is_fresh, is_held, fresh_in, Met, NoneOpen, OpenAt, Going, held_too, finished, given_up, looked, last_of, work, StepsTo, AreHeld}
 use Rattle.peel.specs.declared.peeling.Mark.{Mark}
 use Rattle.peel.specs.declared.peeling.Mark.TheVariants.{Fresh, Held, Done}
 use Rattle.peel.specs.declared.peeling.Peeling.{Peeling}
@@ -64,9 +64,6 @@ must_be_fresh Fresh e = refl
 must_be_fresh Held e = cc
 must_be_fresh Done e = cc
 
-pub not_fresh : (m : Mark) → is_fresh m ≡ false → m ≡ Fresh → ⊥
-not_fresh m e f = cc
-
 -- the three ways of a step at the end of the path
 module _ (needs : List (List ℕ)) (s : Peeling) (g : Going needs s) (some : 0 < length s.path) (p : ℕ) (is_last : p ≡ last_of s.path) where
   pub last-held : mark_in s.marks p ≡ Held
@@ -75,16 +72,13 @@ module _ (needs : List (List ℕ)) (s : Peeling) (g : Going needs s) (some : 0 <
   pub last-low : p < length needs
   last-low = omega (arith, is_low s.marks p (λ f. held≢fresh (sym last-held ∙ f)), g.marked)
 
-  abbrev pub StepsTo : Peeling → Type 0
-  StepsTo t = Going needs t × ((q : ℕ) → Met s q → Met t q) × (work t < work s)
-
   -- it needs nothing that is open
-  pub step-finished : NoneOpen s.marks (needed needs p) (length (needed needs p)) → StepsTo (finished s p)
-  step-finished none = (
-    going-finished needs s g p last-low some is_last ready,
-    λ q met. met-set s.marks p q Done done≢fresh met,
-    work-finished s p last-held some,
-  )
+  pub step-finished : NoneOpen s.marks (needed needs p) (length (needed needs p)) → StepsTo needs s (finished s p)
+  step-finished none = record {
+    going = going-finished needs s g p last-low some is_last ready;
+    met = λ q met. met-set s.marks p q Done done≢fresh met;
+    falls = work-finished s p last-held some;
+  }
     where
       ready : (q : ℕ) → q < length needs → Member (needed needs p) q → mark_in s.marks q ≡ Done
       ready q low m =
@@ -97,12 +91,12 @@ module _ (needs : List (List ℕ)) (s : Peeling) (g : Going needs s) (some : 0 <
     link = subst (Member (needed needs p)) (sym is) (member_at (needed needs p) k 0 below)
 
     -- it needs one that is fresh
-    pub step-went_on : NoneOpen s.marks (needed needs p) k → q < length s.marks → mark_in s.marks q ≡ Fresh → StepsTo (held_too (looked s p k) q)
-    step-went_on none low fresh = (
-      going-held_too needs (looked s p k) (going-looked needs s g p last-low k (omega arith) none) q (omega (arith, g.marked)) fresh links,
-      λ r met. met-set s.marks q r Held held≢fresh met,
-      work-held_too (looked s p k) q fresh low,
-    )
+    pub step-went_on : NoneOpen s.marks (needed needs p) k → q < length s.marks → mark_in s.marks q ≡ Fresh → StepsTo needs s (held_too (looked s p k) q)
+    step-went_on none low fresh = record {
+      going = going-held_too needs (looked s p k) (going-looked needs s g p last-low k (omega arith) none) q (omega (arith, g.marked)) fresh links;
+      met = λ r met. met-set s.marks q r Held held≢fresh met;
+      falls = work-held_too (looked s p k) q fresh low;
+    }
       where
         links : (i : ℕ) → i + 1 ≡ length s.path → Member (needed needs (slice_index_or s.path i 0)) q
         links i e =
@@ -110,21 +104,21 @@ module _ (needs : List (List ℕ)) (s : Peeling) (g : Going needs s) (some : 0 <
             subst (λ x. Member (needed needs x) q) (is_last ∙ ap (λ j. slice_index_or s.path j 0) last) link
 
     -- it needs one that is held
-    pub step-gave_up : mark_in s.marks q ≡ Held → StepsTo (given_up s)
-    step-gave_up held = (
-      going-given_up needs s g q held (subst (λ x. Member (needed needs x) q) is_last link),
-      λ p met. met,
-      work-given_up s some,
-    )
+    pub step-gave_up : mark_in s.marks q ≡ Held → StepsTo needs s (given_up s)
+    step-gave_up held = record {
+      going = going-given_up needs s g q held (subst (λ x. Member (needed needs x) q) is_last link);
+      met = λ p met. met;
+      falls = work-given_up s some;
+    }
 
   -- the same, said of what the code has read
   module _ (ms : List Mark) (xs : List ℕ) (k : ℕ) (t : Peeling) (is_marks : ms ≡ s.marks) (is_list : xs ≡ needed needs p) (none : NoneOpen ms xs k) where
     none_open : NoneOpen s.marks (needed needs p) k
     none_open = subst (λ ys. NoneOpen s.marks ys k) is_list (subst (λ ns. NoneOpen ns xs k) is_marks none)
 
-    pub stepped-finished : k ≡ length xs → t ≡ finished s p → StepsTo t
+    pub stepped-finished : k ≡ length xs → t ≡ finished s p → StepsTo needs s t
     stepped-finished end is =
-        subst StepsTo (sym is) (step-finished (subst (NoneOpen s.marks (needed needs p)) (end ∙ ap length is_list) none_open))
+        subst (StepsTo needs s) (sym is) (step-finished (subst (NoneOpen s.marks (needed needs p)) (end ∙ ap length is_list) none_open))
 
     module _ (below : k < length xs) (here : k < length xs → OpenAt ms xs k) (ns : List Mark) (m : Mark) (is_marks_still : ns ≡ s.marks) (is_mark : m ≡ mark_in ns (slice_index_or xs k 0)) where
       abbrev next : ℕ
@@ -139,13 +133,13 @@ module _ (needs : List (List ℕ)) (s : Peeling) (g : Going needs s) (some : 0 <
       mark_next : mark_in s.marks next ≡ m
       mark_next = ap (λ ms. mark_in ms next) (sym is_marks_still) ∙ sym is_mark
 
-      pub stepped-on : is_fresh m ≡ true → t ≡ held_too (looked s p k) next → StepsTo t
+      pub stepped-on : is_fresh m ≡ true → t ≡ held_too (looked s p k) next → StepsTo needs s t
       stepped-on fresh is =
-          subst StepsTo (sym is)
+          subst (StepsTo needs s) (sym is)
           (step-went_on k next low is_next none_open (subst (λ ns. next < length ns) is_marks (here below).0) (mark_next ∙ must_be_fresh m fresh))
 
-      pub stepped-back : is_fresh m ≡ false → t ≡ given_up s → StepsTo t
-      stepped-back fresh is = subst StepsTo (sym is) (step-gave_up k next low is_next (mark_next ∙ must_be_held m other fresh))
+      pub stepped-back : is_fresh m ≡ false → t ≡ given_up s → StepsTo needs s t
+      stepped-back fresh is = subst (StepsTo needs s) (sym is) (step-gave_up k next low is_next (mark_next ∙ must_be_held m other fresh))
         where
           other : m ≡ Done → ⊥
           other e = (here below).1 (ap (λ ns. mark_in ns next) is_marks ∙ mark_next ∙ e)

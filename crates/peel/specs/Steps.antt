@@ -28,7 +28,7 @@ NoneOpen marks list n = (k : ℕ) → k < n → slice_index_or list k 0 < length
 abbrev pub OpenAt : List Mark → List ℕ → ℕ → Type 0
 OpenAt marks list k = (slice_index_or list k 0 < length marks) × (mark_in marks (slice_index_or list k 0) ≡ Done → ⊥)
 
--- the number is none that nobody asked for
+-- something asked for the number
 abbrev pub Met : Peeling → ℕ → Type 0
 Met s p = mark_in s.marks p ≡ Fresh → ⊥
 
@@ -76,6 +76,12 @@ fresh_in (m ∷ ms) = cond (is_fresh m) 1 0 + fresh_in ms
 -- what is left to do at most
 abbrev pub work : Peeling → ℕ
 work s = 2 * fresh_in s.marks + length s.path
+
+-- a step keeps what holds, asks for no less, and leaves less to do
+pub record StepsTo (needs : List (List ℕ)) (s t : Peeling) : Type 0 where
+  pub going : Going needs t
+  pub met : (p : ℕ) → Met s p → Met t p
+  pub falls : work t < work s
 
 -- the last number of the path
 abbrev pub last_of : List ℕ → ℕ

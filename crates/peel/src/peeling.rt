@@ -4,7 +4,7 @@ ghost use Rattle.std.specs.Prelude.{◌≡◌, ℕ, ◌-◌, ◌<◌, ◌≤◌,
 ghost use Rattle.row_machine.specs.Valuation.{Member};
 ghost use Rattle.peel.specs.Peeled.{needed, IsPeeled};
 ghost use Rattle.peel.specs.Steps as spec;
-ghost use Rattle.peel.specs.Steps.{mark_in, NoneOpen, OpenAt, Met, Going, AreHeld, work, last_of};
+ghost use Rattle.peel.specs.Steps.{mark_in, NoneOpen, OpenAt, Met, Going, AreHeld, StepsTo, last_of};
 ghost use Rattle.peel.specs.declared.peeling.Mark.TheVariants.{Fresh, Done};
 
 use sqlite_items::Items;
@@ -180,9 +180,7 @@ impl Peeling {
     fn step(&mut self, alloc: Global, needs: &[Items<u32>]) -> Result<(), AllocError>
         requires going { Going needs.now self.old }
         requires some { 0 < length self.old.path }
-        ensures going { OnOk result (Going needs.now self.new) }
-        ensures met { OnOk result ((p : ℕ) → Met self.old p → Met self.new p) }
-        ensures falls { OnOk result (work self.new < work self.old) }
+        ensures { OnOk result (StepsTo needs.now self.old self.new) }
     {
         let p = self.last();
         let list = needs_of(needs, p);
@@ -250,8 +248,8 @@ fn held_numbers(alloc: Global, marks: &[Mark]) -> Result<Items<u32>, AllocError>
 }
 
 /// The numbers below the length of `needs` in an order in which each needs only earlier ones, and those that have no
-/// place in it. `needs` has for each number those that it needs; numbers past its end ask for nothing. Time and memory are
-/// linear in the numbers and the entries. An error where memory runs out.
+/// place in it. `needs` has for each number those that it needs; numbers past its end ask for nothing. An error where
+/// memory runs out. It takes a linear number of steps in the numbers and the entries; no clause says so.
 pub fn peel(alloc: Global, needs: &[Items<u32>]) -> Result<Peeled, AllocError>
     requires { length needs.now ≤ 4294967296 }
     ensures { IfOk result (λ r. IsPeeled needs.now r.order r.left) }
