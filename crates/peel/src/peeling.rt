@@ -20,7 +20,7 @@ pub struct Peeled {
 }
 
 /// How far a number has come.
-#[derive(Clone, Copy, PartialEq, Eq, Debug)]
+#[derive(Clone, Copy)]
 pub enum Mark {
     /// Nothing asked for it yet.
     Fresh,
@@ -31,7 +31,7 @@ pub enum Mark {
 }
 
 /// A walk along needs that are open.
-#[derive(Debug, Drop)]
+#[derive(Drop)]
 pub struct Peeling {
     /// Of each number how far it has come.
     pub marks: Items<Mark>,
