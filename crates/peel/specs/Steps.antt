@@ -32,7 +32,7 @@ OpenAt marks list k = (slice_index_or list k 0 < length marks) × (mark_in marks
 abbrev pub Met : Peeling → ℕ → Type 0
 Met s p = mark_in s.marks p ≡ Fresh → ⊥
 
--- p needs one that is held, and doesn't stand on the path
+-- p needs one that is held and isn't on the path
 abbrev pub NeedsHeld : List (List ℕ) → Peeling → ℕ → Type 0
 NeedsHeld needs s p = (q : ℕ) × Member (needed needs p) q × (mark_in s.marks q ≡ Held) × (Member s.path q → ⊥)
 
