@@ -1,0 +1,3 @@
+pub mod Peeled
+pub mod Steps
+pub mod Laws
