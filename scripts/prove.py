@@ -48,9 +48,13 @@ def copies_of(logs):
 def copied(name, needs, folder):
     """A copy of the crate and of those below it, with what an earlier check of it kept."""
     os.makedirs(f"{folder}/crates", exist_ok=True)
-    for it in ("crates.txt", "HANDLES"):
-        shutil.copy2(f"{ROOT}/{it}", folder)
-    for crate in in_order(needs, name):
+    shutil.copy2(f"{ROOT}/HANDLES", folder)
+    crates = in_order(needs, name)
+    with open(f"{ROOT}/crates.txt", encoding="utf-8") as file:
+        lines = [line for line in file if line.partition(":")[0] in crates]
+    with open(f"{folder}/crates.txt", "w", encoding="utf-8") as file:
+        file.writelines(lines)
+    for crate in crates:
         for part in TEXTS:
             shutil.rmtree(f"{folder}/crates/{crate}/{part}", ignore_errors=True)
             if os.path.isdir(f"{ROOT}/crates/{crate}/{part}"):
