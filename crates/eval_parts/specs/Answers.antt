@@ -8,12 +8,13 @@ use Rattle.eval_parts.specs.declared.halt.Halt.{Halt}
 use Rattle.eval_parts.specs.declared.halt.Halt.TheVariants as H
 use Rattle.eval_parts.specs.Surroundings.{running}
 
--- what an expression's bits are, at a width and sign, and what is left of the run
+-- a run that stops for this cause
 abbrev pub Halts : Halt → Tally → Type 0
 Halts H.Memory t = ⊤
 Halts (H.NotHeld n) t = t.stop ≡ Some (Stop.NotHeld n)
 Halts H.Turns t = t.stop ≡ Some Stop.Turns
 
+-- what an expression's bits are, at a width and sign, and what is left of the run
 abbrev pub Gives : Result (List Bit4) Halt → Meaning → ℕ → Bool → Around → Option ℕ → Option ℕ → Type 0
 Gives (Ok v) m w s a old new = (v ≡ m.value w s a) × (m.values a (running old) ≡ running new)
 Gives (Err halt) m w s a old new = Halts halt (m.values a (running old))

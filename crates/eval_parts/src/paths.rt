@@ -17,11 +17,11 @@ pub struct Window {
 /// What a path stands on.
 #[derive(Drop)]
 pub enum Root {
-    // The signal with a number.
+    /// The signal with a number.
     Signal(u32),
-    // The local with a number.
+    /// The local with a number.
     Local(u32),
-    // Bits of a value.
+    /// Bits of a value.
     Value(Vec4),
 }
 

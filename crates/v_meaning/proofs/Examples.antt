@@ -324,7 +324,8 @@ last_initial_counts : shown 4 shifting 3 1 ((codes "0" ∷ codes "0" ∷ []) ∷
 unfolding reference assignment name_target has
 last_initial_counts = refl
 
--- assign a = en ? d : a: a bit that a process writes keeps its current value, also where the process reads it itself
+-- an `assign` gives a the value of d where en is 1, else that of a: a bit that a process writes keeps its current value,
+-- also where the process reads it itself
 abbrev loop_signals : List Signal
 loop_signals = an_input 1 (codes "en") ∷ an_input 1 (codes "d") ∷ a_signal net 1 (codes "a") ∷ []
 
