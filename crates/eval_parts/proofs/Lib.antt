@@ -7,3 +7,10 @@ pub mod Lists
 pub mod Seen
 pub mod Finding
 pub mod Products
+pub mod Near
+pub mod Valued
+pub mod Selects
+pub mod Roots
+pub mod Members
+pub mod Logs
+pub mod Streams

@@ -6,17 +6,25 @@
 mod contexts;
 mod halt;
 mod layouts;
+mod logs;
+mod members;
 mod paths;
 mod reads;
 mod selects;
+mod steps;
+mod streams;
 mod vectors;
 
 pub use contexts::{are_signed, own_sign, own_width, wider};
 pub use halt::Halt;
 pub use layouts::{Bounds, bounds_of, converted, is_signed};
+pub use logs::clog2;
+pub use members::member_at;
 pub use paths::{Found, Root, Window, entire, nothing, part_of};
 pub use reads::read;
 pub use selects::{between_at, element_at, index_of, slide_at};
+pub use steps::{Step, can_be_read, step_of};
+pub use streams::stream;
 pub use vectors::{
     chosen, cut, equality_bit, extended, filled, is_known, literal, one_bit, repeat, stack,
 };

@@ -248,9 +248,11 @@ passed fs ms a = map (λ p. assigned_to p.0.two_state p.1 a) (zip fs ms)
 abbrev pub unlimited : Tally
 unlimited = record { left = None; stop = None }
 
--- a call runs the function once its actuals are valued
+-- a call runs the function once what is passed is valued
 abbrev pub calls : ℕ → List Meaning → Around → Tally → Tally
-calls f ms a t = onward ((a.callee f).effort (passed (a.callee f).formals ms a)) (values_all (map by_itself ms) a t)
+calls f ms a t =
+    let formals = (a.callee f).formals in
+    onward ((a.callee f).effort (passed formals ms a)) (values_all (map (λ p. by_itself p.1) (zip formals ms)) a t)
 
 unfoldable pub call : Layout → ℕ → ℕ → List Meaning → Meaning
 call of at f ms =

@@ -1,0 +1,42 @@
+-- Slices of vectors.
+use Rattle.std.proofs.Common.{◌≡◌, ℕ, zero, suc, ◌+◌, ◌-◌, ◌*◌, ◌<◌, ◌≤◌, List, [], ◌∷◌, ◌++◌, length, take, drop, true, min, refl, arith, ap, sym, ◌∙◌, subst}
+use Rattle.std.proofs.lemmas.List.{length-drop, drop-drop, take_all}
+use Rattle.b4_core.specs.declared.bit.Bit4.{Bit4}
+use Rattle.sv_types.specs.Layouts.{stacked}
+use Rattle.sv_types.specs.Operators.{slices, streamed}
+
+-- slices without bits
+empty-by : (steps : ℕ) (v : List Bit4) → stacked (slices steps 0 v) ≡ []
+empty-by zero v = refl
+empty-by (suc steps) [] = refl
+empty-by (suc steps) (b ∷ v) = ap (λ xs. xs ++ []) (empty-by steps (b ∷ v))
+
+pub no-slices : (v : List Bit4) → streamed true 0 v ≡ []
+no-slices v = empty-by (length v) v
+
+pub ruleset empty = (no-slices)
+
+-- more steps than there are bits change nothing
+steps-enough : (steps more n : ℕ) (v : List Bit4) → 0 < n → length v ≤ steps → length v ≤ more → slices steps n v ≡ slices more n v
+steps-enough zero zero n v some h g = refl
+steps-enough zero (suc more) n [] some h g = refl
+steps-enough zero (suc more) n (b ∷ v) some h g = absurd (omega arith)
+steps-enough (suc steps) zero n [] some h g = refl
+steps-enough (suc steps) zero n (b ∷ v) some h g = absurd (omega arith)
+steps-enough (suc steps) (suc more) n [] some h g = refl
+steps-enough (suc steps) (suc more) n (b ∷ v) some h g =
+    let less : length (drop n (b ∷ v)) ≤ length v = omega (arith, length-drop n (b ∷ v)) in
+    ap (λ xs. take n (b ∷ v) ∷ xs) (steps-enough steps more n (drop n (b ∷ v)) some (omega arith) (omega arith))
+
+-- the stream of what is left, with the slice below it
+front : (n : ℕ) (v : List Bit4) → 0 < n → 0 < length v → streamed true n v ≡ streamed true n (drop n v) ++ take n v
+front n [] some h = absurd (omega arith)
+front n (b ∷ v) some h =
+    let less : length (drop n (b ∷ v)) ≤ length v = omega (arith, length-drop n (b ∷ v)) in
+    ap (λ xs. stacked xs ++ take n (b ∷ v)) (steps-enough (length v) (length (drop n (b ∷ v))) n (drop n (b ∷ v)) some less (omega arith))
+
+pub next-slice : (n from : ℕ) (v : List Bit4) → 0 < n → from < length v → streamed true n (drop from v) ≡ streamed true n (drop (from + n) v) ++ take n (drop from v)
+next-slice n from v some h =
+    front n (drop from v) some (omega (arith, length-drop from v)) ∙ ap (λ xs. streamed true n xs ++ take n (drop from v)) (drop-drop n from v)
+
+pub ruleset slicing = (next-slice)
