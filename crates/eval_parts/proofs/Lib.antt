@@ -14,3 +14,8 @@ pub mod Roots
 pub mod Members
 pub mod Logs
 pub mod Streams
+pub mod Given
+pub mod Assigned
+pub mod Streaming
+pub mod Narrower
+pub mod Insides

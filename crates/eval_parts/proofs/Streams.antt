@@ -1,6 +1,9 @@
 -- Slices of vectors.
-use Rattle.std.proofs.Common.{◌≡◌, ℕ, zero, suc, ◌+◌, ◌-◌, ◌*◌, ◌<◌, ◌≤◌, List, [], ◌∷◌, ◌++◌, length, take, drop, true, min, refl, arith, ap, sym, ◌∙◌, subst}
+use Rattle.std.proofs.Common.{◌≡◌, ℕ, zero, suc, ◌+◌, ◌-◌, ◌*◌, ◌<◌, ◌≤◌, List, [], ◌∷◌, ◌++◌, length, take, drop, true, min, inl, inr, refl, arith, ap, sym, ◌∙◌, subst}
 use Rattle.std.proofs.lemmas.List.{length-drop, drop-drop, take_all}
+use Rattle.std.proofs.lemmas.Bool.{cases_lt}
+use Rattle.std.proofs.Math.Seq.{drop-length}
+use Rattle.std.proofs.Math.ListN.{drop_of_length-le}
 use Rattle.b4_core.specs.declared.bit.Bit4.{Bit4}
 use Rattle.sv_types.specs.Layouts.{stacked}
 use Rattle.sv_types.specs.Operators.{slices, streamed}
@@ -40,3 +43,11 @@ next-slice n from v some h =
     front n (drop from v) some (omega (arith, length-drop from v)) ∙ ap (λ xs. streamed true n xs ++ take n (drop from v)) (drop-drop n from v)
 
 pub ruleset slicing = (next-slice)
+
+top-less : (n w : ℕ) (v : List Bit4) → drop (min (w - n) (length v)) v ≡ drop (w - n) v
+top-less n w v = elim (cases_lt (length v) (w - n)) [
+  inl h ↦ let e : min (w - n) (length v) ≡ length v = omega arith in ap (λ k. drop k v) e ∙ drop-length v ∙ sym (drop_of_length-le v (omega arith))
+  | inr h ↦ let e : min (w - n) (length v) ≡ w - n = omega arith in ap (λ k. drop k v) e
+]
+
+pub ruleset tops = (top-less)

@@ -4,3 +4,5 @@ pub mod Limits
 pub mod Places
 pub mod Steps
 pub mod Logs
+pub mod Streams
+pub mod Insides

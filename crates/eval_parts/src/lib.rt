@@ -24,7 +24,7 @@ pub use paths::{Found, Root, Window, entire, nothing, part_of};
 pub use reads::read;
 pub use selects::{between_at, element_at, index_of, slide_at};
 pub use steps::{Step, can_be_read, step_of};
-pub use streams::stream;
+pub use streams::{Stream, from_top, stream, stream_of};
 pub use vectors::{
     chosen, cut, equality_bit, extended, filled, is_known, literal, one_bit, repeat, stack,
 };

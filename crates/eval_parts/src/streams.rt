@@ -1,10 +1,13 @@
 //! The order of the bits of a stream (IEEE 1800-2017 clause 11.4.14.2).
 
-ghost use Rattle.std.specs.Prelude.{◌≡◌, ◌≤◌, ◌<◌, ◌+◌, ◌*◌, true, length, IfOk};
+ghost use Rattle.std.specs.Prelude.{◌≡◌, ◌≤◌, ◌<◌, ◌+◌, ◌-◌, ◌*◌, ◌++◌, true, length, drop, replicate, IfOk};
+ghost use Rattle.b4_core.specs.declared.bit.Bit4.TheVariants.{Zero};
 ghost use Rattle.sv_types.specs.Operators.{streamed};
+ghost use Rattle.eval_parts.specs.Streams.{IsStreamOf};
 
 use b4_core::{Bit4, Vec4};
 use std::alloc::{AllocError, Global};
+use sv_types::{Expr, Form};
 
 // How many slices of so many bits a vector has; the last one may be shorter.
 fn count_of_slices(len: usize, slice: u32) -> u128
@@ -52,4 +55,73 @@ pub fn stream(alloc: Global, reversed: bool, slice: u32, v: Vec4) -> Result<Vec4
     } else {
         Ok(Vec4::from_vec(slices_reversed(alloc, v.as_slice(), slice)?))
     }
+}
+
+/// A stream: whether it is `<<`, the bits of a slice, and its parts.
+#[derive(Clone, Copy)]
+pub struct Stream<'a> {
+    /// Whether it is `<<`.
+    pub reversed: bool,
+    /// The bits of a slice.
+    pub slice: u32,
+    /// The parts.
+    pub parts: &'a [Expr],
+}
+
+/// The stream that an expression is, if it is one.
+#[tactic(auto, using(crate::proofs::Given::given))]
+pub fn stream_of(e: &Expr) -> Option<Stream<'_>>
+    ensures { IsStreamOf result e.now }
+{
+    match &e.form {
+        Form::Literal { .. } => None,
+        Form::Fill(_) => None,
+        Form::Constant(_) => None,
+        Form::Signal(_) => None,
+        Form::Local(_) => None,
+        Form::Member(_, _) => None,
+        Form::Index(_, _) => None,
+        Form::Part { .. } => None,
+        Form::Slide { .. } => None,
+        Form::Unary(_, _) => None,
+        Form::Reduce(_, _) => None,
+        Form::Negate(_) => None,
+        Form::Binary(_, _, _) => None,
+        Form::Shift(_, _, _) => None,
+        Form::Power(_, _) => None,
+        Form::Order(_, _, _) => None,
+        Form::Equal { .. } => None,
+        Form::Both(_, _) => None,
+        Form::Either(_, _) => None,
+        Form::Choose(_, _, _) => None,
+        Form::Concat(_) => None,
+        Form::Repeat(_, _) => None,
+        Form::Inside(_, _) => None,
+        Form::Cast(_) => None,
+        Form::Clog2(_) => None,
+        Form::Pattern(_) => None,
+        Form::Call(_, _) => None,
+        Form::Stream {
+            reversed,
+            slice,
+            parts,
+        } => Some(Stream {
+            reversed: *reversed,
+            slice: *slice,
+            parts: parts.as_slice(),
+        }),
+    }
+}
+
+/// Bits of a stream as they are given to a target of so many bits: from the top on, 0 fills the rest.
+#[tactic(auto, using(crate::proofs::Streams::tops))]
+pub fn from_top(alloc: Global, v: &Vec4, total: usize, width: u32) -> Result<Vec4, AllocError>
+    ensures { IfOk result (λ r. r ≡ replicate (width - total) Zero ++ drop (total - width) v.now) }
+{
+    let width = width as usize;
+    let fill = width.saturating_sub(total);
+    let below = total.saturating_sub(width).min(v.len());
+    let mut bits = vec![in alloc; Bit4::Zero; fill]?;
+    bits.extend_from_slice(&v.as_slice()[below..])?;
+    Ok(Vec4::from_vec(bits))
 }

@@ -202,7 +202,7 @@ inside_arithmetic m (From low high) = max (both_wide m low) (both_wide m high)
 
 unfoldable pub inside : Layout → ℕ → Meaning → List Alternative → Meaning
 inside of at m cs =
-    one_bit of at (λ w. most (map (inside_arithmetic m) cs)) (at_width (most (map (inside_width m) cs)) m ∷ flat_map (inside_operands m) cs)
+    one_bit of at (λ w. most (map (inside_arithmetic m) cs)) (at_width (max (wide m) (most (map (inside_width m) cs))) m ∷ flat_map (inside_operands m) cs)
     (λ a. any4 (map (is_inside m a) cs))
 
 -- The inside of a cast is valued alone, and then converts as an assignment does.
