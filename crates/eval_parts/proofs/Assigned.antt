@@ -179,9 +179,9 @@ call-done-in : (of : Layout) (at n : ℕ) (ms : List Meaning) (vs : List (List B
     → r ≡ ext w s v → Gives (Ok r) (O.call of at n ms) w s a old new
 unfolding O.call
 call-done-in of at n ms vs v r w s a old one new values runs g is = (
-    is ∙ ap (ext w s) (g.0 ∙ ap (λ q. ((a.callee n).run q).result) (values ∙ sym (formals-assigned (a.callee n).formals ms a))),
-    call-values n ms a (running old) (running one) runs ∙ ap (λ q. (a.callee n).effort q (running one)) (sym values) ∙ g.1,
-  )
+  is ∙ ap (ext w s) (g.0 ∙ ap (λ q. ((a.callee n).run q).result) (values ∙ sym (formals-assigned (a.callee n).formals ms a))),
+  call-values n ms a (running old) (running one) runs ∙ ap (λ q. (a.callee n).effort q (running one)) (sym values) ∙ g.1,
+)
 
 pub call-done : (e : Expr) (n : ℕ) (es : List Expr) (vs : List (List Bit4)) (v r : List Bit4) (w : ℕ) (s : Bool) (a : Around) (old one new : Option ℕ) → e.form ≡ V.Call n es
     → vs ≡ assigned (marks_of_formals (a.callee n).formals) (map meaning es) a → values_assigned (marks_of_formals (a.callee n).formals) (map meaning es) a (running old) ≡ running one

@@ -213,5 +213,3 @@ in-Call of at f xs = record { given = λ n a. refl }
 
 pub cut-Call : (e : Expr) (f : ℕ) (xs : List Expr) → e.form ≡ V.Call f xs → IsCut (meaning e)
 cut-Call e f xs is = by-form e (V.Call f xs) _ is (L.form-Call f xs) (in-Call (layout e.of) e.spot.at f xs)
-
-pub ruleset given = (cut-Literal, cut-Fill, cut-Constant, cut-Signal, cut-Local, cut-Member, cut-Index, cut-Part, cut-Slide, cut-Unary, cut-Reduce, cut-Negate, cut-Binary, cut-Shift, cut-Power, cut-Order, cut-Equal, cut-Both, cut-Either, cut-Choose, cut-Concat, cut-Repeat, cut-Inside, cut-Cast, cut-Clog2, cut-Pattern, cut-Call)

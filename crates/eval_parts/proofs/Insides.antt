@@ -73,12 +73,12 @@ range-done c x low high p q r u b a start again other old one new is g0 g1 g2 g3
     let second = λ (y z : List Bit4). order_value LessEqual (both_signed mx mh) y z in
     subst (λ k. AlternativeGives (Ok b) mx k a old new) (sym (ap alternative is ∙ from-to low high)) (
       value ∙ ap (λ (y : List Bit4). and4 (first y q) (second r u)) g0.0
-      ∙ ap (λ (y : List Bit4). and4 (first (mx.value (both_wide mx ml) (both_signed mx ml) a) y) (second r u)) g1.0
-      ∙ ap (λ (y : List Bit4). and4 (O.in_order GreaterEqual mx ml a) (second y u)) g2.0
-      ∙ ap (λ (y : List Bit4). and4 (O.in_order GreaterEqual mx ml a) (second (mx.value (both_wide mx mh) (both_signed mx mh) a) y)) g3.0,
+          ∙ ap (λ (y : List Bit4). and4 (first (mx.value (both_wide mx ml) (both_signed mx ml) a) y) (second r u)) g1.0
+          ∙ ap (λ (y : List Bit4). and4 (O.in_order GreaterEqual mx ml a) (second y u)) g2.0
+          ∙ ap (λ (y : List Bit4). and4 (O.in_order GreaterEqual mx ml a) (second (mx.value (both_wide mx mh) (both_signed mx mh) a) y)) g3.0,
       record {
         on = λ rest. first-on (at_width (both_wide mx ml) ml) (at_width (both_wide mx mh) mh ∷ rest) a (running old) one g1.1
-        ∙ first-on (at_width (both_wide mx mh) mh) rest a (running one) new g3.1;
+            ∙ first-on (at_width (both_wide mx mh) mh) rest a (running one) new g3.1;
       },
     )
 
@@ -154,9 +154,9 @@ inside-done-in : (of : Layout) (at : ℕ) (m : Meaning) (cs : List Alternative) 
     → bs ≡ map (is_inside m a) cs → values_all (flat_map (inside_operands m) cs) a (running one) ≡ running new → r ≡ ext w s (any4 bs ∷ []) → Gives (Ok r) (O.inside of at m cs) w s a old new
 unfolding O.inside
 inside-done-in of at m cs bs r w s a old one new ran values runs is = (
-    is ∙ ap (λ q. ext w s (any4 q ∷ [])) values,
-    first-on (at_width (max (wide m) (most (map (inside_width m) cs))) m) (flat_map (inside_operands m) cs) a (running old) one ran ∙ runs,
-  )
+  is ∙ ap (λ q. ext w s (any4 q ∷ [])) values,
+  first-on (at_width (max (wide m) (most (map (inside_width m) cs))) m) (flat_map (inside_operands m) cs) a (running old) one ran ∙ runs,
+)
 
 pub inside-done : (e x : Expr) (cs : List Choice) (bs : List Bit4) (r : List Bit4) (w : ℕ) (s : Bool) (a : Around) (old one new : Option ℕ) → e.form ≡ V.Inside x cs → (meaning x).values a (running old) ≡ running one
     → bs ≡ map (is_inside (meaning x) a) (map alternative cs) → values_all (flat_map (inside_operands (meaning x)) (map alternative cs)) a (running one) ≡ running new → r ≡ ext w s (any4 bs ∷ [])
@@ -191,18 +191,18 @@ choices-fit : (x : Expr) (cs : List Alternative) (fs : ℕ → List Parameter) (
     → arithmetic_of fs c (flat_map (inside_operands (meaning x)) cs) ≤ 128 → indexing_of (flat_map (inside_operands (meaning x)) cs) ≤ 64 → AllAlternativesFit (meaning x) fs cs
 choices-fit x [] fs c w low typed narrow arithmetic indexing word typeds narrows arithmetics indexings = tt
 choices-fit x (Alternative.Only v ∷ cs) fs c w low typed narrow arithmetic indexing word typeds narrows arithmetics indexings = (
-    pair-fits x v fs w (omega arith) typed narrow arithmetic indexing (omega arith) (omega arith) (omega arith) (omega arith),
-    choices-fit x cs fs c w (omega arith) typed narrow arithmetic indexing (omega arith) (omega arith) (omega arith) (omega arith) (omega arith),
-  )
+  pair-fits x v fs w (omega arith) typed narrow arithmetic indexing (omega arith) (omega arith) (omega arith) (omega arith),
+  choices-fit x cs fs c w (omega arith) typed narrow arithmetic indexing (omega arith) (omega arith) (omega arith) (omega arith) (omega arith),
+)
 choices-fit x (Alternative.From v u ∷ cs) fs c w low typed narrow arithmetic indexing word typeds narrows arithmetics indexings = (
-    record {
-      below = pair-fits x v fs w (omega arith) typed narrow arithmetic indexing (omega arith) (omega arith) (omega arith) (omega arith);
-      above = pair-fits x u fs w (omega arith) typed narrow arithmetic indexing (omega arith) (omega arith) (omega arith) (omega arith);
-      low_word = omega arith;
-      high_word = omega arith;
-    },
-    choices-fit x cs fs c w (omega arith) typed narrow arithmetic indexing (omega arith) (omega arith) (omega arith) (omega arith) (omega arith),
-  )
+  record {
+    below = pair-fits x v fs w (omega arith) typed narrow arithmetic indexing (omega arith) (omega arith) (omega arith) (omega arith);
+    above = pair-fits x u fs w (omega arith) typed narrow arithmetic indexing (omega arith) (omega arith) (omega arith) (omega arith);
+    low_word = omega arith;
+    high_word = omega arith;
+  },
+  choices-fit x cs fs c w (omega arith) typed narrow arithmetic indexing (omega arith) (omega arith) (omega arith) (omega arith) (omega arith),
+)
 
 -- a value by which alternatives are compared, valued alone, and its alternatives
 pub record InsideFits (x : Expr) (cs : List Choice) (fs : ℕ → List Parameter) : Type 0 where

@@ -9,7 +9,7 @@ pub mod Finding
 pub mod Products
 pub mod Near
 pub mod Valued
-pub mod Selects
+pub mod Selecting
 pub mod Roots
 pub mod Members
 pub mod Logs

@@ -1,15 +1,19 @@
 -- Numbers by powers of 2.
-use Rattle.std.proofs.Common.{◌≡◌, ℕ, zero, suc, ◌+◌, ◌-◌, ◌*◌, ◌^◌, ◌<◌, ◌≤◌, Bool, true, false, cond, pos, refl, arith, ap, sym, ◌∙◌, subst, inl, inr, ◌⊎◌}
+use Rattle.std.proofs.Common.{◌≡◌, ℕ, zero, suc, ◌+◌, ◌-◌, ◌*◌, ◌^◌, ◌<◌, ◌≤◌, Bool, true, false, cond, pos, List, length, drop, get_or, refl, arith, ap, sym, ◌∙◌, subst, inl, inr, ◌⊎◌}
 use Rattle.std.specs.Prelude.{nat_le}
 use Rattle.std.proofs.Math.Pow.{pow_mono}
+use Rattle.std.proofs.lemmas.Nat.{pow_pos}
 use Rattle.std.proofs.lemmas.Bool.{cases_lt}
 use Rattle.std.proofs.lemmas.Bool.Decides.{nat_tests}
-use Rattle.b4_core.proofs.TwosComplement.{vec_pos}
-use Rattle.sv_types.specs.Operators.{log_from}
-use Rattle.eval_parts.specs.declared.logs.Log.{Log}
-use Rattle.eval_parts.specs.declared.logs.Log.TheVariants as L
-use Rattle.eval_parts.specs.Logs.{IsLog, HasRoom}
-use Rattle.eval_parts.proofs.Products.{pow-more}
+use Rattle.b4_core.specs.declared.bit.Bit4.{Bit4}
+use Rattle.b4_core.specs.declared.bit.Bit4.TheVariants as B
+use Rattle.b4_core.specs.Bits.{is_one}
+use Rattle.b4_core.specs.Vectors.{num, digit, known, unknown, vec}
+use Rattle.sv_types.specs.Operators.{log_from, clog2_of}
+use Rattle.eval_parts.specs.declared.powers.Log.{Log}
+use Rattle.eval_parts.specs.declared.powers.Log.TheVariants as L
+use Rattle.eval_parts.specs.Logs.{IsLog, HasRoom, Ceils, more}
+use Rattle.eval_parts.proofs.Products.{pow-more, next-num}
 
 pub double : (k : ℕ) → 2 ^ (k + 1) ≡ 2 * 2 ^ k
 double k = omega (arith, pow-more k)
@@ -17,26 +21,42 @@ double k = omega (arith, pow-more k)
 pub double-again : (k : ℕ) → 2 ^ (k + 2) ≡ 2 * (2 * 2 ^ k)
 double-again k = let e : k + 2 ≡ k + 1 + 1 = omega arith in ap (λ j. 2 ^ j) e ∙ omega (arith, pow-more (k + 1), pow-more k)
 
--- the least power of 2 that is enough
-abbrev pub Ceils : Log → ℕ → Type 0
-Ceils L.Nothing c = c ≡ 0
-Ceils (L.Power k) c = c ≡ k
-Ceils (L.Above k) c = c ≡ k + 1
-
 -- one more digit
-pub power-even : (k n d bits : ℕ) → d ≡ 0 → IsLog (L.Power k) n bits → IsLog (L.Power (k + 1)) (d + 2 * n) (bits + 1)
-power-even k n d bits z h = let e = double k in (omega (arith, h.0), omega (arith, h.1))
+power-even : (k n bits : ℕ) → IsLog (L.Power k) n bits → IsLog (L.Power (k + 1)) (0 + 2 * n) (bits + 1)
+power-even k n bits h = let e = double k in (omega (arith, h.0), omega (arith, h.1))
 
-pub power-odd : (k n d bits : ℕ) → d ≡ 1 → IsLog (L.Power k) n bits → IsLog (L.Above (k + 1)) (d + 2 * n) (bits + 1)
-power-odd k n d bits z h = let e = double k in let f = double-again k in let g : k + 1 + 1 ≡ k + 2 = omega arith in (omega (arith, h.0), subst (λ j. d + 2 * n < 2 ^ j) (sym g) (omega (arith, h.0, pow_mono {i = 0} {j = k} (omega arith))), omega (arith, h.1))
+next-power : (k : ℕ) → 2 ^ (k + 1 + 1) ≡ 2 * (2 * 2 ^ k)
+next-power k = let e : k + 1 + 1 ≡ k + 2 = omega arith in ap (λ j. 2 ^ j) e ∙ double-again k
 
-pub above-digit : (k n d bits : ℕ) → d ≤ 1 → IsLog (L.Above k) n bits → IsLog (L.Above (k + 1)) (d + 2 * n) (bits + 1)
-above-digit k n d bits z h = let e = double k in let f = double-again k in let g : k + 1 + 1 ≡ k + 2 = omega arith in (omega (arith, h.0), subst (λ j. d + 2 * n < 2 ^ j) (sym g) (omega (arith, h.1)), omega (arith, h.2))
+power-odd : (k n bits : ℕ) → IsLog (L.Power k) n bits → IsLog (L.Above (k + 1)) (1 + 2 * n) (bits + 1)
+power-odd k n bits h = let e = double k in let f = next-power k in let p : 0 < 2 ^ k = pow_pos k in (omega (arith, h.0), omega (arith, h.0), omega (arith, h.1))
 
-pub one-digit : (d bits : ℕ) → d ≡ 1 → IsLog (L.Power 0) (d + 2 * 0) (bits + 1)
-one-digit d bits z = (omega arith, omega arith)
+above-digit : (d k n bits : ℕ) → d ≤ 1 → IsLog (L.Above k) n bits → IsLog (L.Above (k + 1)) (d + 2 * n) (bits + 1)
+above-digit d k n bits z h = let e = double k in let f = next-power k in (omega (arith, h.0), omega (arith, h.1), omega (arith, h.2))
 
-pub ruleset doubled = (power-even, power-odd, above-digit, one-digit)
+one-more : (log : Log) (one : Bool) (d n bits : ℕ) → d ≡ cond {A = ℕ} one 1 0 → IsLog log n bits → IsLog (more log one) (d + 2 * n) (bits + 1)
+one-more L.Nothing true d n bits is h = (omega (arith, h), omega arith)
+one-more L.Nothing false d n bits is h = omega (arith, h)
+one-more (L.Power k) true d n bits is h = subst (λ j. IsLog (L.Above (k + 1)) (j + 2 * n) (bits + 1)) (sym is) (power-odd k n bits h)
+one-more (L.Power k) false d n bits is h = subst (λ j. IsLog (L.Power (k + 1)) (j + 2 * n) (bits + 1)) (sym is) (power-even k n bits h)
+one-more (L.Above k) true d n bits is h = above-digit d k n bits (omega arith) h
+one-more (L.Above k) false d n bits is h = above-digit d k n bits (omega arith) h
+
+digit-is : (b : Bit4) → digit b ≡ cond {A = ℕ} (is_one b) 1 0
+digit-is B.Zero = refl
+digit-is B.One = refl
+digit-is B.X = refl
+digit-is B.Z = refl
+
+pub log-next : (v : List Bit4) (i : ℕ) (d : Bit4) (log : Log) (one : Bool) → 0 < i → i ≤ length v → one ≡ is_one (get_or v (i - 1) d) → IsLog log (num (drop i v)) (length v - i)
+    → IsLog (more log one) (num (drop (i - 1) v)) (length v - (i - 1))
+log-next v i d log one some within is h =
+    let same : i - 1 + 1 ≡ i = omega arith in
+    let later : num (drop (i - 1 + 1) v) ≡ num (drop i v) = ap (λ k. num (drop k v)) same in
+    let here : num (drop (i - 1) v) ≡ digit (get_or v (i - 1) d) + 2 * num (drop i v) = next-num v (i - 1) d (omega arith) ∙ ap (λ n. digit (get_or v (i - 1) d) + 2 * n) later in
+    let bits : length v - i + 1 ≡ length v - (i - 1) = omega arith in
+    let step = one-more log one (digit (get_or v (i - 1) d)) (num (drop i v)) (length v - i) (digit-is (get_or v (i - 1) d) ∙ ap (λ b. cond {A = ℕ} b 1 0) (sym is)) h in
+    subst (λ n. IsLog (more log one) n (length v - (i - 1))) (sym here) (subst (IsLog (more log one) (digit (get_or v (i - 1) d) + 2 * num (drop i v))) bits step)
 
 equal-or : (k c : ℕ) → k ≤ c → (k ≡ c) ⊎ (k < c)
 equal-or k c h = elim (cases_lt k c) [ inl l ↦ inr l | inr g ↦ inl (omega arith) ]
@@ -68,7 +88,7 @@ pub ceiling-is : (log : Log) (n bits c : ℕ) → IsLog log n bits → Ceils log
 ceiling-is L.Nothing n bits c h is =
     sym (log-is bits 0 n c (omega arith) (omega (arith, is)) (omega (arith, h, is)) (λ d e. absurd (omega (arith, is))))
 ceiling-is (L.Power k) n bits c h is =
-    sym (log-is bits 0 n c (omega arith) (omega (arith, is, h.1)) (omega (arith, h.0, ap (λ j. 2 ^ j) is)) (λ d e. let p = pow-more d in let f : k ≡ d + 1 = omega (arith, is) in omega (arith, h.0, ap (λ j. 2 ^ j) f, pow_mono {i = 0} {j = d} (omega arith))))
+    sym (log-is bits 0 n c (omega arith) (omega (arith, is, h.1)) (omega (arith, h.0, ap (λ j. 2 ^ j) is)) (λ d e. let p = pow-more d in let f : k ≡ d + 1 = omega (arith, is) in omega (arith, h.0, ap (λ j. 2 ^ j) f, pow_pos d)))
 ceiling-is (L.Above k) n bits c h is =
     sym (log-is bits 0 n c (omega arith) (omega (arith, is, h.2)) (omega (arith, h.1, ap (λ j. 2 ^ j) is)) (λ d e. let f : d ≡ k = omega (arith, is) in omega (arith, h.0, ap (λ j. 2 ^ j) f)))
 
@@ -77,4 +97,9 @@ room L.Nothing n bits h few = tt
 room (L.Power k) n bits h few = omega (arith, h.1)
 room (L.Above k) n bits h few = omega (arith, h.2)
 
-pub ruleset vectors = (vec_pos)
+pub clog-known : (v : List Bit4) (log : Log) (c : ℕ) → known v ≡ true → IsLog log (num v) (length v) → Ceils log c → vec 32 (pos c) ≡ clog2_of v
+clog-known v log c sure is ceils =
+    ap (λ k. vec 32 (pos k)) (ceiling-is log (num v) (length v) c is ceils) ∙ ap (λ b. cond b (vec 32 (pos (log_from (length v) 0 (num v)))) (unknown 32)) (sym sure)
+
+pub clog-unknown : (v : List Bit4) → known v ≡ false → unknown 32 ≡ clog2_of v
+clog-unknown v unsure = ap (λ b. cond b (vec 32 (pos (log_from (length v) 0 (num v)))) (unknown 32)) (sym unsure)

@@ -1,8 +1,9 @@
 -- Members of structs and unions.
-use Rattle.std.proofs.Common.{◌≡◌, ℕ, zero, suc, ◌+◌, ◌<◌, ◌≤◌, max, Bool, true, false, cond, ℤ, pos, List, [], ◌∷◌, ◌++◌, length, map, drop, get_or, Option, Some, None, refl, arith, length-append, ap, sym, ◌∙◌, inl, inr}
+use Rattle.std.proofs.Common.{◌≡◌, ℕ, zero, suc, ◌+◌, ◌-◌, ◌<◌, ◌≤◌, max, Bool, true, false, cond, ℤ, pos, List, [], ◌∷◌, ◌++◌, length, map, take, drop, get_or, Option, Some, None, refl, arith, length-append, ap, sym, ◌∙◌, inl, inr}
 use Rattle.std.specs.Prelude.{slice_get, nat_lt}
 use Rattle.std.proofs.Math.Seq.{drop-cons}
 use Rattle.std.proofs.Math.Numerals.{add-one}
+use Rattle.std.proofs.lemmas.List.{take_all, length-drop}
 use Rattle.std.proofs.lemmas.Option.{slice_get_past, slice_get-get_or}
 use Rattle.std.proofs.lemmas.Bool.Decides.{nat_tests}
 use Rattle.sv_types.specs.declared.types.SvType.{SvType}
@@ -13,10 +14,10 @@ use Rattle.sv_types.specs.Windows.{Window, nowhere, part, member_of}
 use Rattle.sv_types.proofs.Components.{member-layout}
 use Rattle.sv_types.proofs.Lengths.{layout-Scalar, layout-PackedArray, layout-Struct, layout-Union, layout-Enum, layout-UnpackedArray, width-Struct, width-Union}
 
-abbrev total_of : List Member → ℕ
+abbrev pub total_of : List Member → ℕ
 total_of ms = length (stacked_marks (map member_layout ms))
 
-abbrev widest_of : List Member → ℕ
+abbrev pub widest_of : List Member → ℕ
 widest_of ms = length (widest_marks (map member_layout ms))
 
 member-width : (m : Member) → length (member_layout m).two_state ≡ width_of m.of
@@ -31,7 +32,7 @@ at-front xs i x h is = drop-cons xs i x h ∙ ap (λ y. y ∷ drop (suc i) xs) (
 pub total-next : (ms : List Member) (i : ℕ) (m : Member) → i < length ms → m ≡ get_or ms i m → total_of (drop i ms) ≡ total_of (drop (i + 1) ms) + width_of m.of
 total-next ms i m h is = ap total_of (at-front ms i m h is) ∙ total-cons m (drop (i + 1) ms)
 
-total-none : (ms : List Member) (i : ℕ) → length ms ≤ i → total_of (drop i ms) ≡ 0
+pub total-none : (ms : List Member) (i : ℕ) → length ms ≤ i → total_of (drop i ms) ≡ 0
 total-none [] i h = ap total_of (drop-none i)
   where
     drop-none : (i : ℕ) → drop {A = Member} i [] ≡ []
@@ -53,7 +54,9 @@ above-get : (ms : List Member) (k : ℕ) (m : Member) → k < length ms → m �
 above-get [] k m h is = absurd (omega arith)
 above-get (x ∷ ms) zero m h is =
     ap (λ (y : Member). Some (record { below = total_of ms; two_state = (member_layout y).two_state; signed = (member_layout y).signed })) (sym is)
-above-get (x ∷ ms) (suc k) m h is = above-get ms k m (omega arith) is ∙ ap (λ j. Some (record { below = total_of (drop j (x ∷ ms)); two_state = (member_layout m).two_state; signed = (member_layout m).signed })) (omega arith)
+above-get (x ∷ ms) (suc k) m h is =
+    let e : suc (k + 1) ≡ suc k + 1 = omega arith in
+    above-get ms k m (omega arith) is ∙ ap (λ j. Some (record { below = total_of (drop j (x ∷ ms)); two_state = (member_layout m).two_state; signed = (member_layout m).signed })) e
 
 above-none : (ms : List Member) (k : ℕ) → length ms ≤ k → slice_get (above_the_next (map member_layout ms)) k ≡ None
 above-none [] k h = slice_get_past [] k (omega arith)
@@ -71,10 +74,14 @@ struct-none ms k path h = ap (λ p. member_of p path) (sym (above-none ms k h))
 pub struct-narrow : (ms : List Member) (k : ℕ) (m : Member) → k < length ms → m ≡ get_or ms k m → width_of m.of ≤ total_of ms
 struct-narrow ms k m h is = let a = total-next ms k m h is in let b = total-drop ms k in omega arith
 
+-- the rest of a list as a slice of it
+pub rest-of : {A : Type 0} (xs : List A) (k : ℕ) → take (length xs - k) (drop k xs) ≡ drop k xs
+rest-of xs k = take_all (length xs - k) (drop k xs) (omega (arith, length-drop k xs))
+
 pub behind-narrow : (ms : List Member) (k : ℕ) → total_of (drop k ms) ≤ total_of ms
 behind-narrow = total-drop
 
-pub ruleset structs = (struct-part, struct-none, struct-narrow, behind-narrow)
+pub ruleset structs = (struct-none, struct-narrow)
 
 bottom-get : (ms : List Member) (k : ℕ) (m : Member) → k < length ms → m ≡ get_or ms k m → slice_get (map at_the_bottom (map member_layout ms)) k ≡ Some (at_the_bottom (member_layout m))
 bottom-get [] k m h is = absurd (omega arith)
@@ -108,6 +115,6 @@ union-narrow (x ∷ ms) (suc k) m h is =
     let r = union-narrow ms k m (omega arith) is in
     omega (arith, w.1)
 
-pub ruleset unions = (union-part, union-none, union-narrow)
+pub ruleset unions = (union-none, union-narrow)
 
 pub ruleset kinds = (layout-Scalar, layout-PackedArray, layout-Struct, layout-Union, layout-Enum, layout-UnpackedArray, width-Struct, width-Union)

@@ -73,17 +73,17 @@ fixed-choices m (Alternative.Only x ∷ cs) fs w v = ap (λ n. max (x.arithmetic
 fixed-choices m (Alternative.From x y ∷ cs) fs w v =
     ap (λ n. max (x.arithmetic fs (O.both_wide m x)) (max (y.arithmetic fs (O.both_wide m y)) n)) (fixed-choices m cs fs w v)
 
-grows-Literal : (of : Layout) (at : ℕ) (v : List Bit4) (goes_on : Bool) → Grows (O.literal of at goes_on v)
+grows-Literal : (of : Layout) (at : ℕ) (bits : List Bit4) (goes_on : Bool) → Grows (O.literal of at goes_on bits)
 unfolding O.literal
-grows-Literal of at v goes_on fs w v h = omega arith
+grows-Literal of at bits goes_on fs w v h = omega arith
 
 grows-Fill : (of : Layout) (at : ℕ) (b : Bit4) → Grows (O.fill of at b)
 unfolding O.fill
 grows-Fill of at b fs w v h = omega arith
 
-grows-Constant : (of : Layout) (at : ℕ) (v : Value) → Grows (O.constant of at v)
+grows-Constant : (of : Layout) (at : ℕ) (x : Value) → Grows (O.constant of at x)
 unfolding O.constant
-grows-Constant of at v fs w v h = omega arith
+grows-Constant of at x fs w v h = omega arith
 
 grows-Signal : (of : Layout) (at : ℕ) (n : ℕ) → Grows (P.signal of at n)
 unfolding P.signal

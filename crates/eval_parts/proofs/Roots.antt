@@ -11,7 +11,7 @@ use Rattle.sv_types.specs.Paths as P
 use Rattle.sv_types.specs.Expressions.{meaning}
 use Rattle.eval_parts.specs.Steps.{IsValued, can_read}
 use Rattle.eval_parts.proofs.Nodes.{nodes, nodes-Member, nodes-Index, nodes-Part, nodes-Slide}
-use Rattle.eval_parts.proofs.Selects as S
+use Rattle.eval_parts.proofs.Selecting as S
 
 in-signal : (of : Layout) (at n : ℕ) → (P.signal of at n).root ≡ Some n
 unfolding P.signal

@@ -71,10 +71,10 @@ given-done-in : (of : Layout) (at : ℕ) (reversed : Bool) (n : ℕ) (ms : List 
     → values_all (map by_itself ms) a (running old) ≡ running new → r ≡ replicate (k - total) Zero ++ drop (total - k) (streamed reversed n (stacked vs)) → GivesTo (Ok r) (O.stream of at reversed n ms) k a old new
 unfolding O.stream
 given-done-in of at reversed n ms vs r total k a old new values wide runs is = (
-    is ∙ ap (λ t. replicate (k - t) Zero ++ drop (t - k) (streamed reversed n (stacked vs))) wide
-    ∙ ap (λ q. replicate (k - width_of_all ms) Zero ++ drop (width_of_all ms - k) (streamed reversed n (stacked q))) values,
-    runs,
-  )
+  is ∙ ap (λ t. replicate (k - t) Zero ++ drop (t - k) (streamed reversed n (stacked vs))) wide
+      ∙ ap (λ q. replicate (k - width_of_all ms) Zero ++ drop (width_of_all ms - k) (streamed reversed n (stacked q))) values,
+  runs,
+)
 
 pub given-done : (e : Expr) (reversed : Bool) (n : ℕ) (es : List Expr) (vs : List (List Bit4)) (r : List Bit4) (k : ℕ) (a : Around) (old new : Option ℕ) → e.form ≡ V.Stream reversed n es → vs ≡ alones (map meaning es) a
     → values_all (map by_itself (map meaning es)) a (running old) ≡ running new

@@ -1,6 +1,7 @@
 -- Slices of vectors.
 use Rattle.std.proofs.Common.{◌≡◌, ℕ, zero, suc, ◌+◌, ◌-◌, ◌*◌, ◌<◌, ◌≤◌, List, [], ◌∷◌, ◌++◌, length, take, drop, true, min, inl, inr, refl, arith, ap, sym, ◌∙◌, subst}
 use Rattle.std.proofs.lemmas.List.{length-drop, drop-drop, take_all}
+use Rattle.std.proofs.Math.Nat.{suc-mul}
 use Rattle.std.proofs.lemmas.Bool.{cases_lt}
 use Rattle.std.proofs.Math.Seq.{drop-length}
 use Rattle.std.proofs.Math.ListN.{drop_of_length-le}
@@ -42,11 +43,31 @@ pub next-slice : (n from : ℕ) (v : List Bit4) → 0 < n → from < length v �
 next-slice n from v some h =
     front n (drop from v) some (omega (arith, length-drop from v)) ∙ ap (λ xs. streamed true n xs ++ take n (drop from v)) (drop-drop n from v)
 
-pub ruleset slicing = (next-slice)
+nothing-left : (steps n : ℕ) → stacked (slices steps n []) ≡ []
+nothing-left zero n = refl
+nothing-left (suc steps) n = refl
 
-top-less : (n w : ℕ) (v : List Bit4) → drop (min (w - n) (length v)) v ≡ drop (w - n) v
+-- the next slice behind what is made
+pub made-next : (n from : ℕ) (v old new : List Bit4) → 0 < n → n ≤ from → from ≤ length v → old ≡ streamed true n (drop from v) → new ≡ old ++ take (from - n + n - (from - n)) (drop (from - n) v) → new ≡ streamed true n (drop (from - n) v)
+made-next n from v old new some most within before more =
+    let width : from - n + n - (from - n) ≡ n = omega arith in
+    let back : from - n + n ≡ from = omega arith in
+    more ∙ ap (λ k. old ++ take k (drop (from - n) v)) width ∙ ap (λ xs. xs ++ take n (drop (from - n) v)) (before ∙ ap (λ k. streamed true n (drop k v)) (sym back))
+    ∙ sym (next-slice n (from - n) v some (omega arith))
+
+pub fewer : (c s : ℕ) → 0 < c → c * s ≡ (c - 1) * s + s
+fewer c s h = let e : c ≡ suc (c - 1) = omega arith in ap (λ k. k * s) e ∙ omega (arith, suc-mul (c - 1) s)
+
+-- a vector shorter than a slice
+pub short : (n : ℕ) (v : List Bit4) → 0 < n → length v < n → v ≡ streamed true n v
+short n [] some h = refl
+short n (b ∷ v) some h =
+    let none : drop n (b ∷ v) ≡ [] = drop_of_length-le (b ∷ v) (omega arith) in
+    sym (ap (λ xs. stacked (slices (length v) n xs) ++ take n (b ∷ v)) none ∙ ap (λ xs. xs ++ take n (b ∷ v)) (nothing-left (length v) n) ∙ take_all n (b ∷ v) (omega arith))
+
+pub top-less : (n w : ℕ) (v : List Bit4) → drop (min (w - n) (length v)) v ≡ drop (w - n) v
 top-less n w v = elim (cases_lt (length v) (w - n)) [
-  inl h ↦ let e : min (w - n) (length v) ≡ length v = omega arith in ap (λ k. drop k v) e ∙ drop-length v ∙ sym (drop_of_length-le v (omega arith))
+  | inl h ↦ let e : min (w - n) (length v) ≡ length v = omega arith in ap (λ k. drop k v) e ∙ drop-length v ∙ sym (drop_of_length-le v (omega arith))
   | inr h ↦ let e : min (w - n) (length v) ≡ w - n = omega arith in ap (λ k. drop k v) e
 ]
 

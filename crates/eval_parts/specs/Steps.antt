@@ -7,8 +7,8 @@ use Rattle.sv_types.specs.Windows.{whole}
 use Rattle.sv_types.specs.Surroundings.{Around, is_signal}
 use Rattle.sv_types.specs.Meanings.{Meaning, wide, alone}
 use Rattle.sv_types.specs.Expressions.{meaning}
-use Rattle.eval_parts.specs.declared.steps.Step.{Step}
-use Rattle.eval_parts.specs.declared.steps.Step.TheVariants as S
+use Rattle.eval_parts.specs.declared.path_steps.Step.{Step}
+use Rattle.eval_parts.specs.declared.path_steps.Step.TheVariants as S
 use Rattle.eval_parts.specs.Surroundings.{slot}
 
 abbrev pub IsStep : Step → Expr → Type 0

@@ -5,7 +5,7 @@ use Rattle.sv_types.specs.declared.expression.Form.TheVariants as V
 use Rattle.sv_types.specs.Surroundings.{Around}
 use Rattle.sv_types.specs.Meanings.{Meaning, wide, signed}
 use Rattle.sv_types.specs.Expressions.{meaning}
-use Rattle.eval_parts.specs.declared.streams.Stream.{Stream}
+use Rattle.eval_parts.specs.declared.orders.Stream.{Stream}
 
 -- an expression that is no stream is valued at the larger width, and cut
 pub record IsCut (m : Meaning) : Type 0 where

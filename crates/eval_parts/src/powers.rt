@@ -1,10 +1,10 @@
 //! `$clog2` (IEEE 1800-2017 clause 20.8.1).
 
-ghost use Rattle.std.specs.Prelude.{◌≡◌, ◌≤◌, ◌+◌, ◌-◌, ◌*◌, ◌++◌, ℕ, pos, length, IfOk};
+ghost use Rattle.std.specs.Prelude.{◌≡◌, ◌≤◌, pos, length, IfOk};
 ghost use Rattle.b4_core.specs.Bits.{is_one, bit_of};
-ghost use Rattle.b4_core.specs.Vectors.{num, digit, vec, ext};
-ghost use Rattle.sv_types.specs.Operators.{log_from, clog2_of};
-ghost use Rattle.eval_parts.specs.Logs.{IsLog, HasRoom};
+ghost use Rattle.b4_core.specs.Vectors.{num, vec, ext};
+ghost use Rattle.sv_types.specs.Operators.{clog2_of};
+ghost use Rattle.eval_parts.specs.Logs.{IsLog, HasRoom, Ceils, more};
 
 use crate::vectors::{extended, filled, is_known};
 use b4_core::{Bit4, Vec4};
@@ -33,19 +33,21 @@ fn is_one_bit(b: Bit4) -> bool
     }
 }
 
-// A number with one more digit at its low end.
-#[tactic(auto, using(crate::proofs::Logs::doubled))]
-fn with_digit(log: Log, b: Bit4) -> Log
+// The same with one more digit at the low end.
+fn with_digit(log: Log, one: bool) -> Log
     requires { HasRoom log }
-    ensures { (n bits : ℕ) → IsLog log n bits → IsLog result (digit b + 2 * n) (bits + 1) }
+    ensures { result ≡ more log one }
 {
-    match (log, is_one_bit(b)) {
-        (Log::Nothing, false) => Log::Nothing,
-        (Log::Nothing, true) => Log::Power(0),
-        (Log::Power(k), false) => Log::Power(k + 1),
-        (Log::Power(k), true) => Log::Above(k + 1),
-        (Log::Above(k), false) => Log::Above(k + 1),
-        (Log::Above(k), true) => Log::Above(k + 1),
+    match log {
+        Log::Nothing => { if one { Log::Power(0) } else { Log::Nothing } }
+        Log::Power(k) => {
+            if one {
+                Log::Above(k + 1)
+            } else {
+                Log::Power(k + 1)
+            }
+        }
+        Log::Above(k) => Log::Above(k + 1),
     }
 }
 
@@ -58,7 +60,7 @@ fn log_of(v: &[Bit4]) -> Log
     let mut i = v.len();
     while i > 0 {
         i -= 1;
-        log = with_digit(log, v[i]);
+        log = with_digit(log, is_one_bit(v[i]));
     }
     log
 }
@@ -66,7 +68,7 @@ fn log_of(v: &[Bit4]) -> Log
 // The least power of 2 that isn't below a number.
 fn ceiling(log: Log) -> u32
     requires { HasRoom log }
-    ensures { (n bits : ℕ) → IsLog log n bits → result ≡ log_from bits 0 n }
+    ensures { Ceils log result }
 {
     match log {
         Log::Nothing => 0,
@@ -82,18 +84,30 @@ fn bit_by(test: bool) -> Bit4
     if test { Bit4::One } else { Bit4::Zero }
 }
 
-// A number as 32 bits.
-#[tactic(auto, using(crate::proofs::Logs::vectors))]
-fn number_vector(alloc: Global, n: u32) -> Result<Vec4, AllocError>
-    ensures { IfOk result (λ v. v ≡ vec 32 (pos n)) }
+// The low digits of a number.
+fn number_vector(alloc: Global, n: u32, width: usize) -> Result<Vec4, AllocError>
+    ensures { IfOk result (λ v. v ≡ vec width (pos n)) }
 {
-    let mut bits = Vec::with_capacity(alloc, 32)?;
+    let mut bits = Vec::with_capacity(alloc, width)?;
     let mut rest = n;
-    for _i in 0..32 {
+    for _i in 0..width {
         bits.push(bit_by(rest % 2 == 1))?;
         rest /= 2;
     }
     Ok(Vec4::from_vec(bits))
+}
+
+// The value of `$clog2`, as 32 bits.
+fn clog2_bits(alloc: Global, v: &Vec4) -> Result<Vec4, AllocError>
+    requires { length v.now ≤ 4194304 }
+    ensures { IfOk result (λ r. r ≡ clog2_of v.now) }
+{
+    if is_known(v) {
+        let log = log_of(v.as_slice());
+        number_vector(alloc, ceiling(log), 32)
+    } else {
+        filled(alloc, 32, Bit4::X)
+    }
 }
 
 /// The value of `$clog2` in its context: the least power of 2 that isn't below the number of a vector, as 32 bits, all x where
@@ -102,10 +116,5 @@ pub fn clog2(alloc: Global, v: &Vec4, width: u32, signed: bool) -> Result<Vec4, 
     requires { length v.now ≤ 4194304 }
     ensures { IfOk result (λ r. r ≡ ext width signed (clog2_of v.now)) }
 {
-    let exponent = if is_known(v) {
-        number_vector(alloc, ceiling(log_of(v.as_slice())))?
-    } else {
-        filled(alloc, 32, Bit4::X)?
-    };
-    extended(alloc, &exponent, width, signed)
+    extended(alloc, &clog2_bits(alloc, v)?, width, signed)
 }

@@ -7,7 +7,7 @@ use Rattle.b4_core.specs.declared.bit.Bit4.TheVariants.{X}
 use Rattle.b4_core.specs.Vectors.{ext}
 use Rattle.sv_types.specs.declared.expression.Expr.{Expr}
 use Rattle.sv_types.specs.declared.expression.Form.TheVariants as V
-use Rattle.sv_types.specs.Layouts.{Layout, layout, stored, width_of}
+use Rattle.sv_types.specs.Layouts.{Layout, layout, stored, width_of, count_of}
 use Rattle.sv_types.specs.Windows.{Window, whole, picked, tabulated, seen, member_of, element_of, between, slide}
 use Rattle.sv_types.specs.Surroundings.{Around, Tally, Stop, stopped, onward, is_signal, local_number}
 use Rattle.sv_types.specs.Meanings.{Meaning, Path, wide, signed, alone, selected, reads_root}
@@ -19,8 +19,8 @@ use Rattle.eval_parts.specs.declared.halt.Halt.{Halt}
 use Rattle.eval_parts.specs.declared.halt.Halt.TheVariants as H
 use Rattle.eval_parts.specs.declared.paths.Found.{Found}
 use Rattle.eval_parts.specs.declared.paths.Root.TheVariants as R
-use Rattle.eval_parts.specs.declared.steps.Step.{Step}
-use Rattle.eval_parts.specs.declared.steps.Step.TheVariants as S
+use Rattle.eval_parts.specs.declared.path_steps.Step.{Step}
+use Rattle.eval_parts.specs.declared.path_steps.Step.TheVariants as S
 use Rattle.eval_parts.specs.Surroundings.{running}
 use Rattle.eval_parts.specs.Answers.{Gives, Halts}
 use Rattle.eval_parts.specs.Places.{IsFound, FindGives, IsNear, window_of, number_of, bit_of, bit_or_x}
@@ -139,7 +139,7 @@ find-part-in : (of : Layout) (at : ℕ) (m : Meaning) (left right : ℤ) (fm f :
     → window_of f.window ≡ between m.of left right (window_of fm.window) → IsNear f.window.shift → FindGives (Ok f) (P.part_select of at m left right) a old new
 unfolding P.part_select
 find-part-in of at m left right fm f a old new g same next near =
-    (F.found-part_select of at m left right a fm f g.0 same next near, places-are of at (P.fixed_step (between m.of left right) 0 m) a old ∙ g.1)
+    (F.found-part_select of at m left right a fm f g.0 same next near, places-are of at (P.fixed_step (between m.of left right) (P.unlike of (P.elements_marks m.of (count_of left right)) false) m) a old ∙ g.1)
 
 pub find-part : (e x : Expr) (left right : ℤ) (fm f : Found) (a : Around) (old new : Option ℕ) → e.form ≡ V.Part x left right → FindGives (Ok fm) (meaning x) a old new → f.root ≡ fm.root
     → window_of f.window ≡ between (meaning x).of left right (window_of fm.window) → IsNear f.window.shift → FindGives (Ok f) (meaning e) a old new
@@ -148,7 +148,7 @@ find-part e x left right fm f a old new is g same next near =
 
 part-halts-in : (h : Halt) (of : Layout) (at : ℕ) (m : Meaning) (left right : ℤ) (a : Around) (old new : Option ℕ) → FindGives (Err h) m a old new → FindGives (Err h) (P.part_select of at m left right) a old new
 unfolding P.part_select
-part-halts-in h of at m left right a old new g = subst (Halts h) (sym (places-are of at (P.fixed_step (between m.of left right) 0 m) a old)) g
+part-halts-in h of at m left right a old new g = subst (Halts h) (sym (places-are of at (P.fixed_step (between m.of left right) (P.unlike of (P.elements_marks m.of (count_of left right)) false) m) a old)) g
 
 pub part-halts : (h : Halt) (e x : Expr) (left right : ℤ) (a : Around) (old new : Option ℕ) → e.form ≡ V.Part x left right → FindGives (Err h) (meaning x) a old new → FindGives (Err h) (meaning e) a old new
 part-halts h e x left right a old new is g =
@@ -168,7 +168,7 @@ find-index-in : (of : Layout) (at : ℕ) (m i : Meaning) (fm f : Found) (a : Aro
     → window_of f.window ≡ element_of m.of (P.index_of i a) (window_of fm.window) → IsNear f.window.shift → FindGives (Ok f) (P.index of at m i) a old new
 unfolding P.index
 find-index-in of at m i fm f a old one new g also same next near =
-    (F.found-index of at m i a fm f g.0 same next near, places-are of at (P.indexed_step (element_of m.of) 0 m i) a old ∙ index-goes m i a old one new g.1 also)
+    (F.found-index of at m i a fm f g.0 same next near, places-are of at (P.indexed_step (element_of m.of) (P.unlike of m.of.element.two_state m.of.element.signed) m i) a old ∙ index-goes m i a old one new g.1 also)
 
 pub find-index : (e x y : Expr) (fm f : Found) (a : Around) (old one new : Option ℕ) → e.form ≡ V.Index x y → FindGives (Ok fm) (meaning x) a old one → (meaning y).values a (running one) ≡ running new → f.root ≡ fm.root
     → window_of f.window ≡ element_of (meaning x).of (P.index_of (meaning y) a) (window_of fm.window) → IsNear f.window.shift → FindGives (Ok f) (meaning e) a old new
@@ -178,14 +178,14 @@ find-index e x y fm f a old one new is g also same next near =
 index-halts-x-in : (h : Halt) (of : Layout) (at : ℕ) (m i : Meaning) (a : Around) (old new : Option ℕ) → FindGives (Err h) m a old new → FindGives (Err h) (P.index of at m i) a old new
 unfolding P.index
 index-halts-x-in h of at m i a old new g =
-    subst (Halts h) (sym (places-are of at (P.indexed_step (element_of m.of) 0 m i) a old)) (halts-onward h (i.values a) (places_from m.root m a (running old)) g)
+    subst (Halts h) (sym (places-are of at (P.indexed_step (element_of m.of) (P.unlike of m.of.element.two_state m.of.element.signed) m i) a old)) (halts-onward h (i.values a) (places_from m.root m a (running old)) g)
 
 pub index-halts-x : (h : Halt) (e x y : Expr) (a : Around) (old new : Option ℕ) → e.form ≡ V.Index x y → FindGives (Err h) (meaning x) a old new → FindGives (Err h) (meaning e) a old new
 index-halts-x h e x y a old new is g = subst (λ m. FindGives (Err h) m a old new) (sym (same-Index e x y is)) (index-halts-x-in h (layout e.of) e.spot.at (meaning x) (meaning y) a old new g)
 
 index-halts-y-in : (h : Halt) (of : Layout) (at : ℕ) (m i : Meaning) (a : Around) (old one new : Option ℕ) → places_from m.root m a (running old) ≡ running one → Halts h (i.values a (running one)) → FindGives (Err h) (P.index of at m i) a old new
 unfolding P.index
-index-halts-y-in h of at m i a old one new is halts = subst (Halts h) (sym (places-are of at (P.indexed_step (element_of m.of) 0 m i) a old)) (index-stops h m i a old one is halts)
+index-halts-y-in h of at m i a old one new is halts = subst (Halts h) (sym (places-are of at (P.indexed_step (element_of m.of) (P.unlike of m.of.element.two_state m.of.element.signed) m i) a old)) (index-stops h m i a old one is halts)
 
 pub index-halts-y : (h : Halt) (e x y : Expr) (fm : Found) (a : Around) (old one new : Option ℕ) → e.form ≡ V.Index x y → FindGives (Ok fm) (meaning x) a old one → Halts h ((meaning y).values a (running one)) → FindGives (Err h) (meaning e) a old new
 index-halts-y h e x y fm a old one new is g halts =
@@ -196,7 +196,7 @@ find-slide-in : (of : Layout) (at : ℕ) (m i : Meaning) (n : ℕ) (up : Bool) (
     → window_of f.window ≡ slide m.of up n (P.index_of i a) (window_of fm.window) → IsNear f.window.shift → FindGives (Ok f) (P.sliding of at m i n up) a old new
 unfolding P.sliding
 find-slide-in of at m i n up fm f a old one new g also same next near =
-    (F.found-sliding of at m i n up a fm f g.0 same next near, places-are of at (P.indexed_step (slide m.of up n) 0 m i) a old ∙ index-goes m i a old one new g.1 also)
+    (F.found-sliding of at m i n up a fm f g.0 same next near, places-are of at (P.indexed_step (slide m.of up n) (P.unlike of (P.elements_marks m.of n) false) m i) a old ∙ index-goes m i a old one new g.1 also)
 
 pub find-slide : (e x y : Expr) (n : ℕ) (up : Bool) (fm f : Found) (a : Around) (old one new : Option ℕ) → e.form ≡ V.Slide x y n up → FindGives (Ok fm) (meaning x) a old one → (meaning y).values a (running one) ≡ running new → f.root ≡ fm.root
     → window_of f.window ≡ slide (meaning x).of up n (P.index_of (meaning y) a) (window_of fm.window) → IsNear f.window.shift → FindGives (Ok f) (meaning e) a old new
@@ -206,7 +206,7 @@ find-slide e x y n up fm f a old one new is g also same next near =
 slide-halts-x-in : (h : Halt) (of : Layout) (at : ℕ) (m i : Meaning) (n : ℕ) (up : Bool) (a : Around) (old new : Option ℕ) → FindGives (Err h) m a old new → FindGives (Err h) (P.sliding of at m i n up) a old new
 unfolding P.sliding
 slide-halts-x-in h of at m i n up a old new g =
-    subst (Halts h) (sym (places-are of at (P.indexed_step (slide m.of up n) 0 m i) a old)) (halts-onward h (i.values a) (places_from m.root m a (running old)) g)
+    subst (Halts h) (sym (places-are of at (P.indexed_step (slide m.of up n) (P.unlike of (P.elements_marks m.of n) false) m i) a old)) (halts-onward h (i.values a) (places_from m.root m a (running old)) g)
 
 pub slide-halts-x : (h : Halt) (e x y : Expr) (n : ℕ) (up : Bool) (a : Around) (old new : Option ℕ) → e.form ≡ V.Slide x y n up → FindGives (Err h) (meaning x) a old new → FindGives (Err h) (meaning e) a old new
 slide-halts-x h e x y n up a old new is g =
@@ -215,7 +215,7 @@ slide-halts-x h e x y n up a old new is g =
 slide-halts-y-in : (h : Halt) (of : Layout) (at : ℕ) (m i : Meaning) (n : ℕ) (up : Bool) (a : Around) (old one new : Option ℕ) → places_from m.root m a (running old) ≡ running one → Halts h (i.values a (running one))
     → FindGives (Err h) (P.sliding of at m i n up) a old new
 unfolding P.sliding
-slide-halts-y-in h of at m i n up a old one new is halts = subst (Halts h) (sym (places-are of at (P.indexed_step (slide m.of up n) 0 m i) a old)) (index-stops h m i a old one is halts)
+slide-halts-y-in h of at m i n up a old one new is halts = subst (Halts h) (sym (places-are of at (P.indexed_step (slide m.of up n) (P.unlike of (P.elements_marks m.of n) false) m i) a old)) (index-stops h m i a old one is halts)
 
 pub slide-halts-y : (h : Halt) (e x y : Expr) (n : ℕ) (up : Bool) (fm : Found) (a : Around) (old one new : Option ℕ) → e.form ≡ V.Slide x y n up → FindGives (Ok fm) (meaning x) a old one → Halts h ((meaning y).values a (running one))
     → FindGives (Err h) (meaning e) a old new

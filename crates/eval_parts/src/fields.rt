@@ -29,13 +29,12 @@ fn struct_member(members: &[Member], k: usize, path: Window) -> Window
     ensures window { window_of result ≡ member_of (slice_get (above_the_next (map member_layout members.now)) k) (window_of path) }
     ensures near { IsNear result.shift }
 {
-    match members.get(k) {
-        None => nothing(),
-        Some(member) => {
-            let below = total_width(&members[k + 1..]);
-            part_of(path, below as i128, width(&member.of) as u128)
-        }
+    if k >= members.len() {
+        return nothing();
     }
+    let member = &members[k];
+    let below = total_width(&members[k + 1..]);
+    part_of(path, below as i128, width(&member.of) as u128)
 }
 
 // A member of a union, which lies at the bottom.
@@ -46,10 +45,11 @@ fn union_member(members: &[Member], k: usize, path: Window) -> Window
     ensures window { window_of result ≡ member_of (slice_get (map at_the_bottom (map member_layout members.now)) k) (window_of path) }
     ensures near { IsNear result.shift }
 {
-    match members.get(k) {
-        None => nothing(),
-        Some(member) => part_of(path, 0, width(&member.of) as u128),
+    if k >= members.len() {
+        return nothing();
     }
+    let member = &members[k];
+    part_of(path, 0, width(&member.of) as u128)
 }
 
 /// The member with a number.

@@ -1,6 +1,6 @@
 //! The last steps of select paths (IEEE 1800-2017 clause 11.5.1).
 
-ghost use Rattle.std.specs.Prelude.{◌≡◌};
+ghost use Rattle.std.specs.Prelude.{◌≡◌, ◌<◌, ◌^◌};
 ghost use Rattle.sv_types.specs.Expressions.{meaning};
 ghost use Rattle.eval_parts.specs.Steps.{IsStepOf, is_held, can_read};
 
@@ -93,7 +93,8 @@ pub fn step_of(e: &Expr) -> Option<Step<'_>>
 
 // Whether a slot holds bits.
 fn is_filled(slots: &[Option<Vec4>], n: u32) -> bool
-    ensures { result ≡ is_held slots.now n }
+    ensures value { result ≡ is_held slots.now n }
+    ensures low { n < 2 ^ 32 }
 {
     match slots.get(n as usize) {
         None => false,

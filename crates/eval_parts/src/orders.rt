@@ -9,35 +9,19 @@ use b4_core::{Bit4, Vec4};
 use std::alloc::{AllocError, Global};
 use sv_types::{Expr, Form};
 
-// How many slices of so many bits a vector has; the last one may be shorter.
-fn count_of_slices(len: usize, slice: u32) -> u128
-    requires { 0 < slice }
-    ensures enough { len ≤ result * slice }
-    ensures least { result * slice < len + slice }
-{
-    let mut count: u128 = 0;
-    let mut covered: u128 = 0;
-    while covered < len as u128 {
-        covered += slice as u128;
-        count += 1;
-    }
-    count
-}
-
-// Slices from the last one to the first one.
-#[tactic(auto, using(crate::proofs::Streams::slicing))]
-fn slices_reversed(alloc: Global, bits: &[Bit4], slice: u32) -> Result<Vec<Bit4>, AllocError>
+// Slices from the last one, which may be shorter, to the first one.
+fn slices_reversed(alloc: Global, bits: &[Bit4], slice: usize) -> Result<Vec<Bit4>, AllocError>
     requires { 0 < slice }
     ensures { IfOk result (λ r. r.items ≡ streamed true slice bits.now) }
 {
-    let mut count = count_of_slices(bits.len(), slice);
-    let mut from = count * slice as u128;
+    let mut count = bits.len() / slice;
+    let mut from = count * slice;
     let mut reversed = Vec::with_capacity(alloc, bits.len())?;
+    reversed.extend_from_slice(&bits[from..])?;
     while count > 0 {
-        let to = from.min(bits.len() as u128);
-        from -= slice as u128;
         count -= 1;
-        reversed.extend_from_slice(&bits[from as usize..to as usize])?;
+        from -= slice;
+        reversed.extend_from_slice(&bits[from..from + slice])?;
     }
     Ok(reversed)
 }
@@ -45,7 +29,7 @@ fn slices_reversed(alloc: Global, bits: &[Bit4], slice: u32) -> Result<Vec<Bit4>
 /// A vector in the order of a stream. `<<` puts its slices of so many bits, which are cut from its low end on, in the reverse
 /// order; the last one is shorter if need be.
 #[tactic(auto, using(crate::proofs::Streams::empty))]
-pub fn stream(alloc: Global, reversed: bool, slice: u32, v: Vec4) -> Result<Vec4, AllocError>
+pub fn streamed_bits(alloc: Global, reversed: bool, slice: u32, v: Vec4) -> Result<Vec4, AllocError>
     ensures { IfOk result (λ r. r ≡ streamed reversed slice v) }
 {
     if !reversed {
@@ -53,7 +37,7 @@ pub fn stream(alloc: Global, reversed: bool, slice: u32, v: Vec4) -> Result<Vec4
     } else if slice == 0 {
         Ok(Vec4::from_vec(Vec::new(alloc)))
     } else {
-        Ok(Vec4::from_vec(slices_reversed(alloc, v.as_slice(), slice)?))
+        Ok(Vec4::from_vec(slices_reversed(alloc, v.as_slice(), slice as usize)?))
     }
 }
 
@@ -69,7 +53,6 @@ pub struct Stream<'a> {
 }
 
 /// The stream that an expression is, if it is one.
-#[tactic(auto, using(crate::proofs::Given::given))]
 pub fn stream_of(e: &Expr) -> Option<Stream<'_>>
     ensures { IsStreamOf result e.now }
 {
