@@ -65,6 +65,12 @@ short n (b ∷ v) some h =
     let none : drop n (b ∷ v) ≡ [] = drop_of_length-le (b ∷ v) (omega arith) in
     sym (ap (λ xs. stacked (slices (length v) n xs) ++ take n (b ∷ v)) none ∙ ap (λ xs. xs ++ take n (b ∷ v)) (nothing-left (length v) n) ∙ take_all n (b ∷ v) (omega arith))
 
+-- what is made first
+pub made-first : (n from : ℕ) (v old new : List Bit4) → 0 < n → length v - from < n → old ≡ [] → new ≡ old ++ take (length v - from) (drop from v) → new ≡ streamed true n (drop from v)
+made-first n from v old new some last none more =
+    more ∙ ap (λ o. o ++ take (length v - from) (drop from v)) none ∙ take_all (length v - from) (drop from v) (omega (arith, length-drop from v))
+    ∙ short n (drop from v) some (omega (arith, length-drop from v))
+
 pub top-less : (n w : ℕ) (v : List Bit4) → drop (min (w - n) (length v)) v ≡ drop (w - n) v
 top-less n w v = elim (cases_lt (length v) (w - n)) [
   | inl h ↦ let e : min (w - n) (length v) ≡ length v = omega arith in ap (λ k. drop k v) e ∙ drop-length v ∙ sym (drop_of_length-le v (omega arith))
