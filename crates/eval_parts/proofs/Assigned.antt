@@ -1,12 +1,12 @@
 -- Several expressions, each assigned to a place.
-use Rattle.std.proofs.Common.{◌≡◌, ℕ, ◌≤◌, max, Bool, List, [], ◌∷◌, map, zip, length, Option, Some, None, Ok, Err, refl, arith, ap, sym, ◌∙◌, subst}
+use Rattle.std.proofs.Common.{◌≡◌, ℕ, ◌≤◌, Bool, List, [], ◌∷◌, map, zip, Option, Some, None, Ok, Err, refl, arith, ap, sym, ◌∙◌, subst}
 use Rattle.b4_core.specs.declared.bit.Bit4.{Bit4}
 use Rattle.b4_core.specs.Vectors.{ext}
 use Rattle.sv_types.specs.declared.expression.Expr.{Expr}
 use Rattle.sv_types.specs.declared.expression.Form.TheVariants as V
 use Rattle.sv_types.specs.Layouts.{Layout, Part, layout, stacked}
-use Rattle.sv_types.specs.Surroundings.{Around, Tally, Stop, Parameter, Callee, onward}
-use Rattle.sv_types.specs.Meanings.{Meaning, Operand, wide, by_itself, at_width, values_all, most, total}
+use Rattle.sv_types.specs.Surroundings.{Around, Tally, Stop, Parameter, onward}
+use Rattle.sv_types.specs.Meanings.{Meaning, Operand, by_itself, at_width, values_all, most, total}
 use Rattle.sv_types.specs.Operators as O
 use Rattle.sv_types.specs.Operators.{assigned_to, assigned_width, passed, parts_of}
 use Rattle.sv_types.specs.Expressions.{meaning}

@@ -1,25 +1,17 @@
 -- Paths that are found, step by step.
-use Rattle.std.proofs.Common.{◌≡◌, ℕ, ◌+◌, ◌^◌, ◌<◌, ◌≤◌, max, min, Bool, true, false, cond, ℤ, pos, negsuc, ◌+ℤ◌, List, length, Option, Some, Ok, Err, refl, arith, ap, sym, ◌∙◌, subst}
-use Rattle.std.specs.Prelude.{slice_index_or, slice_get, nat_lt}
-use Rattle.std.proofs.lemmas.Int.{ints}
-use Rattle.std.proofs.lemmas.Bool.Decides.{nat_tests}
+use Rattle.std.proofs.Common.{◌≡◌, ℕ, ◌<◌, ◌≤◌, Bool, ℤ, List, length, Option, arith, ap, sym, ◌∙◌, subst}
+use Rattle.std.specs.Prelude.{slice_index_or, slice_get}
 use Rattle.b4_core.specs.declared.bit.Bit4.{Bit4}
 use Rattle.b4_core.specs.declared.bit.Bit4.TheVariants.{X}
-use Rattle.b4_core.specs.Vectors.{ext}
-use Rattle.sv_types.specs.Layouts.{Layout, stored}
-use Rattle.sv_types.specs.Windows.{Window, nowhere, whole, part, picked, tabulated, seen, at_least_0, member_of, element_of, between, slide}
-use Rattle.sv_types.specs.Surroundings.{Around, Tally, Stop, stopped, onward, is_signal, local_number}
-use Rattle.sv_types.specs.Meanings.{Meaning, Path, selected, reads_root}
+use Rattle.sv_types.specs.Layouts.{Layout}
+use Rattle.sv_types.specs.Windows.{Window, whole, member_of, element_of, between, slide}
+use Rattle.sv_types.specs.Surroundings.{Around, local_number}
+use Rattle.sv_types.specs.Meanings.{Meaning}
 use Rattle.sv_types.specs.Paths as P
 use Rattle.eval_parts.specs.declared.paths.Found.{Found}
-use Rattle.eval_parts.specs.declared.paths.Root.{Root}
 use Rattle.eval_parts.specs.declared.paths.Root.TheVariants as R
-use Rattle.eval_parts.specs.declared.halt.Halt.{Halt}
-use Rattle.eval_parts.specs.declared.halt.Halt.TheVariants as H
-use Rattle.eval_parts.specs.Surroundings.{running}
-use Rattle.eval_parts.specs.Answers.{Gives, Halts}
-use Rattle.eval_parts.specs.Places.{IsFound, IsHeld, IsNear, window_of, bit_of, bit_or_x, number_of}
-use Rattle.eval_parts.proofs.Seen.{index-vector, seen-below, member-high, element-high, between-high, slide-high}
+use Rattle.eval_parts.specs.Places.{IsFound, IsNear, window_of, bit_of, number_of}
+use Rattle.eval_parts.proofs.Seen.{index-vector, member-high, element-high, between-high, slide-high}
 
 pub found-signal : (of : Layout) (at n : ℕ) (a : Around) (f : Found) → f.root ≡ R.Signal n → window_of f.window ≡ whole (length of.two_state) → IsNear f.window.shift → IsFound f (P.signal of at n) a
 unfolding P.signal

@@ -1,5 +1,5 @@
 -- `inside`: a value is compared with each alternative.
-use Rattle.std.proofs.Common.{◌≡◌, ℕ, suc, ◌+◌, ◌≤◌, ◌<◌, max, Bool, List, [], ◌∷◌, ◌++◌, map, flat_map, drop, length, get_or, Option, Some, None, Ok, Err, refl, arith, ap, sym, ◌∙◌, subst, append_assoc}
+use Rattle.std.proofs.Common.{◌≡◌, ℕ, suc, ◌+◌, ◌≤◌, ◌<◌, max, Bool, List, [], ◌∷◌, ◌++◌, map, flat_map, drop, length, get_or, Option, Some, None, Ok, Err, arith, ap, sym, ◌∙◌, subst, append_assoc}
 use Rattle.std.proofs.Math.Seq.{drop-cons}
 use Rattle.std.proofs.Math.Numerals.{add-one}
 use Rattle.b4_core.specs.declared.bit.Bit4.{Bit4}
@@ -15,7 +15,7 @@ use Rattle.sv_types.specs.declared.expression.Choice.TheVariants as C
 use Rattle.sv_types.specs.declared.expression.Form.TheVariants as V
 use Rattle.sv_types.specs.Layouts.{Layout, layout}
 use Rattle.sv_types.specs.Surroundings.{Around, Tally, Stop, Parameter}
-use Rattle.sv_types.specs.Meanings.{Meaning, Operand, wide, by_itself, at_width, values_all, most, total}
+use Rattle.sv_types.specs.Meanings.{Meaning, Operand, wide, at_width, values_all, most, total}
 use Rattle.sv_types.specs.Operators as O
 use Rattle.sv_types.specs.Operators.{Alternative, both_wide, both_signed, is_inside, inside_operands, inside_width, inside_arithmetic}
 use Rattle.sv_types.specs.Expressions.{meaning}

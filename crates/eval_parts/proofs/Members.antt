@@ -1,15 +1,13 @@
 -- Members of structs and unions.
-use Rattle.std.proofs.Common.{◌≡◌, ℕ, zero, suc, ◌+◌, ◌-◌, ◌<◌, ◌≤◌, max, Bool, true, false, cond, ℤ, pos, List, [], ◌∷◌, ◌++◌, length, map, take, drop, get_or, Option, Some, None, refl, arith, length-append, ap, sym, ◌∙◌, inl, inr}
+use Rattle.std.proofs.Common.{◌≡◌, ℕ, zero, suc, ◌+◌, ◌-◌, ◌<◌, ◌≤◌, Bool, true, false, cond, pos, List, [], ◌∷◌, length, map, take, drop, get_or, Some, None, refl, arith, length-append, ap, sym, ◌∙◌}
 use Rattle.std.specs.Prelude.{slice_get, nat_lt}
 use Rattle.std.proofs.Math.Seq.{drop-cons}
 use Rattle.std.proofs.Math.Numerals.{add-one}
 use Rattle.std.proofs.lemmas.List.{take_all, length-drop}
-use Rattle.std.proofs.lemmas.Option.{slice_get_past, slice_get-get_or}
+use Rattle.std.proofs.lemmas.Option.{slice_get_past}
 use Rattle.std.proofs.lemmas.Bool.Decides.{nat_tests}
-use Rattle.sv_types.specs.declared.types.SvType.{SvType}
-use Rattle.sv_types.specs.declared.types.SvType.TheVariants as V
 use Rattle.sv_types.specs.declared.types.Member.{Member}
-use Rattle.sv_types.specs.Layouts.{Layout, Part, layout, member_layout, width_of, stacked_marks, widest_marks, above_the_next, at_the_bottom}
+use Rattle.sv_types.specs.Layouts.{Layout, member_layout, width_of, stacked_marks, widest_marks, above_the_next, at_the_bottom}
 use Rattle.sv_types.specs.Windows.{Window, nowhere, part, member_of}
 use Rattle.sv_types.proofs.Components.{member-layout}
 use Rattle.sv_types.proofs.Lengths.{layout-Scalar, layout-PackedArray, layout-Struct, layout-Union, layout-Enum, layout-UnpackedArray, width-Struct, width-Union}

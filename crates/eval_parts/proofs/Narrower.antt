@@ -1,5 +1,5 @@
 -- In a narrower context arithmetic is no wider.
-use Rattle.std.proofs.Common.{◌≡◌, ℕ, ◌≤◌, max, Bool, ℤ, List, [], ◌∷◌, map, flat_map, zip, refl, arith, ap, sym, ◌∙◌, subst}
+use Rattle.std.proofs.Common.{◌≡◌, ℕ, ◌≤◌, max, Bool, ℤ, List, [], ◌∷◌, map, flat_map, zip, refl, arith, ap, sym, subst}
 use Rattle.b4_core.specs.declared.bit.Bit4.{Bit4}
 use Rattle.b4_core.specs.declared.operators.UnOp.{UnOp}
 use Rattle.b4_core.specs.declared.operators.UnOp.TheVariants as U

@@ -1,16 +1,15 @@
 -- Paths by their last steps: what finding them takes, and what they read.
-use Rattle.std.proofs.Common.{◌≡◌, ℕ, ◌^◌, ◌<◌, ◌≤◌, Bool, true, false, cond, ℤ, List, length, Option, Some, None, Ok, Err, refl, arith, ap, sym, ◌∙◌, subst}
-use Rattle.std.specs.Prelude.{slice_index_or, slice_get, nat_lt}
-use Rattle.std.proofs.lemmas.Bool.Decides.{nat_tests}
+use Rattle.std.proofs.Common.{◌≡◌, ℕ, Bool, true, false, cond, ℤ, List, length, Option, Some, None, Ok, Err, refl, ap, sym, ◌∙◌, subst}
+use Rattle.std.specs.Prelude.{slice_index_or, slice_get}
 use Rattle.b4_core.specs.declared.bit.Bit4.{Bit4}
 use Rattle.b4_core.specs.declared.bit.Bit4.TheVariants.{X}
 use Rattle.b4_core.specs.Vectors.{ext}
 use Rattle.sv_types.specs.declared.expression.Expr.{Expr}
 use Rattle.sv_types.specs.declared.expression.Form.TheVariants as V
 use Rattle.sv_types.specs.Layouts.{Layout, layout, stored, width_of, count_of}
-use Rattle.sv_types.specs.Windows.{Window, whole, picked, tabulated, seen, member_of, element_of, between, slide}
+use Rattle.sv_types.specs.Windows.{whole, picked, tabulated, seen, member_of, element_of, between, slide}
 use Rattle.sv_types.specs.Surroundings.{Around, Tally, Stop, stopped, onward, is_signal, local_number}
-use Rattle.sv_types.specs.Meanings.{Meaning, Path, wide, signed, alone, selected, reads_root}
+use Rattle.sv_types.specs.Meanings.{Meaning, Path, wide, signed, selected, reads_root}
 use Rattle.sv_types.specs.Paths as P
 use Rattle.sv_types.specs.Paths.{places_from}
 use Rattle.sv_types.specs.Expressions.{meaning}
@@ -23,7 +22,7 @@ use Rattle.eval_parts.specs.declared.path_steps.Step.{Step}
 use Rattle.eval_parts.specs.declared.path_steps.Step.TheVariants as S
 use Rattle.eval_parts.specs.Surroundings.{running}
 use Rattle.eval_parts.specs.Answers.{Gives, Halts}
-use Rattle.eval_parts.specs.Places.{IsFound, FindGives, IsNear, window_of, number_of, bit_of, bit_or_x}
+use Rattle.eval_parts.specs.Places.{FindGives, IsNear, window_of, number_of, bit_of, bit_or_x}
 use Rattle.eval_parts.specs.Steps.{IsStep, IsValued, can_read}
 use Rattle.eval_parts.proofs.Efforts.{halts-onward, goes-on}
 use Rattle.eval_parts.proofs.Seen.{seen-below}

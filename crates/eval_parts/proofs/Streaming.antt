@@ -1,5 +1,5 @@
 -- Streams, and what is given to a target.
-use Rattle.std.proofs.Common.{◌≡◌, ℕ, ◌+◌, ◌-◌, ◌≤◌, max, Bool, false, List, [], ◌∷◌, ◌++◌, map, length, take, drop, replicate, Option, Ok, Err, refl, arith, length-append, ap, sym, ◌∙◌, subst}
+use Rattle.std.proofs.Common.{◌≡◌, ℕ, ◌-◌, max, Bool, false, List, [], ◌∷◌, ◌++◌, map, length, take, drop, replicate, Option, Ok, Err, refl, arith, length-append, ap, sym, ◌∙◌, subst}
 use Rattle.b4_core.specs.declared.bit.Bit4.{Bit4}
 use Rattle.b4_core.specs.declared.bit.Bit4.TheVariants.{Zero}
 use Rattle.b4_core.specs.Vectors.{ext}

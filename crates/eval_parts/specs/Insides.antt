@@ -4,7 +4,7 @@ use Rattle.std.specs.Global.{Global}
 use Rattle.b4_core.specs.declared.bit.Bit4.{Bit4}
 use Rattle.sv_types.specs.declared.expression.Choice.{Choice, fold-Choice}
 use Rattle.sv_types.specs.Layouts.{Layout}
-use Rattle.sv_types.specs.Surroundings.{Around, Tally, Parameter}
+use Rattle.sv_types.specs.Surroundings.{Around, Parameter}
 use Rattle.sv_types.specs.Meanings.{Meaning, Operand, values_all}
 use Rattle.sv_types.specs.Operators.{Alternative, both_wide, is_inside, inside_operands}
 use Rattle.sv_types.specs.Expressions.{choice_step, form_step, expr_step}

@@ -1,4 +1,4 @@
-use Rattle.std.proofs.Common.{◌≡◌, ◌-◌, length, drop, sym, subst, arith}
+use Rattle.std.proofs.Common.{◌-◌, length, drop, sym, subst, arith}
 use Rattle.b4_core.specs.Vectors.{num}
 use Rattle.eval_parts.specs.Logs.{IsLog}
 use Rattle.eval_parts.proofs.Logs.{log-next, room}

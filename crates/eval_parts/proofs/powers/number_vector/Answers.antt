@@ -1,4 +1,4 @@
-use Rattle.std.proofs.Common.{◌≡◌, ◌<◌, ◌-◌, ◌++◌, [], append_assoc, append-nil, ap, sym, ◌∙◌, arith}
+use Rattle.std.proofs.Common.{◌≡◌, ◌<◌, ◌-◌, ◌++◌, append_assoc, append-nil, ap, sym, ◌∙◌, arith}
 use Rattle.b4_core.specs.Vectors.{digits}
 use Rattle.b4_core.proofs.Digits.{digits_next}
 use Rattle.b4_core.proofs.TwosComplement.{vec_pos}
