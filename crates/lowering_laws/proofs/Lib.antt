@@ -4,3 +4,6 @@ pub mod Operators
 pub mod Lists
 pub mod Constants
 pub mod Assigned
+pub mod Passed
+pub mod Paths
+pub mod PathSteps

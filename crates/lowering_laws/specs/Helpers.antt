@@ -22,3 +22,4 @@ pub record StandsFor (f : S.Callee) (wide : ℕ) (g : T.Callee) : Type 0 where
   pub width : g.width ≡ wide
   pub inputs : g.inputs ≡ widths f.formals
   pub run : (v : Valuation) (xs : List (List Bit4)) → g.run v xs ≡ (f.run xs).result
+  pub long : (xs : List (List Bit4)) → length (f.run xs).result ≡ wide
