@@ -52,8 +52,7 @@ module _ (e : S.Meaning) (c : List Bit4) (w : ℕ) (s : Bool) (a : Around) (sc :
   number-same unsigned = record { least = least; most = most; sign = sym unsigned; value = value }
 
   pub signed-same : Same e w s a (T.signing (S.signed e) (T.literal c)) sc v
-  unfolding T.literal
-  unfolding T.signing
+  unfolding T.literal T.signing
   signed-same = record { least = least; most = most; sign = refl; value = ap (ext w s) (ext-at (length c) false c refl) ∙ value }
 
 -- a literal whose first digit doesn't go on

@@ -18,8 +18,9 @@ pub record Typed (of : Layout) (w : ℕ) (s : Bool) : Type 0 where
   pub sign : of.signed ≡ s
 
 same-sign : (b c : Bool) → same_sign b c ≡ true → b ≡ c
-same-sign true c h = sym h
-same-sign false true h = sym h
+same-sign true true h = refl
+same-sign true false h = sym h
+same-sign false true h = h
 same-sign false false h = refl
 
 typed-by : (of : Layout) (w : ℕ) (s : Bool) (p q : Bool) → (length of.two_state == w) ≡ p → same_sign of.signed s ≡ q → cond {A = ℕ} (p && q) 0 1 ≡ 0 → Typed of w s

@@ -8,11 +8,8 @@ use Rattle.b4_core.specs.Vectors.{ext, top_bit}
 use Rattle.sv_types.proofs.OperatorLengths.{length-ext}
 
 pub take-whole : {A : Type 0} (n : ℕ) (v : List A) → length v ≤ n → take n v ≡ v
-take-whole n [] h = take-none n
-  where
-    take-none : (k : ℕ) → take k [] ≡ []
-    take-none zero = refl
-    take-none (suc k) = refl
+take-whole zero [] h = refl
+take-whole (suc n) [] h = refl
 take-whole zero (b ∷ v) h = absurd (omega arith)
 take-whole (suc n) (b ∷ v) h = ap (λ x. b ∷ x) (take-whole n v (omega arith))
 

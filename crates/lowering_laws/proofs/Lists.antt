@@ -22,12 +22,11 @@ pub joined-same : (es : List S.Meaning) (a : Around) (ms : List T.Meaning) (sc :
 joined-same [] a [] sc v h = refl
 joined-same [] a (m ∷ ms) sc v h = absurd h
 joined-same (e ∷ es) a [] sc v h = absurd h
-joined-same (e ∷ es) a (m ∷ ms) sc v h i = joined-same es a ms sc v h.1 i ++ alone-value e a m sc v h.0 i
+joined-same (e ∷ es) a (m ∷ ms) sc v h = λ i. joined-same es a ms sc v h.1 i ++ alone-value e a m sc v h.0 i
 
 pub concat-same : (of : Layout) (at : ℕ) (es : List S.Meaning) (w : ℕ) (s : Bool) (a : Around) (ms : List T.Meaning) (sc : Scope) (v : Valuation)
     → (O.concat of at es).misfits ≡ 0 → AllSame es a ms sc v → Same (O.concat of at es) w s a (T.concatenation ms) sc v
-unfolding O.concat
-unfolding T.concatenation
+unfolding O.concat T.concatenation
 concat-same of at es w s a ms sc v fits h =
     let t = typed-four of (O.width_of_all es) false _ _ fits in
     let width = t.width in
@@ -51,8 +50,7 @@ often-is (suc n) xs = around n xs ∙ ap (λ ys. ys ++ xs) (often-is n xs)
 
 pub repeat-same : (of : Layout) (at n : ℕ) (es : List S.Meaning) (w : ℕ) (s : Bool) (a : Around) (ms : List T.Meaning) (sc : Scope) (v : Valuation)
     → (O.repeat of at n es).misfits ≡ 0 → AllSame es a ms sc v → Same (O.repeat of at n es) w s a (T.repetition n ms) sc v
-unfolding O.repeat
-unfolding T.repetition
+unfolding O.repeat T.repetition
 repeat-same of at n es w s a ms sc v fits h =
     let t = typed-four of (n * O.width_of_all es) false _ _ fits in
     let width = t.width ∙ sym (ap (λ k. n * k) (joined-width es a ms sc v h)) in

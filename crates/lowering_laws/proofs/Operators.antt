@@ -30,8 +30,7 @@ use Rattle.lowering_laws.proofs.Contexts.{Typed, typed, typed-four, alone-width,
 
 pub unary-same : (of : Layout) (at : ℕ) (op : UnOp) (e : S.Meaning) (w : ℕ) (s : Bool) (a : Around) (m : T.Meaning) (sc : Scope) (v : Valuation)
     → (O.unary of at op e).misfits ≡ 0 → Same e w s a m sc v → Same (O.unary of at op e) w s a (T.unary op m) sc v
-unfolding O.unary
-unfolding T.unary
+unfolding O.unary T.unary
 unary-same of at op e w s a m sc v fits h =
     let t = typed-four of (S.wide e) (S.signed e) _ _ fits in
     let width = t.width in
@@ -46,8 +45,7 @@ unary-same of at op e w s a m sc v fits h =
 
 pub binary-same : (of : Layout) (at : ℕ) (op : BinOp) (l r : S.Meaning) (w : ℕ) (s : Bool) (a : Around) (m n : T.Meaning) (sc : Scope) (v : Valuation)
     → (O.binary of at op l r).misfits ≡ 0 → Same l w s a m sc v → Same r w s a n sc v → Same (O.binary of at op l r) w s a (T.binary op m n) sc v
-unfolding O.binary
-unfolding T.binary
+unfolding O.binary T.binary
 binary-same of at op l r w s a m n sc v fits h g =
     let t = typed-four of (max (S.wide l) (S.wide r)) (S.signed l && S.signed r) _ _ fits in
     let width = t.width in
@@ -64,8 +62,7 @@ binary-same of at op l r w s a m n sc v fits h g =
 
 pub shift-same : (of : Layout) (at : ℕ) (op : ShiftOp) (l r : S.Meaning) (w : ℕ) (s : Bool) (a : Around) (m n : T.Meaning) (sc : Scope) (v : Valuation)
     → (O.shift of at op l r).misfits ≡ 0 → Same l w s a m sc v → SameAlone r a n sc v → Same (O.shift of at op l r) w s a (T.shift op m n) sc v
-unfolding O.shift
-unfolding T.shift
+unfolding O.shift T.shift
 shift-same of at op l r w s a m n sc v fits h g =
     let t = typed-four of (S.wide l) (S.signed l) _ _ fits in
     let width = t.width in
@@ -80,8 +77,7 @@ shift-same of at op l r w s a m n sc v fits h g =
 
 pub power-same : (of : Layout) (at : ℕ) (l r : S.Meaning) (w : ℕ) (s : Bool) (a : Around) (m n : T.Meaning) (sc : Scope) (v : Valuation)
     → (O.power of at l r).misfits ≡ 0 → Same l w s a m sc v → SameAlone r a n sc v → Same (O.power of at l r) w s a (T.power m n) sc v
-unfolding O.power
-unfolding T.power
+unfolding O.power T.power
 power-same of at l r w s a m n sc v fits h g =
     let t = typed-four of (S.wide l) (S.signed l) _ _ fits in
     let width = t.width in
@@ -113,27 +109,23 @@ truth-same e a m sc v h = ap truth_of (alone-value e a m sc v h)
 
 pub reduce-same : (of : Layout) (at : ℕ) (op : RedOp) (e : S.Meaning) (w : ℕ) (s : Bool) (a : Around) (m : T.Meaning) (sc : Scope) (v : Valuation)
     → (O.reduce of at op e).misfits ≡ 0 → SameAlone e a m sc v → Same (O.reduce of at op e) w s a (T.reduce op m) sc v
-unfolding O.reduce
-unfolding T.reduce
-reduce-same of at op e w s a m sc v fits h = bit-same of at _ _ _ _ _ w s a sc v fits (ap (reduction op) (alone-value e a m sc v h))
+unfolding O.reduce T.reduce
+reduce-same of at op e w s a m sc v fits h = bit-same of at _ (S.by_itself e ∷ []) _ (m ∷ []) _ w s a sc v fits (ap (reduction op) (alone-value e a m sc v h))
 
 pub negate-same : (of : Layout) (at : ℕ) (e : S.Meaning) (w : ℕ) (s : Bool) (a : Around) (m : T.Meaning) (sc : Scope) (v : Valuation)
     → (O.negate of at e).misfits ≡ 0 → SameAlone e a m sc v → Same (O.negate of at e) w s a (T.negate m) sc v
-unfolding O.negate
-unfolding T.negate
-negate-same of at e w s a m sc v fits h = bit-same of at _ _ _ _ _ w s a sc v fits (ap not4 (truth-same e a m sc v h))
+unfolding O.negate T.negate
+negate-same of at e w s a m sc v fits h = bit-same of at _ (S.by_itself e ∷ []) _ (m ∷ []) _ w s a sc v fits (ap not4 (truth-same e a m sc v h))
 
 pub both-same : (of : Layout) (at : ℕ) (l r : S.Meaning) (w : ℕ) (s : Bool) (a : Around) (m n : T.Meaning) (sc : Scope) (v : Valuation)
     → (O.both of at l r).misfits ≡ 0 → SameAlone l a m sc v → SameAlone r a n sc v → Same (O.both of at l r) w s a (T.both m n) sc v
-unfolding O.both
-unfolding T.both
-both-same of at l r w s a m n sc v fits h g = bit-same of at _ _ _ _ _ w s a sc v fits (λ i. and4 (truth-same l a m sc v h i) (truth-same r a n sc v g i))
+unfolding O.both T.both
+both-same of at l r w s a m n sc v fits h g = bit-same of at _ (S.by_itself l ∷ S.by_itself r ∷ []) _ (m ∷ n ∷ []) _ w s a sc v fits (λ i. and4 (truth-same l a m sc v h i) (truth-same r a n sc v g i))
 
 pub either-same : (of : Layout) (at : ℕ) (l r : S.Meaning) (w : ℕ) (s : Bool) (a : Around) (m n : T.Meaning) (sc : Scope) (v : Valuation)
     → (O.either of at l r).misfits ≡ 0 → SameAlone l a m sc v → SameAlone r a n sc v → Same (O.either of at l r) w s a (T.either m n) sc v
-unfolding O.either
-unfolding T.either
-either-same of at l r w s a m n sc v fits h g = bit-same of at _ _ _ _ _ w s a sc v fits (λ i. or4 (truth-same l a m sc v h i) (truth-same r a n sc v g i))
+unfolding O.either T.either
+either-same of at l r w s a m n sc v fits h g = bit-same of at _ (S.by_itself l ∷ S.by_itself r ∷ []) _ (m ∷ n ∷ []) _ w s a sc v fits (λ i. or4 (truth-same l a m sc v h i) (truth-same r a n sc v g i))
 
 -- comparisons: both operands are lowered at the larger of their widths, with a sign only if both have one
 abbrev pub SameCompared : S.Meaning → S.Meaning → S.Meaning → Around → T.Meaning → Scope → Valuation → Type 0
@@ -147,29 +139,26 @@ compared-value l r e a m n k sc v h g f =
 
 pub order-same : (of : Layout) (at : ℕ) (op : OrdOp) (l r : S.Meaning) (w : ℕ) (s : Bool) (a : Around) (m n : T.Meaning) (sc : Scope) (v : Valuation)
     → (O.order of at op l r).misfits ≡ 0 → SameCompared l r l a m sc v → SameCompared l r r a n sc v → Same (O.order of at op l r) w s a (T.order op m n) sc v
-unfolding O.order
-unfolding T.order
+unfolding O.order T.order
 order-same of at op l r w s a m n sc v fits h g =
-    bit-same of at _ _ _ _ _ w s a sc v fits
+    bit-same of at _ (O.compared l r) _ (m ∷ n ∷ []) _ w s a sc v fits
     (λ i. order_value op (h.sign i && g.sign i) (compared-value l r l a m n m sc v h g h i) (compared-value l r r a m n n sc v h g g i))
 
 equals-same : (op : EqOp) (l r : S.Meaning) (a : Around) (m n : T.Meaning) (sc : Scope) (v : Valuation)
     → SameCompared l r l a m sc v → SameCompared l r r a n sc v → T.compared op m n sc v ≡ O.equals op l r a
-equals-same op l r a m n sc v h g i = equality op (compared-value l r l a m n m sc v h g h i) (compared-value l r r a m n n sc v h g g i)
+equals-same op l r a m n sc v h g = λ i. equality op (compared-value l r l a m n m sc v h g h i) (compared-value l r r a m n n sc v h g g i)
 
 pub equal-same : (of : Layout) (at : ℕ) (op : EqOp) (l r : S.Meaning) (w : ℕ) (s : Bool) (a : Around) (m n : T.Meaning) (sc : Scope) (v : Valuation)
     → (O.equal of at op false l r).misfits ≡ 0 → SameCompared l r l a m sc v → SameCompared l r r a n sc v
     → Same (O.equal of at op false l r) w s a (T.equal op m n) sc v
-unfolding O.equal
-unfolding T.equal
-equal-same of at op l r w s a m n sc v fits h g = bit-same of at _ _ _ _ _ w s a sc v fits (equals-same op l r a m n sc v h g)
+unfolding O.equal T.equal
+equal-same of at op l r w s a m n sc v fits h g = bit-same of at _ (O.compared l r) _ (m ∷ n ∷ []) _ w s a sc v fits (equals-same op l r a m n sc v h g)
 
 pub unequal-same : (of : Layout) (at : ℕ) (op : EqOp) (l r : S.Meaning) (w : ℕ) (s : Bool) (a : Around) (m n : T.Meaning) (sc : Scope) (v : Valuation)
     → (O.equal of at op true l r).misfits ≡ 0 → SameCompared l r l a m sc v → SameCompared l r r a n sc v
     → Same (O.equal of at op true l r) w s a (T.unequal op m n) sc v
-unfolding O.equal
-unfolding T.unequal
-unequal-same of at op l r w s a m n sc v fits h g = bit-same of at _ _ _ _ _ w s a sc v fits (ap not4 (equals-same op l r a m n sc v h g))
+unfolding O.equal T.unequal
+unequal-same of at op l r w s a m n sc v fits h g = bit-same of at _ (O.compared l r) _ (m ∷ n ∷ []) _ w s a sc v fits (ap not4 (equals-same op l r a m n sc v h g))
 
 -- `?:`
 chosen-same : (b : Bit4) (x y : List Bit4) → T.chosen b x y ≡ O.chosen b x y
@@ -181,8 +170,7 @@ chosen-same Z x y = refl
 pub choose-same : (of : Layout) (at : ℕ) (on l r : S.Meaning) (w : ℕ) (s : Bool) (a : Around) (k m n : T.Meaning) (sc : Scope) (v : Valuation)
     → (O.choose of at on l r).misfits ≡ 0 → SameAlone on a k sc v → Same l w s a m sc v → Same r w s a n sc v
     → Same (O.choose of at on l r) w s a (T.choose k m n) sc v
-unfolding O.choose
-unfolding T.choose
+unfolding O.choose T.choose
 choose-same of at on l r w s a k m n sc v fits f h g =
     let t = typed of (max (S.wide l) (S.wide r)) (S.signed l && S.signed r) _ fits in
     let width = t.width in

@@ -1,5 +1,5 @@
 -- What is passed to functions, and what patterns are made of.
-use Rattle.std.proofs.Common.{◌≡◌, ℕ, zero, suc, ◌+◌, ◌-◌, ◌≤◌, max, Bool, true, false, ⊤, ⊥, length, take, map, zip, List, [], ◌∷◌, ◌++◌, refl, arith, sym, ◌∙◌, subst, ap, length-append}
+use Rattle.std.proofs.Common.{◌≡◌, ℕ, zero, suc, ◌+◌, ◌-◌, ◌≤◌, max, Bool, true, false, length, take, map, zip, List, [], ◌∷◌, ◌++◌, refl, arith, sym, ◌∙◌, subst, ap, length-append}
 use Rattle.b4_core.specs.declared.bit.Bit4.{Bit4}
 use Rattle.b4_core.specs.Vectors.{ext}
 use Rattle.row_machine.specs.Valuation.{Valuation}
@@ -18,7 +18,7 @@ use Rattle.lowering_laws.proofs.Constants.{IsItself, resigned-same}
 
 -- each target gives its formal what the actual gives it
 abbrev pub AllPassed : List Parameter → List S.Meaning → Around → List T.Meaning → Scope → Valuation → Type 0
-AllPassed [] [] a [] sc v = ⊤
+AllPassed [] [] a [] sc v = Unit {0}
 AllPassed [] [] a (m ∷ ms) sc v = ⊥
 AllPassed [] (e ∷ es) a ms sc v = ⊥
 AllPassed (p ∷ ps) [] a ms sc v = ⊥
@@ -32,7 +32,7 @@ arguments-same [] [] a (m ∷ ms) sc v h = absurd h
 arguments-same [] (e ∷ es) a ms sc v h = absurd h
 arguments-same (p ∷ ps) [] a ms sc v h = absurd h
 arguments-same (p ∷ ps) (e ∷ es) a [] sc v h = absurd h
-arguments-same (p ∷ ps) (e ∷ es) a (m ∷ ms) sc v h i = h.0 i ∷ arguments-same ps es a ms sc v h.1 i
+arguments-same (p ∷ ps) (e ∷ es) a (m ∷ ms) sc v h = λ i. h.0 i ∷ arguments-same ps es a ms sc v h.1 i
 
 abbrev result-of : ℕ → List S.Meaning → Around → List Bit4
 result-of f es a = ((a.callee f).run (O.passed (a.callee f).formals es a)).result
@@ -78,13 +78,13 @@ call-same of at f es w s a name ms sc v stands h =
     ∙ sym (call-alone of at f es a long)))
 
 -- Each target is as wide as its member or element, and alone has what the item gives it.
-record IsItem (p : Part) (e : S.Meaning) (a : Around) (m : T.Meaning) (sc : Scope) (v : Valuation) : Type 0 where
+pub record IsItem (p : Part) (e : S.Meaning) (a : Around) (m : T.Meaning) (sc : Scope) (v : Valuation) : Type 0 where
   pub width : m.width sc ≡ length p.two_state
   pub value : T.alone m sc v ≡ assigned_to p.two_state e a
   pub long : length (assigned_to p.two_state e a) ≡ length p.two_state
 
 abbrev pub AllItems : List Part → List S.Meaning → Around → List T.Meaning → Scope → Valuation → Type 0
-AllItems [] [] a [] sc v = ⊤
+AllItems [] [] a [] sc v = Unit {0}
 AllItems [] [] a (m ∷ ms) sc v = ⊥
 AllItems [] (e ∷ es) a ms sc v = ⊥
 AllItems (p ∷ ps) [] a ms sc v = ⊥
@@ -112,7 +112,7 @@ items-joined [] [] a (m ∷ ms) sc v h = absurd h
 items-joined [] (e ∷ es) a ms sc v h = absurd h
 items-joined (p ∷ ps) [] a ms sc v h = absurd h
 items-joined (p ∷ ps) (e ∷ es) a [] sc v h = absurd h
-items-joined (p ∷ ps) (e ∷ es) a (m ∷ ms) sc v h i = items-joined ps es a ms sc v h.1 i ++ h.0.value i
+items-joined (p ∷ ps) (e ∷ es) a (m ∷ ms) sc v h = λ i. items-joined ps es a ms sc v h.1 i ++ h.0.value i
 
 items-long : (ps : List Part) (es : List S.Meaning) (a : Around) (ms : List T.Meaning) (sc : Scope) (v : Valuation) → AllItems ps es a ms sc v → length (items-bits ps es a) ≡ bits-in ps
 items-long [] [] a [] sc v h = refl

@@ -2,6 +2,7 @@
 use Rattle.std.proofs.Common.{◌≡◌, ℕ, zero, suc, ◌+◌, ◌-◌, ◌*◌, ◌<◌, ◌≤◌, max, Bool, true, false, ◌&&◌, cond, ℤ, pos, negsuc, ◌+ℤ◌, ◌*ℤ◌, length, List, Option, Some, None, refl, arith, sym, ◌∙◌, subst, ap}
 use Rattle.std.specs.Prelude.{slice_get, int_le, int_lt}
 use Rattle.std.proofs.lemmas.Int.{ints}
+use Rattle.std.proofs.lemmas.Nat.{mul-le}
 use Rattle.std.proofs.lemmas.Bool.Decides.{nat_tests}
 use Rattle.picks.specs.Windows.{Window, whole, nowhere, part, picked}
 use Rattle.sv_types.specs.Layouts.{Layout, Part, count_of}
@@ -15,11 +16,11 @@ use Rattle.lowering_laws.specs.Images.{Names, NamesNone}
 -- a whole signal or local
 pub signal-names : (of : Layout) (at n : ℕ) (a : Around) → Names (P.signal of at n) a 0 (length of.two_state)
 unfolding P.signal
-signal-names of at n a j h = refl
+signal-names of at n a j h = ap (picked (whole (length of.two_state))) (omega arith)
 
 pub local-names : (of : Layout) (at n : ℕ) (a : Around) → Names (P.local of at n) a 0 (length of.two_state)
 unfolding P.local
-local-names of at n a j h = refl
+local-names of at n a j h = ap (picked (whole (length of.two_state))) (omega arith)
 
 -- so many bits from the bit o on of a path
 part-names : (from : S.Meaning) (a : Around) (low w o n : ℕ) → Names from a low w → o + n ≤ S.wide from
@@ -57,7 +58,10 @@ element-window of i q path h =
 
 -- elements lie one above the other
 rows-fit : (q n w all : ℕ) → q < n → n * w ≡ all → q * w + w ≤ all
-rows-fit q n w all h is = todo
+rows-fit q n w all h is =
+    let step : suc q * w ≡ q * w + w = grind arith in
+    let most = mul-le (suc q) w n w (omega arith) (omega arith) in
+    omega arith
 
 pub element-names : (of : Layout) (at : ℕ) (from i : S.Meaning) (a : Around) (q low w : ℕ)
     → HasRank from.of (P.index_of i a) q → length of.two_state ≡ length from.of.element.two_state
@@ -77,8 +81,8 @@ pub data NoRank (of : Layout) : Option ℤ → Type 0 where
   outside : (k : ℤ) → (int_le (pos 0) (rank of k) && int_lt (rank of k) (pos (count_of of.left of.right))) ≡ false → NoRank of (Some k)
 
 no-element : (of : Layout) (i : Option ℤ) (path : Window) (j : ℕ) → NoRank of i → picked (element_of of i path) j ≡ None
-no-element of None path j unknown = nothing-there _
-no-element of (Some k) path j (outside k h) = ap (λ b. picked (cond b (elements of (rank of k) 1 path) nowhere) j) h ∙ nothing-there _
+no-element of None path j unknown = nothing-there (pos j +ℤ pos 0)
+no-element of (Some k) path j (outside _ h) = ap (λ b. picked (cond b (elements of (rank of k) 1 path) nowhere) j) h ∙ nothing-there (pos j +ℤ pos 0)
 
 pub element-names-none : (of : Layout) (at : ℕ) (from i : S.Meaning) (a : Around) → NoRank from.of (P.index_of i a) → NamesNone (P.index of at from i) a
 unfolding P.index

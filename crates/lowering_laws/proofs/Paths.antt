@@ -29,7 +29,7 @@ abbrev pub raw : S.Meaning → Around → List Bit4
 raw e a = seen (e.base a) (e.window a) (S.wide e)
 
 -- A path: its value is what it reads, as its type stores it.
-record IsPath (e : S.Meaning) (a : Around) : Type 0 where
+pub record IsPath (e : S.Meaning) (a : Around) : Type 0 where
   pub value : (w : ℕ) (s : Bool) → e.value w s a ≡ ext w s (stored e.of.two_state (raw e a))
 
 pub selected-is-path : (of : Layout) (at : ℕ) (p : Path) (a : Around) → IsPath (S.selected of at p) a
@@ -45,7 +45,7 @@ path-itself : (e : S.Meaning) (a : Around) → IsPath e a → IsItself e a
 path-itself e a p w s = p.value w s ∙ sym (ap (ext w s) (path-alone e a p))
 
 -- the types of four-state bits store what they are given
-pub AllFour : List Bool → Type 0
+abbrev pub AllFour : List Bool → Type 0
 AllFour [] = Unit {0}
 AllFour (b ∷ bs) = (b ≡ false) × AllFour bs
 
@@ -75,10 +75,10 @@ no-window : (n : Named) (sc : Scope) (v : Valuation) → n.words ≡ None → (T
 no-window n sc v is = ap whole (all-bits n is)
 
 no-width : (n : Named) → n.words ≡ None → T.width_of n [] ≡ n.width
-no-width n is = ap (λ (ws : Option ℕ). elim ws [ None ↦ n.width | Some count ↦ elim ws [ None ↦ n.width | Some c ↦ c * n.width ] ]) is
+no-width n is = ap (λ (ws : Option ℕ). bits_named (record { window = whole 0; width = n.width; words = ws }) (elim ws [ None ↦ n.width | Some c ↦ c * n.width ])) is
 
 -- A name with selects that names the same bits reads what the path reads.
-record SameBits (e : S.Meaning) (a : Around) (name : Name) (sels : List SelMeaning) (sc : Scope) (v : Valuation) : Type 0 where
+pub record SameBits (e : S.Meaning) (a : Around) (name : Name) (sels : List SelMeaning) (sc : Scope) (v : Valuation) : Type 0 where
   pub path : IsPath e a
   pub image : IsImage e a (named sc.names name) v
   pub width : T.width_of (named sc.names name) sels ≡ S.wide e

@@ -1,6 +1,6 @@
 -- When an expression of the target language stands for one of an elaborated design (IEEE 1800-2017 clause 11.6, IEEE
 -- 1364-2005 clause 5.4).
-use Rattle.std.specs.Prelude.{◌≡◌, ℕ, ◌≤◌, max, Bool, ⊤, ⊥, List, [], ◌∷◌}
+use Rattle.std.specs.Prelude.{◌≡◌, ℕ, ◌≤◌, max, Bool, ⊤, List, [], ◌∷◌}
 use Rattle.row_machine.specs.Valuation.{Valuation}
 use Rattle.sv_types.specs.Surroundings.{Around}
 use Rattle.sv_types.specs.Meanings as S
