@@ -7,3 +7,4 @@ pub mod Assigned
 pub mod Passed
 pub mod Paths
 pub mod PathSteps
+pub mod Numbers
