@@ -8,3 +8,4 @@ pub mod Passed
 pub mod Paths
 pub mod PathSteps
 pub mod Numbers
+pub mod Offsets
