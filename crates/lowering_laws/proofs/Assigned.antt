@@ -16,7 +16,7 @@ use Rattle.v_meaning.specs.Values as T
 use Rattle.lowering_laws.specs.Same.{Same, SameAlone}
 use Rattle.lowering_laws.specs.Helpers.{Stores, StandsFor, widths}
 use Rattle.lowering_laws.proofs.Contexts.{Typed, typed, alone-width, alone-value}
-use Rattle.lowering_laws.proofs.Extensions.{ext-at, ext-again, ext-then-cut}
+use Rattle.lowering_laws.proofs.Extensions.{take-whole, ext-at, ext-again, ext-then-cut}
 use Rattle.lowering_laws.proofs.Constants.{IsItself, resigned-same}
 
 -- it isn't a stream: what it gives a target is its value, cut
@@ -66,8 +66,14 @@ argument-is n e a m sc v h long =
     ∙ ap (λ x. take n (ext (max n (S.wide e)) (S.signed e) x)) (alone-value e a m sc v h)
     ∙ ext-then-cut n (S.wide e) (S.signed e) (S.alone e a) long
 
+-- what something of n bits gives to a target of n bits is its value alone
+pub given-alone : (m : T.Meaning) (n : ℕ) (x : List Bit4) (sc : Scope) (v : Valuation) → m.width sc ≡ n → T.alone m sc v ≡ x → length x ≡ n → T.given m n sc v ≡ x
+given-alone m n x sc v width is long =
+    let larger : max n (m.width sc) ≡ m.width sc = omega arith in
+    ap (λ k. take n (m.value k m.signed sc v)) larger ∙ ap (take n) is ∙ take-whole n x (omega arith)
+
 -- a call of a helper with one argument
-helper-alone : (two_state : List Bool) (helper : Name) (m : T.Meaning) (x : List Bit4) (sc : Scope) (v : Valuation)
+pub helper-alone : (two_state : List Bool) (helper : Name) (m : T.Meaning) (x : List Bit4) (sc : Scope) (v : Valuation)
     → Stores two_state (sc.callee helper) → T.given m (length two_state) sc v ≡ x → length x ≡ length two_state
     → T.alone (T.call helper (m ∷ [])) sc v ≡ stored two_state x
 unfolding T.call
@@ -78,7 +84,7 @@ helper-alone two_state helper m x sc v helps given long =
     ∙ ap (ext f.width false) (helps.run v x)
     ∙ ext-at f.width false (stored two_state x) (length-stored two_state x long ∙ sym helps.width)
 
-call-width : (helper : Name) (ms : List T.Meaning) (sc : Scope) → (T.call helper ms).width sc ≡ (sc.callee helper).width
+pub call-width : (helper : Name) (ms : List T.Meaning) (sc : Scope) → (T.call helper ms).width sc ≡ (sc.callee helper).width
 unfolding T.call
 call-width helper ms sc = refl
 

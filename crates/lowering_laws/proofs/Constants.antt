@@ -74,7 +74,7 @@ going-on-same of at c w s a sc v fits =
     let long = length-ext (max w (length c)) true c in
     signed-same (O.literal of at true c) (ext (max w (length c)) true c) w s a sc v (omega arith) (omega arith) (ext-larger w s true c)
 
-length-fill : (n : ℕ) (b : Bit4) → length (replicate n b) ≡ n
+pub length-fill : (n : ℕ) (b : Bit4) → length (replicate n b) ≡ n
 length-fill zero b = refl
 length-fill (suc n) b = ap suc (length-fill n b)
 

@@ -9,3 +9,4 @@ pub mod Paths
 pub mod PathSteps
 pub mod Numbers
 pub mod Offsets
+pub mod ReadAt

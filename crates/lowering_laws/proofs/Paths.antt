@@ -35,13 +35,13 @@ pub record IsPath (e : S.Meaning) (a : Around) : Type 0 where
 pub selected-is-path : (of : Layout) (at : ℕ) (p : Path) (a : Around) → IsPath (S.selected of at p) a
 selected-is-path of at p a = record { value = λ w s. refl }
 
-length-raw : (e : S.Meaning) (a : Around) → length (raw e a) ≡ S.wide e
+pub length-raw : (e : S.Meaning) (a : Around) → length (raw e a) ≡ S.wide e
 length-raw e a = length-tabulated (S.wide e) _
 
-path-alone : (e : S.Meaning) (a : Around) → IsPath e a → S.alone e a ≡ stored e.of.two_state (raw e a)
+pub path-alone : (e : S.Meaning) (a : Around) → IsPath e a → S.alone e a ≡ stored e.of.two_state (raw e a)
 path-alone e a p = p.value (S.wide e) (S.signed e) ∙ ext-at (S.wide e) (S.signed e) _ (length-stored e.of.two_state (raw e a) (length-raw e a))
 
-path-itself : (e : S.Meaning) (a : Around) → IsPath e a → IsItself e a
+pub path-itself : (e : S.Meaning) (a : Around) → IsPath e a → IsItself e a
 path-itself e a p w s = p.value w s ∙ sym (ap (ext w s) (path-alone e a p))
 
 -- the types of four-state bits store what they are given
@@ -49,7 +49,7 @@ abbrev pub AllFour : List Bool → Type 0
 AllFour [] = Unit {0}
 AllFour (b ∷ bs) = (b ≡ false) × AllFour bs
 
-stored-four-bits : (bs : List Bool) (v : List Bit4) → AllFour bs → length v ≡ length bs → stored bs v ≡ v
+pub stored-four-bits : (bs : List Bool) (v : List Bit4) → AllFour bs → length v ≡ length bs → stored bs v ≡ v
 stored-four-bits [] [] h long = refl
 stored-four-bits [] (x ∷ v) h long = absurd (omega arith)
 stored-four-bits (true ∷ bs) v h long = absurd (true≢false h.0)
@@ -63,11 +63,11 @@ selected-window s sc v w = elim (s.base sc v) [ None ↦ nowhere | Some k ↦ pa
 all-bits : (n : Named) → n.words ≡ None → all_bits n ≡ n.width
 all-bits n is = ap (λ (ws : Option ℕ). elim ws [ None ↦ n.width | Some count ↦ count * n.width ]) is
 
-one-window : (n : Named) (s : SelMeaning) (sc : Scope) (v : Valuation) → n.words ≡ None → (T.path_of n (s ∷ []) sc v).window ≡ selected-window s sc v n.width
+pub one-window : (n : Named) (s : SelMeaning) (sc : Scope) (v : Valuation) → n.words ≡ None → (T.path_of n (s ∷ []) sc v).window ≡ selected-window s sc v n.width
 one-window n s sc v is =
     ap (λ (ws : Option ℕ). (select s (s.base sc v) (record { window = whole (elim ws [ None ↦ n.width | Some count ↦ count * n.width ]); width = n.width; words = ws })).window) is
 
-one-width : (n : Named) (s : SelMeaning) → n.words ≡ None → T.width_of n (s ∷ []) ≡ taken s.decimal s.extent
+pub one-width : (n : Named) (s : SelMeaning) → n.words ≡ None → T.width_of n (s ∷ []) ≡ taken s.decimal s.extent
 one-width n s is =
     ap (λ (ws : Option ℕ). bits_named (select s None (record { window = whole (elim ws [ None ↦ n.width | Some count ↦ count * n.width ]); width = n.width; words = ws })) (elim ws [ None ↦ n.width | Some count ↦ count * n.width ])) is
 
@@ -93,7 +93,7 @@ value-same e a name sels sc v h =
     ∙ (λ i. seen (h.image.holds i) window (h.width i))
     ∙ tabulated-same (S.wide e) _ _ (λ j k. ap (bit_at (e.base a)) (sym (h.bits j k)))
 
-reference-alone : (e : S.Meaning) (a : Around) (name : Name) (sels : List SelMeaning) (sc : Scope) (v : Valuation)
+pub reference-alone : (e : S.Meaning) (a : Around) (name : Name) (sels : List SelMeaning) (sc : Scope) (v : Valuation)
     → SameBits e a name sels sc v → ((T.reference name sels).width sc ≡ S.wide e) × (T.alone (T.reference name sels) sc v ≡ raw e a)
 unfolding T.reference
 reference-alone e a name sels sc v h =
