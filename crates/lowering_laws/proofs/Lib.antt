@@ -10,3 +10,4 @@ pub mod PathSteps
 pub mod Numbers
 pub mod Offsets
 pub mod ReadAt
+pub mod Ranks

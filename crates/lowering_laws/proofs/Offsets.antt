@@ -42,7 +42,7 @@ and-is-one Z X = refl
 and-is-one Z Z = refl
 
 -- the truth of one bit is 1 just where the bit is
-truth-one : (b : Bit4) → is_one (truth_of (ext 1 false (b ∷ []))) ≡ is_one b
+pub truth-one : (b : Bit4) → is_one (truth_of (ext 1 false (b ∷ []))) ≡ is_one b
 truth-one Zero = refl
 truth-one One = refl
 truth-one X = refl
@@ -142,12 +142,12 @@ module _ (o r : T.Meaning) (item w : ℕ) (sc : Scope) (v : Valuation) (some : 1
 abbrev bits-at : T.Meaning → ℕ → Scope → Valuation → List Bit4
 bits-at r w sc v = r.value w false sc v
 
-and-cases : (p q : Bool) → (p && q) ≡ true → (p ≡ true) × (q ≡ true)
+pub and-cases : (p q : Bool) → (p && q) ≡ true → (p ≡ true) × (q ≡ true)
 and-cases true true h = (refl, refl)
 and-cases true false h = absurd (true≢false (sym h))
 and-cases false q h = absurd (true≢false (sym h))
 
-and-false : (p q : Bool) → (p && q) ≡ false → (p ≡ false) ⊎ ((p ≡ true) × (q ≡ false))
+pub and-false : (p q : Bool) → (p && q) ≡ false → (p ≡ false) ⊎ ((p ≡ true) × (q ≡ false))
 and-false true true h = absurd (true≢false h)
 and-false true false h = inr (refl, refl)
 and-false false q h = inl refl
