@@ -11,3 +11,4 @@ pub mod Numbers
 pub mod Offsets
 pub mod ReadAt
 pub mod Ranks
+pub mod Placements

@@ -52,7 +52,7 @@ both-holds : (g h : T.Meaning) (sc : Scope) (v : Valuation) → is_one (T.truth 
 unfolding T.both
 both-holds g h sc v = truth-one (and4 (T.truth g sc v) (T.truth h sc v)) ∙ and-is-one (T.truth g sc v) (T.truth h sc v)
 
-and-true : (b : Bool) → (b && true) ≡ b
+pub and-true : (b : Bool) → (b && true) ≡ b
 and-true true = refl
 and-true false = refl
 
@@ -69,7 +69,7 @@ unknown-bits (suc w) h = refl
 known-vec : (w : ℕ) (n : ℤ) → known (vec w n) ≡ true
 known-vec w n = known-digits w _
 
-arithmetic-known : (f : ℤ → ℤ → ℤ) (a b : List Bit4) (p : Bool) → 1 ≤ length a → (known a && known b) ≡ p → known (arithmetic f false a b) ≡ p
+pub arithmetic-known : (f : ℤ → ℤ → ℤ) (a b : List Bit4) (p : Bool) → 1 ≤ length a → (known a && known b) ≡ p → known (arithmetic f false a b) ≡ p
 arithmetic-known f a b true some is =
     ap (λ c. known (if c then vec (length a) (f (number false a) (number false b)) else unknown (length a))) is ∙ known-vec (length a) (f (number false a) (number false b))
 arithmetic-known f a b false some is =

@@ -24,7 +24,7 @@ unfolding P.local
 local-names of at n a j h = ap (picked (whole (length of.two_state))) (omega arith)
 
 -- so many bits from the bit o on of a path
-part-names : (from : S.Meaning) (a : Around) (low w o n : ℕ) → Names from a low w → o + n ≤ S.wide from
+pub part-names : (from : S.Meaning) (a : Around) (low w o n : ℕ) → Names from a low w → o + n ≤ S.wide from
     → (j : ℕ) → j < n → picked (part (pos o) n (from.window a)) j ≡ picked (whole w) ((low + o) + j)
 part-names from a low w o n names fits j h =
     let same : low + (o + j) ≡ (low + o) + j = omega arith in
