@@ -12,3 +12,4 @@ pub mod Offsets
 pub mod ReadAt
 pub mod Ranks
 pub mod Placements
+pub mod WriteAt
