@@ -1,10 +1,10 @@
 -- What is assigned, cast or passed to a function.
-use Rattle.std.proofs.Common.{◌≡◌, ℕ, zero, suc, ◌+◌, ◌-◌, ◌≤◌, max, Bool, true, false, length, take, map, zip, List, [], ◌∷◌, refl, arith, sym, ◌∙◌, subst, ap}
+use Rattle.std.proofs.Common.{◌≡◌, ℕ, max, Bool, false, length, take, List, [], ◌∷◌, refl, arith, sym, ◌∙◌, subst, ap}
 use Rattle.b4_core.specs.declared.bit.Bit4.{Bit4}
 use Rattle.b4_core.specs.Vectors.{ext}
 use Rattle.row_machine.specs.Valuation.{Valuation}
 use Rattle.sv_types.specs.Layouts.{Layout, stored}
-use Rattle.sv_types.specs.Surroundings.{Around, Parameter}
+use Rattle.sv_types.specs.Surroundings.{Around}
 use Rattle.sv_types.specs.Meanings as S
 use Rattle.sv_types.specs.Meanings.{cut_to}
 use Rattle.sv_types.specs.Operators as O
@@ -14,9 +14,9 @@ use Rattle.v_tree.specs.Names.{Name}
 use Rattle.v_meaning.specs.Scopes.{Scope}
 use Rattle.v_meaning.specs.Values as T
 use Rattle.lowering_laws.specs.Same.{Same, SameAlone}
-use Rattle.lowering_laws.specs.Helpers.{Stores, StandsFor, widths}
-use Rattle.lowering_laws.proofs.Contexts.{Typed, typed, alone-width, alone-value}
-use Rattle.lowering_laws.proofs.Extensions.{take-whole, ext-at, ext-again, ext-then-cut}
+use Rattle.lowering_laws.specs.Helpers.{Stores}
+use Rattle.lowering_laws.proofs.Contexts.{alone-width, alone-value}
+use Rattle.lowering_laws.proofs.Extensions.{take-whole, ext-at, ext-then-cut}
 use Rattle.lowering_laws.proofs.Constants.{IsItself, resigned-same}
 
 -- it isn't a stream: what it gives a target is its value, cut

@@ -1,5 +1,5 @@
 -- Numbers stand for literals, fills and constants, and a sign for what has its own width.
-use Rattle.std.proofs.Common.{◌≡◌, ℕ, zero, suc, ◌+◌, ◌-◌, ◌≤◌, max, Bool, true, false, ◌||◌, length, replicate, List, [], ◌∷◌, refl, arith, sym, ◌∙◌, subst, ap}
+use Rattle.std.proofs.Common.{◌≡◌, ℕ, zero, suc, ◌≤◌, max, Bool, true, false, length, replicate, List, refl, arith, sym, ◌∙◌, ap}
 use Rattle.b4_core.specs.declared.bit.Bit4.{Bit4}
 use Rattle.b4_core.specs.Vectors.{ext}
 use Rattle.row_machine.specs.Valuation.{Valuation}
@@ -13,8 +13,8 @@ use Rattle.sv_types.proofs.OperatorLengths.{length-ext}
 use Rattle.v_meaning.specs.Scopes.{Scope}
 use Rattle.v_meaning.specs.Values as T
 use Rattle.lowering_laws.specs.Same.{Same, SameAlone}
-use Rattle.lowering_laws.proofs.Contexts.{Typed, typed, alone-width, alone-value}
-use Rattle.lowering_laws.proofs.Extensions.{ext-at, ext-again, ext-larger}
+use Rattle.lowering_laws.proofs.Contexts.{typed, alone-width, alone-value}
+use Rattle.lowering_laws.proofs.Extensions.{ext-at, ext-larger}
 
 -- Whatever its context, it has its own bits, extended by the sign of the context.
 abbrev pub IsItself : S.Meaning → Around → Type 0

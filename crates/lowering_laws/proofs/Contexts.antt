@@ -1,8 +1,7 @@
 -- What a typed expression has as its width and sign, and what the target's contexts are then.
-use Rattle.std.proofs.Common.{◌≡◌, ℕ, ◌+◌, ◌≤◌, max, Bool, true, false, cond, length, List, refl, arith, sym, ◌∙◌, subst, ap}
+use Rattle.std.proofs.Common.{◌≡◌, ℕ, ◌+◌, max, Bool, true, false, cond, length, refl, arith, sym, ◌∙◌}
 use Rattle.std.specs.Prelude.{◌==◌, ◌&&◌}
 use Rattle.std.proofs.lemmas.Bool.Decides.{nat_tests}
-use Rattle.b4_core.specs.declared.bit.Bit4.{Bit4}
 use Rattle.row_machine.specs.Valuation.{Valuation}
 use Rattle.sv_types.specs.Layouts.{Layout}
 use Rattle.sv_types.specs.Surroundings.{Around}

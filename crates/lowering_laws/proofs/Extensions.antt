@@ -1,5 +1,5 @@
 -- Vectors that are extended and cut.
-use Rattle.std.proofs.Common.{◌≡◌, ℕ, zero, suc, ◌+◌, ◌-◌, ◌<◌, ◌≤◌, max, Bool, true, false, length, take, replicate, List, [], ◌∷◌, ◌++◌, refl, arith, sym, ◌∙◌, subst, ap, append-nil}
+use Rattle.std.proofs.Common.{◌≡◌, ℕ, zero, suc, ◌-◌, ◌<◌, ◌≤◌, max, Bool, true, false, length, take, replicate, List, [], ◌∷◌, ◌++◌, refl, arith, sym, ◌∙◌, ap, append-nil}
 use Rattle.std.specs.Prelude.{nat_le}
 use Rattle.std.proofs.lemmas.Bool.Decides.{nat_tests}
 use Rattle.b4_core.specs.declared.bit.Bit4.{Bit4}

@@ -13,3 +13,4 @@ pub mod ReadAt
 pub mod Ranks
 pub mod Placements
 pub mod WriteAt
+pub mod Targets

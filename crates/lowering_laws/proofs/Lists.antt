@@ -1,16 +1,15 @@
 -- Concatenations stand for concatenations.
-use Rattle.std.proofs.Common.{◌≡◌, ℕ, zero, suc, ◌+◌, ◌*◌, ◌≤◌, max, Bool, true, false, length, map, List, [], ◌∷◌, ◌++◌, refl, arith, sym, ◌∙◌, subst, ap, append-nil, append_assoc}
-use Rattle.b4_core.specs.declared.bit.Bit4.{Bit4}
+use Rattle.std.proofs.Common.{◌≡◌, ℕ, zero, suc, ◌*◌, Bool, false, List, [], ◌∷◌, ◌++◌, refl, arith, sym, ◌∙◌, ap, append-nil, append_assoc}
 use Rattle.b4_core.specs.Vectors.{ext}
 use Rattle.row_machine.specs.Valuation.{Valuation}
-use Rattle.sv_types.specs.Layouts.{Layout, stacked, repeated}
+use Rattle.sv_types.specs.Layouts.{Layout, repeated}
 use Rattle.sv_types.specs.Surroundings.{Around}
 use Rattle.sv_types.specs.Meanings as S
 use Rattle.sv_types.specs.Operators as O
 use Rattle.v_meaning.specs.Scopes.{Scope}
 use Rattle.v_meaning.specs.Values as T
-use Rattle.lowering_laws.specs.Same.{Same, SameAlone, AllSame}
-use Rattle.lowering_laws.proofs.Contexts.{Typed, typed-four, alone-width, alone-value}
+use Rattle.lowering_laws.specs.Same.{Same, AllSame}
+use Rattle.lowering_laws.proofs.Contexts.{typed-four, alone-width, alone-value}
 
 pub joined-width : (es : List S.Meaning) (a : Around) (ms : List T.Meaning) (sc : Scope) (v : Valuation) → AllSame es a ms sc v → T.joined_width ms sc ≡ O.width_of_all es
 joined-width [] a [] sc v h = refl

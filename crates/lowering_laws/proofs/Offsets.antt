@@ -1,5 +1,5 @@
 -- A step by an index moves the offset of a path.
-use Rattle.std.proofs.Common.{◌≡◌, ◌⊎◌, inl, inr, ℕ, zero, suc, ◌+◌, ◌-◌, ◌*◌, ◌<◌, ◌≤◌, ◌^◌, max, Bool, true, false, ◌&&◌, cond, ℤ, pos, ◌+ℤ◌, ◌*ℤ◌, length, replicate, List, [], ◌∷◌, Option, Some, None, refl, arith, sym, ◌∙◌, subst, ap, true≢false, if◌then◌else◌}
+use Rattle.std.proofs.Common.{◌≡◌, ◌⊎◌, inl, inr, ℕ, zero, suc, ◌+◌, ◌*◌, ◌<◌, ◌≤◌, ◌^◌, Bool, true, false, ◌&&◌, ℤ, ◌+ℤ◌, ◌*ℤ◌, length, List, [], ◌∷◌, Option, Some, None, refl, arith, sym, ◌∙◌, subst, ap, true≢false, if◌then◌else◌}
 use Rattle.b4_core.specs.declared.bit.Bit4.{Bit4}
 use Rattle.b4_core.specs.declared.bit.Bit4.TheVariants.{Zero, One, X, Z}
 use Rattle.b4_core.specs.declared.operators.BinOp.TheVariants.{Add, Mul}
@@ -15,10 +15,10 @@ use Rattle.sv_types.specs.Paths as P
 use Rattle.v_meaning.specs.Scopes.{Scope}
 use Rattle.v_meaning.specs.Values as T
 use Rattle.lowering_laws.specs.Images.{Names, NamesNone}
-use Rattle.lowering_laws.specs.Placed.{holds, HasRank, NoRank, IsRank, IsPlaced}
+use Rattle.lowering_laws.specs.Placed.{holds, IsRank, IsPlaced}
 use Rattle.lowering_laws.proofs.Extensions.{ext-at}
 use Rattle.lowering_laws.proofs.Numbers.{HasNumber, literal-number, sum-number, product-number, number-alone, known-digits, length-digits}
-use Rattle.lowering_laws.proofs.PathSteps.{rows-fit, element-names, element-names-none, step-from-none, signal-names, local-names}
+use Rattle.lowering_laws.proofs.PathSteps.{rows-fit, element-names, element-names-none, step-from-none}
 
 -- two guards as one
 abbrev pub and_guard : Option T.Meaning → Option T.Meaning → Option T.Meaning

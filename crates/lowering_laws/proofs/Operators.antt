@@ -1,5 +1,5 @@
 -- Operators stand for operators.
-use Rattle.std.proofs.Common.{◌≡◌, ℕ, ◌+◌, ◌≤◌, max, Bool, true, false, cond, length, List, [], ◌∷◌, refl, arith, sym, ◌∙◌, subst, ap}
+use Rattle.std.proofs.Common.{◌≡◌, ℕ, max, Bool, true, false, List, [], ◌∷◌, refl, arith, sym, ◌∙◌, ap}
 use Rattle.std.specs.Prelude.{◌&&◌}
 use Rattle.b4_core.specs.declared.bit.Bit4.{Bit4}
 use Rattle.b4_core.specs.declared.bit.Bit4.TheVariants.{Zero, One, X, Z}
@@ -26,7 +26,7 @@ use Rattle.sv_types.specs.Operators as O
 use Rattle.v_meaning.specs.Scopes.{Scope}
 use Rattle.v_meaning.specs.Values as T
 use Rattle.lowering_laws.specs.Same.{Same, SameAlone}
-use Rattle.lowering_laws.proofs.Contexts.{Typed, typed, typed-four, alone-width, alone-value, larger-width}
+use Rattle.lowering_laws.proofs.Contexts.{typed, typed-four, alone-value, larger-width}
 
 pub unary-same : (of : Layout) (at : ℕ) (op : UnOp) (e : S.Meaning) (w : ℕ) (s : Bool) (a : Around) (m : T.Meaning) (sc : Scope) (v : Valuation)
     → (O.unary of at op e).misfits ≡ 0 → Same e w s a m sc v → Same (O.unary of at op e) w s a (T.unary op m) sc v

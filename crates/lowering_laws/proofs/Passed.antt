@@ -1,9 +1,9 @@
 -- What is passed to functions, and what patterns are made of.
-use Rattle.std.proofs.Common.{◌≡◌, ℕ, zero, suc, ◌+◌, ◌-◌, ◌≤◌, max, Bool, true, false, length, take, map, zip, List, [], ◌∷◌, ◌++◌, refl, arith, sym, ◌∙◌, subst, ap, length-append}
+use Rattle.std.proofs.Common.{◌≡◌, ℕ, ◌+◌, Bool, false, length, map, zip, List, [], ◌∷◌, ◌++◌, refl, arith, sym, ◌∙◌, subst, ap, length-append}
 use Rattle.b4_core.specs.declared.bit.Bit4.{Bit4}
 use Rattle.b4_core.specs.Vectors.{ext}
 use Rattle.row_machine.specs.Valuation.{Valuation}
-use Rattle.sv_types.specs.Layouts.{Layout, Part, stored, stacked}
+use Rattle.sv_types.specs.Layouts.{Layout, Part, stacked}
 use Rattle.sv_types.specs.Surroundings.{Around, Parameter}
 use Rattle.sv_types.specs.Meanings as S
 use Rattle.sv_types.specs.Operators as O
@@ -12,7 +12,7 @@ use Rattle.v_tree.specs.Names.{Name}
 use Rattle.v_meaning.specs.Scopes.{Scope}
 use Rattle.v_meaning.specs.Values as T
 use Rattle.lowering_laws.specs.Same.{Same}
-use Rattle.lowering_laws.specs.Helpers.{Stores, StandsFor, widths}
+use Rattle.lowering_laws.specs.Helpers.{StandsFor, widths}
 use Rattle.lowering_laws.proofs.Extensions.{ext-at}
 use Rattle.lowering_laws.proofs.Constants.{IsItself, resigned-same}
 

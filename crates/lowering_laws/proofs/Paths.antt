@@ -1,27 +1,24 @@
 -- Select paths without a guard: a name of the target with a select of the same bits.
-use Rattle.std.proofs.Common.{◌≡◌, ℕ, zero, suc, ◌+◌, ◌-◌, ◌*◌, ◌<◌, ◌≤◌, max, Bool, true, false, ◌&&◌, cond, ℤ, pos, negsuc, ◌+ℤ◌, ◌*ℤ◌, length, take, map, zip, List, [], ◌∷◌, Option, Some, None, refl, arith, sym, ◌∙◌, subst, ap, true≢false}
-use Rattle.std.specs.Prelude.{slice_get, int_le, int_lt}
+use Rattle.std.proofs.Common.{◌≡◌, ℕ, ◌*◌, ◌<◌, Bool, true, false, length, List, [], ◌∷◌, Option, Some, None, refl, arith, sym, ◌∙◌, ap, true≢false}
 use Rattle.b4_core.specs.declared.bit.Bit4.{Bit4}
-use Rattle.b4_core.specs.declared.bit.Bit4.TheVariants.{X}
 use Rattle.b4_core.specs.Vectors.{ext}
 use Rattle.row_machine.specs.Valuation.{Valuation}
 use Rattle.row_machine.specs.Places.{vector_at}
-use Rattle.picks.specs.Windows.{Window, whole, nowhere, part, picked, bit_at, seen, tabulated}
-use Rattle.sv_types.specs.Layouts.{Layout, Part, stored}
+use Rattle.picks.specs.Windows.{Window, whole, nowhere, part, picked, bit_at, seen}
+use Rattle.sv_types.specs.Layouts.{Layout, stored}
 use Rattle.sv_types.specs.Surroundings.{Around}
 use Rattle.sv_types.specs.Meanings as S
 use Rattle.sv_types.specs.Meanings.{Path}
-use Rattle.sv_types.proofs.Picks.{tabulated-same, length-tabulated, picked-part}
+use Rattle.sv_types.proofs.Picks.{tabulated-same, length-tabulated}
 use Rattle.sv_types.proofs.Stored.{length-stored}
 use Rattle.v_tree.specs.Names.{Name}
-use Rattle.v_tree.specs.declared.expressions.VExtent.TheVariants.{Down, Up}
 use Rattle.v_meaning.specs.Scopes.{Scope, Named, named, all_bits}
 use Rattle.v_meaning.specs.Selects.{SelMeaning, select, taken, lowest, bits_named}
 use Rattle.v_meaning.specs.Values as T
 use Rattle.v_meaning.specs.Values.{decimal_base, expression_base}
 use Rattle.lowering_laws.specs.Same.{Same}
-use Rattle.lowering_laws.specs.Images.{IsImage, Names, NamesNone}
-use Rattle.lowering_laws.proofs.Extensions.{ext-at, ext-again}
+use Rattle.lowering_laws.specs.Images.{IsImage}
+use Rattle.lowering_laws.proofs.Extensions.{ext-at}
 use Rattle.lowering_laws.proofs.Constants.{IsItself, resigned-same}
 
 -- the bits that a path reads, before they are stored

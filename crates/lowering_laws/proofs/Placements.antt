@@ -1,12 +1,11 @@
 -- Paths whose place is known, and steps by a known number of bits.
-use Rattle.std.proofs.Common.{◌≡◌, ℕ, zero, suc, ◌+◌, ◌<◌, ◌≤◌, ◌^◌, max, Bool, true, false, ◌&&◌, ℤ, pos, ◌+ℤ◌, length, List, Option, Some, None, refl, arith, sym, ◌∙◌, subst, ap, true≢false}
+use Rattle.std.proofs.Common.{◌≡◌, ℕ, ◌+◌, ◌<◌, ◌≤◌, ◌^◌, true, false, ◌&&◌, pos, ◌+ℤ◌, length, Option, Some, None, refl, arith, sym, ◌∙◌, subst, ap, true≢false}
 use Rattle.std.specs.Prelude.{slice_get}
-use Rattle.b4_core.specs.declared.bit.Bit4.{Bit4}
 use Rattle.b4_core.specs.declared.operators.BinOp.TheVariants.{Add}
-use Rattle.b4_core.specs.Vectors.{known, num, digits, ext}
+use Rattle.b4_core.specs.Vectors.{known, num, digits}
 use Rattle.b4_core.specs.Binary.{binary_value}
 use Rattle.row_machine.specs.Valuation.{Valuation}
-use Rattle.picks.specs.Windows.{whole, part, picked}
+use Rattle.picks.specs.Windows.{part, picked}
 use Rattle.sv_types.specs.Layouts.{Layout, Part}
 use Rattle.sv_types.specs.Surroundings.{Around}
 use Rattle.sv_types.specs.Meanings as S
@@ -19,7 +18,7 @@ use Rattle.lowering_laws.specs.Images.{Names, NamesNone}
 use Rattle.lowering_laws.specs.Placed.{holds, IsPlaced}
 use Rattle.lowering_laws.proofs.Extensions.{ext-at}
 use Rattle.lowering_laws.proofs.Numbers.{HasNumber, literal-number, sum-number, number-alone, known-digits, num-digits, length-digits}
-use Rattle.lowering_laws.proofs.Offsets.{arithmetic-known, and-true, and-cases}
+use Rattle.lowering_laws.proofs.Offsets.{arithmetic-known, and-true}
 use Rattle.lowering_laws.proofs.PathSteps.{part-names, signal-names, local-names}
 
 literal-alone : (w k : ℕ) (sc : Scope) (v : Valuation) → T.alone (T.literal (digits w k)) sc v ≡ digits w k

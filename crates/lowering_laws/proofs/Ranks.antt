@@ -1,10 +1,10 @@
 -- The rank of an unsigned index of an array `[last:0]`, and the guard that it needs.
-use Rattle.std.proofs.Common.{◌≡◌, ◌⊎◌, inl, inr, ℕ, zero, suc, ◌+◌, ◌-◌, ◌<◌, ◌≤◌, ◌^◌, max, Bool, true, false, ◌&&◌, cond, if◌then◌else◌, ℤ, pos, ◌-ℤ◌, length, List, [], ◌∷◌, Option, Some, None, refl, arith, sym, ◌∙◌, subst, ap, true≢false}
+use Rattle.std.proofs.Common.{◌≡◌, ◌⊎◌, inl, inr, ℕ, ◌+◌, ◌<◌, ◌≤◌, ◌^◌, max, Bool, true, false, ◌&&◌, cond, if◌then◌else◌, ℤ, pos, ◌-ℤ◌, length, List, [], ◌∷◌, Some, None, refl, arith, sym, ◌∙◌, subst, ap, true≢false}
 use Rattle.std.specs.Prelude.{int_le, int_lt, nat_le, unsigned_abs}
 use Rattle.std.proofs.lemmas.Int.{ints}
 use Rattle.std.proofs.lemmas.Bool.Decides.{nat_tests}
 use Rattle.b4_core.specs.declared.bit.Bit4.{Bit4}
-use Rattle.b4_core.specs.declared.bit.Bit4.TheVariants.{Zero, One, X, Z}
+use Rattle.b4_core.specs.declared.bit.Bit4.TheVariants.{X}
 use Rattle.b4_core.specs.declared.operators.OrdOp.TheVariants.{LessEqual}
 use Rattle.b4_core.specs.Bits.{is_one, bit_of}
 use Rattle.b4_core.specs.Vectors.{known, num, number, digits, ext}
@@ -12,14 +12,14 @@ use Rattle.b4_core.specs.Compare.{order_value}
 use Rattle.b4_core.proofs.Numbers.{num_lt}
 use Rattle.row_machine.specs.Valuation.{Valuation}
 use Rattle.sv_types.specs.Layouts.{Layout, count_of}
-use Rattle.sv_types.specs.Windows.{rank, falls}
+use Rattle.sv_types.specs.Windows.{rank}
 use Rattle.sv_types.specs.Surroundings.{Around}
 use Rattle.sv_types.specs.Meanings as S
 use Rattle.sv_types.specs.Paths as P
 use Rattle.v_meaning.specs.Scopes.{Scope}
 use Rattle.v_meaning.specs.Values as T
 use Rattle.lowering_laws.specs.Same.{SameAlone}
-use Rattle.lowering_laws.specs.Placed.{holds, HasRank, NoRank, unknown, outside, IsRank}
+use Rattle.lowering_laws.specs.Placed.{HasRank, NoRank, unknown, outside, IsRank}
 use Rattle.lowering_laws.proofs.Contexts.{alone-width, alone-value}
 use Rattle.lowering_laws.proofs.Extensions.{ext-at}
 use Rattle.lowering_laws.proofs.Numbers.{num-ext, known-ext, num-digits, known-digits, length-digits}

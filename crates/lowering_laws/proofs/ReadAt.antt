@@ -1,12 +1,11 @@
 -- What is read at an offset under a guard.
-use Rattle.std.proofs.Common.{◌≡◌, ◌⊎◌, inl, inr, ℕ, zero, suc, ◌+◌, ◌-◌, ◌*◌, ◌<◌, ◌≤◌, ◌^◌, max, Bool, true, false, ◌&&◌, cond, ℤ, pos, ◌+ℤ◌, length, map, zip, replicate, List, [], ◌∷◌, Option, Some, None, refl, arith, sym, ◌∙◌, subst, ap, true≢false}
+use Rattle.std.proofs.Common.{◌≡◌, ℕ, zero, suc, ◌<◌, max, Bool, true, false, ◌&&◌, cond, ℤ, pos, ◌+ℤ◌, length, replicate, List, [], ◌∷◌, Option, Some, None, refl, arith, sym, ◌∙◌, ap, true≢false}
 use Rattle.b4_core.specs.declared.bit.Bit4.{Bit4}
 use Rattle.b4_core.specs.declared.bit.Bit4.TheVariants.{Zero, One, X, Z}
 use Rattle.b4_core.specs.Bits.{is_one, merge4}
 use Rattle.b4_core.specs.Vectors.{known, num, number, ext, bitwise}
 use Rattle.row_machine.specs.Valuation.{Valuation}
-use Rattle.picks.specs.Windows.{Window, whole, nowhere, part, picked, bit_at, seen, tabulated}
-use Rattle.sv_types.specs.Layouts.{stored}
+use Rattle.picks.specs.Windows.{whole, nowhere, part, picked, bit_at, tabulated}
 use Rattle.sv_types.specs.Surroundings.{Around}
 use Rattle.sv_types.specs.Meanings as S
 use Rattle.sv_types.proofs.OperatorLengths.{length-ext}
@@ -19,12 +18,12 @@ use Rattle.v_meaning.specs.Values as T
 use Rattle.v_meaning.specs.Values.{expression_base, number_of}
 use Rattle.lowering_laws.specs.Same.{Same}
 use Rattle.lowering_laws.specs.Helpers.{Stores}
-use Rattle.lowering_laws.specs.Images.{IsImage, Names, NamesNone}
+use Rattle.lowering_laws.specs.Images.{IsImage, NamesNone}
 use Rattle.lowering_laws.specs.Placed.{holds, IsPlaced}
 use Rattle.lowering_laws.proofs.Extensions.{ext-at}
 use Rattle.lowering_laws.proofs.Assigned.{helper-alone, call-width, given-alone}
 use Rattle.lowering_laws.proofs.Constants.{resigned-same, length-fill}
-use Rattle.lowering_laws.proofs.Paths.{raw, length-raw, IsPath, path-alone, path-itself, SameBits, AllFour, stored-four-bits, one-window, one-width, selected-window, reference-alone}
+use Rattle.lowering_laws.proofs.Paths.{raw, length-raw, IsPath, path-alone, path-itself, SameBits, AllFour, stored-four-bits, one-window, one-width, reference-alone}
 
 -- `name[o +: n]`, and under a guard x where it doesn't hold
 abbrev pub slide : T.Meaning → ℕ → SelMeaning
@@ -62,7 +61,7 @@ module _ (e : S.Meaning) (a : Around) (g : Option T.Meaning) (o : T.Meaning) (w 
   base-unknown : known (T.alone o sc v) ≡ false → number_of o.signed (T.alone o sc v) ≡ None
   base-unknown h = ap (λ b. cond b (Some (number o.signed (T.alone o sc v))) None) h
 
-  window-by : (base : Option ℤ) → number_of o.signed (T.alone o sc v) ≡ base
+  pub window-by : (base : Option ℤ) → number_of o.signed (T.alone o sc v) ≡ base
       → (T.path_of held (slide o n ∷ []) sc v).window ≡ elim base [ None ↦ nowhere | Some k ↦ part k n (whole held.width) ]
   window-by base is =
       one-window held (slide o n) sc v image.vector
@@ -78,7 +77,7 @@ module _ (e : S.Meaning) (a : Around) (g : Option T.Meaning) (o : T.Meaning) (w 
   bits-by yes_holds false is j h =
       placed.lost yes_holds is j h ∙ sym (nothing-there (pos j +ℤ pos 0)) ∙ ap (λ x. picked x j) (sym (window-by None (base-unknown is)))
 
-  same-bits : holds g sc v ≡ true → SameBits e a name (slide o n ∷ []) sc v
+  pub same-bits : holds g sc v ≡ true → SameBits e a name (slide o n ∷ []) sc v
   same-bits h = record {
     path = path;
     image = image;
@@ -123,10 +122,12 @@ unfolding T.choose T.literal
 choice-alone g m n sc v width unsigned =
     let long = length-fill n X in
     let same : max (m.width sc) (length (replicate n X)) ≡ n = omega arith in
-    let sign : (m.signed && false) ≡ false = ap (λ b. b && false) unsigned in
-    (same, (λ i. T.chosen (T.truth g sc v) (m.value (same i) (sign i) sc v) (ext (same i) (sign i) (replicate n X)))
-    ∙ ap (λ x. T.chosen (T.truth g sc v) (m.value n false sc v) x) (ext-at n false (replicate n X) long)
-    ∙ sym (λ i. T.chosen (T.truth g sc v) (m.value (width i) (unsigned i) sc v) (replicate n X)))
+    let sign : (m.signed && false) ≡ false = ap (λ b. b && false) unsigned in (
+      same,
+      (λ i. T.chosen (T.truth g sc v) (m.value (same i) (sign i) sc v) (ext (same i) (sign i) (replicate n X)))
+          ∙ ap (λ x. T.chosen (T.truth g sc v) (m.value n false sc v) x) (ext-at n false (replicate n X) long)
+          ∙ sym (λ i. T.chosen (T.truth g sc v) (m.value (width i) (unsigned i) sc v) (replicate n X)),
+    )
 
 reference-unsigned : (name : Name) (o : T.Meaning) (n : ℕ) → (at-offset name o n).signed ≡ false
 unfolding T.reference

@@ -1,12 +1,11 @@
 -- What is written at an offset under a guard.
-use Rattle.std.proofs.Common.{◌≡◌, ◌⊎◌, inl, inr, ℕ, zero, suc, ◌+◌, ◌-◌, ◌<◌, ◌≤◌, max, min, Bool, true, false, ◌&&◌, ◌==◌, cond, ℤ, pos, negsuc, ◌+ℤ◌, ◌-ℤ◌, length, List, Option, Some, None, refl, arith, sym, ◌∙◌, subst, ap, true≢false}
+use Rattle.std.proofs.Common.{◌≡◌, ℕ, suc, ◌+◌, ◌-◌, ◌<◌, ◌≤◌, max, min, Bool, true, false, ◌&&◌, ◌==◌, cond, ℤ, pos, negsuc, ◌+ℤ◌, ◌-ℤ◌, List, Option, Some, None, refl, arith, sym, ◌∙◌, subst, ap, true≢false}
 use Rattle.std.specs.Prelude.{nat_le, nat_lt, int_le, int_lt, slice_index_or}
 use Rattle.std.proofs.lemmas.Int.{ints}
 use Rattle.std.proofs.lemmas.Bool.Decides.{nat_tests}
 use Rattle.b4_core.specs.declared.bit.Bit4.{Bit4}
 use Rattle.b4_core.specs.declared.bit.Bit4.TheVariants.{X}
-use Rattle.row_machine.specs.Valuation.{Place}
-use Rattle.picks.specs.Windows.{Window, whole, nowhere, trimmed, part, within, picked, written, at_least_0}
+use Rattle.picks.specs.Windows.{Window, whole, nowhere, part, within, picked, written, at_least_0}
 
 -- each bit of a window of n bits is one of the path's
 pub record IsTight (path : Window) (n : ℕ) : Type 0 where
@@ -142,3 +141,23 @@ module _ (path other : Window) (n : ℕ) (tight : IsTight path n) (other_tight :
 
   pub same-written : bit-written path bits b ≡ bit-written other bits b
   same-written = by-path (within path b) refl
+
+-- where nothing is named, nothing is written
+pub none-written : (path : Window) (n : ℕ) → IsTight path n → ((j : ℕ) → j < n → picked path j ≡ None) → (bits : List Bit4) (b : ℕ) → bit-written path bits b ≡ None
+none-written path n tight none bits b = by_path (within path b) refl
+  where
+    by_path : (c : Bool) → within path b ≡ c → bit-written path bits b ≡ None
+    by_path true h =
+        let j = at_least_0 (pos b -ℤ path.shift) in
+        absurd (apart (sym (none j (tight.below b h)) ∙ tight-picked path n b tight h))
+      where
+        apart : (None ≡ Some b) → ⊥
+        apart e = cc
+    by_path false h = ap (λ c. cond c (Some (slice_index_or bits (at_least_0 (pos b -ℤ path.shift)) X)) None) h
+
+-- a bit of the signal or local that is written
+same-number : (n : ℕ) → (n == n) ≡ true
+same-number n = grind (arith, nat_tests)
+
+pub written-bit : (root : ℕ) (path : Window) (bits : List Bit4) (b : ℕ) → written root path bits (record { signal = root; bit = b }) ≡ bit-written path bits b
+written-bit root path bits b = ap (λ c. cond (c && within path b) (Some (slice_index_or bits (at_least_0 (pos b -ℤ path.shift)) X)) None) (same-number root)
