@@ -71,11 +71,7 @@ impl Known {
     {
         match way {
             None => None,
-            Some(way) => last_if(
-                way.goal,
-                needs,
-                number_of(self.latest.as_slice(), way.goal),
-            ),
+            Some(way) => last_if(way.goal, needs, number_of(self.latest.as_slice(), way.goal)),
         }
     }
 
@@ -136,24 +132,14 @@ impl Known {
     fn fits_calls(&self, calls: &[Call], needs: &[Need]) -> bool
         ensures { result ≡ list_all (means.fits_call needs.now self.now) calls.now }
     {
-        for call in calls {
-            if !self.fits_call(needs, *call) {
-                return false;
-            }
-        }
-        true
+        calls.iter().all(|call| self.fits_call(needs, *call))
     }
 
     // Whether all needs fit.
     fn fits_needs(&self, needs: &[Need]) -> bool
         ensures { result ≡ list_all (means.fits_need needs.now self.now) needs.now }
     {
-        for need in needs {
-            if !self.fits_need(needs, *need) {
-                return false;
-            }
-        }
-        true
+        needs.iter().all(|need| self.fits_need(needs, *need))
     }
 
     /// Whether it fits the calls and needs.
@@ -161,11 +147,13 @@ impl Known {
         ensures { IfOk result (λ b. b ≡ true → means.Fits calls.now needs.now self.now) }
     {
         let turned = all_turned(alloc, calls)?;
-        Ok(are_ways(calls, self.up.as_slice())
-            && are_ways(turned.as_slice(), self.down.as_slice())
-            && are_ways(calls, self.late.as_slice())
-            && self.fits_calls(calls, needs)
-            && self.fits_needs(needs))
+        Ok(
+            are_ways(calls, self.up.as_slice())
+                && are_ways(turned.as_slice(), self.down.as_slice())
+                && are_ways(calls, self.late.as_slice())
+                && self.fits_calls(calls, needs)
+                && self.fits_needs(needs),
+        )
     }
 
     // Whether a call is broken, by what is known.

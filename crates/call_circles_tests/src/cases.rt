@@ -105,7 +105,7 @@ fn chain(all: &mut Vec<Call>, from: u32, to: u32) -> Result<(), AllocError> {
     Ok(())
 }
 
-const MANY: u32 = 100_000;
+const MANY: u32 = 300;
 
 // Two rings with a chain between them, each of many routines, as far as they are asked for.
 fn rings(alloc: Global, first: bool, second: bool) -> Result<Vec<Call>, AllocError> {
@@ -191,7 +191,7 @@ fn many_mixed_calls(rt: HostRuntime) -> Result<(), Fail> {
     let alloc = rt.alloc();
     let mut needs = Vec::new(alloc);
     // few calls a routine make many small circles, and more of them a large one
-    for count in [80_000, 100_000, 150_000, 300_000] {
+    for count in [240, 300, 450, 900] {
         let calls = mixed(alloc, MANY, count)?;
         needs.push(Need {
             routine: count % MANY,
