@@ -64,6 +64,16 @@ fn last_if(routine: u32, needs: &[Need], number: u32) -> Option<u32>
     }
 }
 
+// Whether a way leads to a goal.
+fn leads_back(goal: u32, way: Option<Way>) -> bool
+    ensures { result ≡ means.leads_back goal way }
+{
+    match way {
+        None => false,
+        Some(way) => way.goal == goal,
+    }
+}
+
 impl Known {
     // The end of the latest need that a way leads to.
     fn last_by(&self, needs: &[Need], way: Option<Way>) -> Option<u32>
@@ -82,16 +92,6 @@ impl Known {
         self.last_by(needs, way_from(self.late.as_slice(), routine))
     }
 
-    // Whether a way leads to where the way up ends.
-    fn leads_back(&self, goal: u32, way: Option<Way>) -> bool
-        ensures { result ≡ means.leads_back goal way }
-    {
-        match way {
-            None => false,
-            Some(way) => way.goal == goal,
-        }
-    }
-
     // Whether the ways up of a routine and of one that it calls fit.
     fn is_placed(&self, routine: u32, a: Option<Way>, b: Option<Way>) -> bool
         ensures { result ≡ means.is_placed self.now routine a b }
@@ -100,7 +100,7 @@ impl Known {
             return false;
         };
         if a.goal == b.goal {
-            self.leads_back(a.goal, way_from(self.down.as_slice(), routine))
+            leads_back(a.goal, way_from(self.down.as_slice(), routine))
         } else {
             number_of(self.ranks.as_slice(), a.goal) < number_of(self.ranks.as_slice(), b.goal)
         }
