@@ -1,3 +1,4 @@
 pub mod Slots
 pub mod Outwards
 pub mod Lists
+pub mod Calls
