@@ -14,3 +14,4 @@ pub mod Ranks
 pub mod Placements
 pub mod WriteAt
 pub mod Targets
+pub mod Naming

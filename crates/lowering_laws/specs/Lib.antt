@@ -2,3 +2,4 @@ pub mod Same
 pub mod Helpers
 pub mod Images
 pub mod Placed
+pub mod NamedImages
