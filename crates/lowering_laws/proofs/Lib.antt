@@ -15,3 +15,4 @@ pub mod Placements
 pub mod WriteAt
 pub mod Targets
 pub mod Naming
+pub mod SignedNumbers
