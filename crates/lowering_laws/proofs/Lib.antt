@@ -16,3 +16,5 @@ pub mod WriteAt
 pub mod Targets
 pub mod Naming
 pub mod SignedNumbers
+pub mod AnyRank
+pub mod Indices

@@ -48,7 +48,7 @@ truth-one One = refl
 truth-one X = refl
 truth-one Z = refl
 
-both-holds : (g h : T.Meaning) (sc : Scope) (v : Valuation) → is_one (T.truth (T.both g h) sc v) ≡ (is_one (T.truth g sc v) && is_one (T.truth h sc v))
+pub both-holds : (g h : T.Meaning) (sc : Scope) (v : Valuation) → is_one (T.truth (T.both g h) sc v) ≡ (is_one (T.truth g sc v) && is_one (T.truth h sc v))
 unfolding T.both
 both-holds g h sc v = truth-one (and4 (T.truth g sc v) (T.truth h sc v)) ∙ and-is-one (T.truth g sc v) (T.truth h sc v)
 
@@ -62,7 +62,7 @@ holds-both (Some g) None sc v = sym (and-true (is_one (T.truth g sc v)))
 holds-both (Some g) (Some h) sc v = both-holds g h sc v
 
 -- unknown operands make an unknown sum
-unknown-bits : (w : ℕ) → 1 ≤ w → known (unknown w) ≡ false
+pub unknown-bits : (w : ℕ) → 1 ≤ w → known (unknown w) ≡ false
 unknown-bits zero h = absurd (omega arith)
 unknown-bits (suc w) h = refl
 

@@ -183,3 +183,10 @@ known-vec w n = known-digits w _
 
 pub length-vec : (w : ℕ) (n : ℤ) → length (vec w n) ≡ w
 length-vec w n = length-digits w _
+
+-- a 0 above a vector makes its number that of a signed one
+pub known-zero-above : (v : List Bit4) → known (v ++ Zero ∷ []) ≡ known v
+known-zero-above v = known-filled v (Zero ∷ []) refl
+
+pub snum-by-zero : (v : List Bit4) → snum (v ++ Zero ∷ []) ≡ pos (num v)
+snum-by-zero v = snum-of (v ++ Zero ∷ []) false (ap is_one (top-filled v 0 Zero)) ∙ ap pos (filled-same v 1 Zero refl)
