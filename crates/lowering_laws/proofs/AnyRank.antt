@@ -1,28 +1,27 @@
 -- The rank of any index of any array, by signed numbers.
-use Rattle.std.proofs.Common.{◌≡◌, ◌⊎◌, inl, inr, ℕ, zero, suc, ◌+◌, ◌-◌, ◌<◌, ◌≤◌, ◌^◌, max, Bool, true, false, ◌&&◌, cond, if◌then◌else◌, ℤ, pos, negsuc, ◌+ℤ◌, ◌-ℤ◌, ◌≤ℤ◌, ◌<ℤ◌, length, List, [], ◌∷◌, Option, Some, None, refl, arith, sym, ◌∙◌, subst, ap, true≢false}
+use Rattle.std.proofs.Common.{◌≡◌, ◌⊎◌, inl, inr, ℕ, zero, suc, ◌+◌, ◌<◌, ◌≤◌, ◌^◌, max, Bool, true, false, ◌&&◌, cond, if◌then◌else◌, ℤ, pos, negsuc, ◌-ℤ◌, ◌≤ℤ◌, ◌<ℤ◌, length, List, [], ◌∷◌, Option, Some, None, refl, arith, sym, ◌∙◌, subst, ap, true≢false}
 use Rattle.std.specs.Prelude.{int_le, int_lt, unsigned_abs}
 use Rattle.std.proofs.lemmas.Int.{ints}
 use Rattle.std.proofs.lemmas.Bool.Decides.{nat_tests}
 use Rattle.b4_core.specs.declared.bit.Bit4.{Bit4}
-use Rattle.b4_core.specs.declared.bit.Bit4.TheVariants.{Zero, One, X, Z}
+use Rattle.b4_core.specs.declared.bit.Bit4.TheVariants.{X}
 use Rattle.b4_core.specs.declared.operators.BinOp.TheVariants.{Sub}
 use Rattle.b4_core.specs.declared.operators.OrdOp.{OrdOp}
 use Rattle.b4_core.specs.declared.operators.OrdOp.TheVariants.{LessEqual, GreaterEqual}
 use Rattle.b4_core.specs.Bits.{is_one, bit_of}
-use Rattle.b4_core.specs.Vectors.{known, unknown, num, snum, number, digits, vec, ext}
-use Rattle.b4_core.specs.Binary.{arithmetic, binary_value}
+use Rattle.b4_core.specs.Vectors.{known, unknown, num, snum, vec, ext}
+use Rattle.b4_core.specs.Binary.{arithmetic}
 use Rattle.b4_core.specs.Compare.{order_value, in_order}
 use Rattle.b4_core.proofs.TwosComplement.{vec_pos}
 use Rattle.row_machine.specs.Valuation.{Valuation}
 use Rattle.sv_types.specs.Layouts.{Layout, count_of}
 use Rattle.sv_types.specs.Windows.{rank, falls}
-use Rattle.sv_types.specs.Surroundings.{Around}
 use Rattle.sv_types.proofs.OperatorLengths.{length-ext}
 use Rattle.v_meaning.specs.Scopes.{Scope}
 use Rattle.v_meaning.specs.Values as T
-use Rattle.lowering_laws.specs.Placed.{holds, HasRank, NoRank, IsRank, unknown as no_index, outside}
+use Rattle.lowering_laws.specs.Placed.{HasRank, NoRank, IsRank, unknown as no_index, outside}
 use Rattle.lowering_laws.proofs.Extensions.{ext-at}
-use Rattle.lowering_laws.proofs.Numbers.{num-digits, known-digits}
+use Rattle.lowering_laws.proofs.Numbers.{num-digits}
 use Rattle.lowering_laws.proofs.Offsets.{truth-one, and-cases, and-false, both-holds, unknown-bits}
 use Rattle.lowering_laws.proofs.SignedNumbers.{snum-ext, known-ext-signed, unknown-ext-signed, FitsSigned, literal-signed, known-vec, length-vec}
 
@@ -95,20 +94,24 @@ module _ (i : Option ℤ) (m : T.Meaning) (w : ℕ) (sc : Scope) (v : Valuation)
   difference-above n =
       let long = length-vec w n in
       let narrow = index.width in
-      let larger : max (m.width sc) (length (vec w n)) ≡ w = omega arith in
-      (larger, (λ d. arithmetic (λ x y. x -ℤ y) true (ext (larger d) true bits) (ext (larger d) true (ext (length (vec w n)) false (vec w n))))
-      ∙ ap (λ u. arithmetic (λ x y. x -ℤ y) true (ext w true bits) (ext w true u)) (ext-at (length (vec w n)) false (vec w n) refl)
-      ∙ ap (λ u. arithmetic (λ x y. x -ℤ y) true (ext w true bits) u) (ext-at w true (vec w n) long))
+      let larger : max (m.width sc) (length (vec w n)) ≡ w = omega arith in (
+        larger,
+        (λ d. arithmetic (λ x y. x -ℤ y) true (ext (larger d) true bits) (ext (larger d) true (ext (length (vec w n)) false (vec w n))))
+            ∙ ap (λ u. arithmetic (λ x y. x -ℤ y) true (ext w true bits) (ext w true u)) (ext-at (length (vec w n)) false (vec w n) refl)
+            ∙ ap (λ u. arithmetic (λ x y. x -ℤ y) true (ext w true bits) u) (ext-at w true (vec w n) long),
+      )
 
   difference-under : (n : ℤ) → ((T.binary Sub (bound w n) z).width sc ≡ w) × (T.alone (T.binary Sub (bound w n) z) sc v ≡ arithmetic (λ x y. x -ℤ y) true (vec w n) (ext w true bits))
   unfolding T.binary T.signing T.literal
   difference-under n =
       let long = length-vec w n in
       let narrow = index.width in
-      let larger : max (length (vec w n)) (m.width sc) ≡ w = omega arith in
-      (larger, (λ d. arithmetic (λ x y. x -ℤ y) true (ext (larger d) true (ext (length (vec w n)) false (vec w n))) (ext (larger d) true bits))
-      ∙ ap (λ u. arithmetic (λ x y. x -ℤ y) true (ext w true u) (ext w true bits)) (ext-at (length (vec w n)) false (vec w n) refl)
-      ∙ ap (λ u. arithmetic (λ x y. x -ℤ y) true u (ext w true bits)) (ext-at w true (vec w n) long))
+      let larger : max (length (vec w n)) (m.width sc) ≡ w = omega arith in (
+        larger,
+        (λ d. arithmetic (λ x y. x -ℤ y) true (ext (larger d) true (ext (length (vec w n)) false (vec w n))) (ext (larger d) true bits))
+            ∙ ap (λ u. arithmetic (λ x y. x -ℤ y) true (ext w true u) (ext w true bits)) (ext-at (length (vec w n)) false (vec w n) refl)
+            ∙ ap (λ u. arithmetic (λ x y. x -ℤ y) true u (ext w true bits)) (ext-at w true (vec w n) long),
+      )
 
   -- their values where the index is known, and where it isn't
   above-known : (n : ℤ) → known bits ≡ true → snum (vec w n) ≡ n → arithmetic (λ x y. x -ℤ y) true (ext w true bits) (vec w n) ≡ vec w (snum bits -ℤ n)
@@ -328,7 +331,7 @@ module _ (of : Layout) (p : ℕ) (i : Option ℤ) (m : T.Meaning) (sc : Scope) (
     up-there : known index-bits ≡ true → (int_le of.left (snum index-bits) ≡ true) × (int_le (snum index-bits) of.right ≡ true) → HasRank of i (num (s.value (suc p) false sc v))
     up-there k inside =
         let o = under-by of.left of.right (snum index-bits) (of.left -ℤ of.right) (of.right -ℤ snum index-bits) refl refl
-                (le-yes of.left (snum index-bits) inside.0) (le-yes (snum index-bits) of.right inside.1) in
+        (le-yes of.left (snum index-bits) inside.0) (le-yes (snum index-bits) of.right inside.1) in
         let below = (o.1).below in
         let number = ap num up-braced.2 ∙ ap num (under-known i m (suc p) sc v index of.right k (literal-signed p of.right right_fits)) ∙ vec-offset (suc p) o.0 _ (o.1).is (omega arith) in
         subst (HasRank of i) (sym number) (record { index = snum index-bits; known_there = index.there k; rank_is = up-rank-is (snum index-bits) ∙ (o.1).is; below = below })

@@ -1,8 +1,7 @@
 -- A lowered index as a signed number.
-use Rattle.std.proofs.Common.{◌≡◌, ℕ, zero, suc, ◌+◌, ◌≤◌, Bool, true, false, cond, ℤ, pos, length, List, [], ◌∷◌, ◌++◌, Option, Some, None, refl, arith, sym, ◌∙◌, subst, ap, true≢false, length-append}
-use Rattle.b4_core.specs.declared.bit.Bit4.{Bit4}
+use Rattle.std.proofs.Common.{◌≡◌, ℕ, ◌+◌, ◌≤◌, Bool, true, false, cond, length, [], ◌∷◌, ◌++◌, Some, None, arith, sym, ◌∙◌, ap, length-append}
 use Rattle.b4_core.specs.declared.bit.Bit4.TheVariants.{Zero}
-use Rattle.b4_core.specs.Vectors.{known, num, snum, number, ext}
+use Rattle.b4_core.specs.Vectors.{known, snum, number}
 use Rattle.row_machine.specs.Valuation.{Valuation}
 use Rattle.sv_types.specs.Surroundings.{Around}
 use Rattle.sv_types.specs.Meanings as S

@@ -1,14 +1,14 @@
 -- Signed numbers of vectors: extended, and of literals.
-use Rattle.std.proofs.Common.{◌≡◌, ℕ, zero, suc, ◌+◌, ◌-◌, ◌*◌, ◌/◌, ◌%◌, ◌^◌, ◌<◌, ◌≤◌, ◌==◌, ℤ, pos, negsuc, ◌+ℤ◌, ◌-ℤ◌, ◌≤ℤ◌, ◌<ℤ◌, neg_ℤ, Bool, true, false, ◌&&◌, if◌then◌else◌, length, take, replicate, List, [], ◌∷◌, ◌++◌, refl, arith, sym, ◌∙◌, subst, ap, append-nil, true≢false}
+use Rattle.std.proofs.Common.{◌≡◌, ℕ, zero, suc, ◌+◌, ◌-◌, ◌*◌, ◌^◌, ◌<◌, ◌≤◌, ℤ, pos, negsuc, ◌-ℤ◌, ◌≤ℤ◌, ◌<ℤ◌, neg_ℤ, Bool, true, false, if◌then◌else◌, length, replicate, List, [], ◌∷◌, ◌++◌, refl, arith, sym, ◌∙◌, ap, append-nil, true≢false}
 use Rattle.std.specs.Prelude.{nat_le, slice_index_or}
 use Rattle.std.proofs.Math.Nat.{pow-suc, mul_assoc, mul-add}
 use Rattle.std.proofs.lemmas.Int.{ints}
-use Rattle.std.proofs.lemmas.Nat.{pow-add, pow_pos}
+use Rattle.std.proofs.lemmas.Nat.{pow-add}
 use Rattle.std.proofs.lemmas.Bool.Decides.{nat_tests}
 use Rattle.b4_core.specs.declared.bit.Bit4.{Bit4}
 use Rattle.b4_core.specs.declared.bit.Bit4.TheVariants.{Zero, One, X, Z}
 use Rattle.b4_core.specs.Bits.{is_one}
-use Rattle.b4_core.specs.Vectors.{known, num, snum, digit, digits, vec, ext, top_bit}
+use Rattle.b4_core.specs.Vectors.{known, num, snum, digits, vec, ext, top_bit}
 use Rattle.b4_core.proofs.TwosComplement.{vec_is, vec_pos}
 use Rattle.lowering_laws.proofs.Extensions.{take-whole}
 use Rattle.lowering_laws.proofs.Numbers.{num-digits, known-digits, length-digits}
