@@ -1,0 +1,34 @@
+use Rattle.std.proofs.Common.{◌≡◌, ◌+◌, ◌*◌, ◌++◌, map, drop, length}
+use Rattle.sv_types.specs.Meanings.{total}
+use Rattle.eval_parts.proofs.Nodes.{nodes, choice_nodes}
+use Rattle.expr_eval.proofs.eval.+eval.Given as goal
+
+abbrev pub decreases-eval : goal.decreases-eval
+decreases-eval g l = 8 * nodes l.e.now + 2
+
+abbrev pub decreases-alone : goal.decreases-alone
+decreases-alone g l = 8 * nodes l.e.now + 3
+
+abbrev pub decreases-all_alone : goal.decreases-all_alone
+decreases-all_alone g l = 8 * total (map nodes l.es.now) + 5
+
+abbrev pub decreases-select : goal.decreases-select
+decreases-select g l = 8 * nodes l.e.now + 1
+
+abbrev pub decreases-path : goal.decreases-path
+decreases-path g l = 8 * nodes l.e.now
+
+abbrev pub decreases-find : goal.decreases-find
+decreases-find g l = 8 * nodes l.e.now + 4
+
+abbrev pub decreases-given : goal.decreases-given
+decreases-given g l = 8 * nodes l.e.now + 4
+
+abbrev pub decreases-all_assigned : goal.decreases-all_assigned
+decreases-all_assigned g l = 8 * total (map nodes l.es.now) + 5
+
+abbrev pub decreases-inside : goal.decreases-inside
+decreases-inside g l = 8 * (nodes l.x.now + total (map choice_nodes l.choices.now)) + 7
+
+abbrev pub decreases-matches : goal.decreases-matches
+decreases-matches g l = 8 * (nodes l.x.now + choice_nodes l.choice.now) + 6
