@@ -2,9 +2,11 @@
 //! functions give.
 #![tactic(auto)]
 
-mod eval;
+mod memory;
 mod places;
 mod scene;
+mod values;
+mod views;
 
-pub use eval::{alone, eval};
 pub use scene::{Calls, Scene};
+pub use values::{alone, eval};

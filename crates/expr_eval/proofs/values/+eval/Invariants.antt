@@ -1,7 +1,7 @@
 use Rattle.std.proofs.Common.{◌≡◌, ◌+◌, ◌*◌, ◌++◌, map, drop, length}
 use Rattle.sv_types.specs.Meanings.{total}
 use Rattle.eval_parts.proofs.Nodes.{nodes, choice_nodes}
-use Rattle.expr_eval.proofs.eval.+eval.Given as goal
+use Rattle.expr_eval.proofs.values.+eval.Given as goal
 
 abbrev pub decreases-eval : goal.decreases-eval
 decreases-eval g l = 8 * nodes l.e.now + 2
@@ -14,6 +14,18 @@ decreases-all_alone g l = 8 * total (map nodes l.es.now) + 5
 
 abbrev pub decreases-select : goal.decreases-select
 decreases-select g l = 8 * nodes l.e.now + 1
+
+abbrev pub decreases-one : goal.decreases-one
+decreases-one g l = 8 * nodes l.e.now + 1
+
+abbrev pub decreases-two : goal.decreases-two
+decreases-two g l = 8 * nodes l.e.now + 1
+
+abbrev pub decreases-choose : goal.decreases-choose
+decreases-choose g l = 8 * nodes l.e.now + 1
+
+abbrev pub decreases-many : goal.decreases-many
+decreases-many g l = 8 * nodes l.e.now + 1
 
 abbrev pub decreases-path : goal.decreases-path
 decreases-path g l = 8 * nodes l.e.now

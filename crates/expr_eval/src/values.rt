@@ -10,9 +10,13 @@ ghost use Rattle.eval_parts.specs.Insides.{alternative, Runs, AlternativeFits, A
 ghost use Rattle.eval_parts.specs.Places.{FindGives};
 ghost use Rattle.eval_parts.specs.Steps.{IsStep};
 ghost use Rattle.expr_eval.specs.Scenes.{around_in, formals_in, marks_of, AreNarrow};
+ghost use Rattle.expr_eval.specs.Views.{IsOne, IsTwo, IsMany};
+ghost use Rattle.sv_types.specs.declared.expression.Form.{Form};
 
+use crate::memory::{constant, in_context, or_memory, repeated_in_context, stream_in_context};
 use crate::places::{Places, type_at};
 use crate::scene::{Calls, Scene};
+use crate::views::{Many, One, Two};
 use b4_core::{
     Bit4, EqOp, OrdOp, Vec4, binary, both, either, equal, negate, order, power, reduce, shift,
     truth, unary,
@@ -20,11 +24,10 @@ use b4_core::{
 use eval_parts::{
     Found, Halt, Root, Step, are_signed, between_at, can_be_read, chosen, clog2, converted, cut,
     element_at, entire, equality_bit, extended, filled, from_top, index_of, literal, member_at,
-    one_bit, own_sign, own_width, read, repeat, slide_at, stack, step_of, stream_of, streamed_bits,
-    wider,
+    one_bit, own_sign, own_width, read, slide_at, stack, step_of, stream_of, streamed_bits, wider,
 };
 use std::alloc::Global;
-use sv_types::{Choice, Expr, Form, bits_of, store, width as width_of_type};
+use sv_types::{Choice, Expr, Form, store, width as width_of_type};
 
 /// The value of an expression at a width and a sign (IEEE 1800-2017 clause 11.8.2). `rest` is how many statements may still
 /// run, if there is a limit.
@@ -41,12 +44,9 @@ pub fn eval<C: Calls>(
     ensures { Gives result (meaning e.now) width signed (around_in (C.callee scene.now.calls.now) scene.now.signals.now scene.now.locals.now) rest.old rest.new }
 {
     match &e.form {
-        Form::Literal { bits, goes_on } => Ok(literal(alloc, bits, *goes_on, width, signed)?),
-        Form::Fill(b) => Ok(filled(alloc, width, *b)?),
-        Form::Constant(v) => {
-            let bits = bits_of(alloc, &e.of, v)?;
-            Ok(extended(alloc, &bits, width, signed)?)
-        }
+        Form::Literal { bits, goes_on } => or_memory(literal(alloc, bits, *goes_on, width, signed)),
+        Form::Fill(b) => or_memory(filled(alloc, width, *b)),
+        Form::Constant(v) => constant(alloc, e, v, width, signed),
         Form::Signal(n) => select(alloc, e, &Step::Signal(*n), width, signed, scene, rest),
         Form::Local(n) => select(alloc, e, &Step::Local(*n), width, signed, scene, rest),
         Form::Member(x, k) => select(
@@ -89,107 +89,321 @@ pub fn eval<C: Calls>(
             };
             select(alloc, e, &step, width, signed, scene, rest)
         }
-        Form::Unary(op, x) => {
-            let v = eval(alloc, x.get(), width, signed, scene, rest)?;
-            Ok(unary(alloc, *op, &v)?)
-        }
-        Form::Reduce(op, x) => {
-            let v = alone(alloc, x.get(), scene, rest)?;
-            Ok(one_bit(alloc, reduce(*op, &v), width, signed)?)
-        }
-        Form::Negate(x) => {
-            let v = alone(alloc, x.get(), scene, rest)?;
-            Ok(one_bit(alloc, negate(truth(&v)), width, signed)?)
-        }
-        Form::Binary(op, x, y) => {
-            let u = eval(alloc, x.get(), width, signed, scene, rest)?;
-            let v = eval(alloc, y.get(), width, signed, scene, rest)?;
-            Ok(binary(alloc, *op, &u, &v, signed)?)
-        }
-        Form::Shift(op, x, y) => {
-            let u = eval(alloc, x.get(), width, signed, scene, rest)?;
-            let v = alone(alloc, y.get(), scene, rest)?;
-            Ok(shift(alloc, *op, &u, &v, signed)?)
-        }
-        Form::Power(x, y) => {
-            let u = eval(alloc, x.get(), width, signed, scene, rest)?;
-            let v = alone(alloc, y.get(), scene, rest)?;
-            Ok(power(alloc, &u, &v, signed, own_sign(y.get()))?)
-        }
-        Form::Order(op, x, y) => {
-            let w = wider(x.get(), y.get());
-            let s = are_signed(x.get(), y.get());
-            let u = eval(alloc, x.get(), w, s, scene, rest)?;
-            let v = eval(alloc, y.get(), w, s, scene, rest)?;
-            Ok(one_bit(alloc, order(*op, &u, &v, s), width, signed)?)
-        }
+        Form::Unary(op, x) => one(
+            alloc,
+            e,
+            &One::Unary(*op, x.get()),
+            width,
+            signed,
+            scene,
+            rest,
+        ),
+        Form::Reduce(op, x) => one(
+            alloc,
+            e,
+            &One::Reduce(*op, x.get()),
+            width,
+            signed,
+            scene,
+            rest,
+        ),
+        Form::Negate(x) => one(alloc, e, &One::Negate(x.get()), width, signed, scene, rest),
+        Form::Binary(op, x, y) => two(
+            alloc,
+            e,
+            &Two::Binary(*op, x.get(), y.get()),
+            width,
+            signed,
+            scene,
+            rest,
+        ),
+        Form::Shift(op, x, y) => two(
+            alloc,
+            e,
+            &Two::Shift(*op, x.get(), y.get()),
+            width,
+            signed,
+            scene,
+            rest,
+        ),
+        Form::Power(x, y) => two(
+            alloc,
+            e,
+            &Two::Power(x.get(), y.get()),
+            width,
+            signed,
+            scene,
+            rest,
+        ),
+        Form::Order(op, x, y) => two(
+            alloc,
+            e,
+            &Two::Order(*op, x.get(), y.get()),
+            width,
+            signed,
+            scene,
+            rest,
+        ),
         Form::Equal {
             op,
             negated,
             left,
             right,
-        } => {
-            let w = wider(left.get(), right.get());
-            let s = are_signed(left.get(), right.get());
-            let u = eval(alloc, left.get(), w, s, scene, rest)?;
-            let v = eval(alloc, right.get(), w, s, scene, rest)?;
-            Ok(one_bit(alloc, equality_bit(*op, *negated, &u, &v), width, signed)?)
-        }
-        Form::Both(x, y) => {
-            let u = alone(alloc, x.get(), scene, rest)?;
-            let v = alone(alloc, y.get(), scene, rest)?;
-            Ok(one_bit(alloc, both(truth(&u), truth(&v)), width, signed)?)
-        }
-        Form::Either(x, y) => {
-            let u = alone(alloc, x.get(), scene, rest)?;
-            let v = alone(alloc, y.get(), scene, rest)?;
-            Ok(one_bit(alloc, either(truth(&u), truth(&v)), width, signed)?)
-        }
-        Form::Choose(on, x, y) => {
-            let o = alone(alloc, on.get(), scene, rest)?;
-            let u = eval(alloc, x.get(), width, signed, scene, rest)?;
-            let v = eval(alloc, y.get(), width, signed, scene, rest)?;
-            Ok(chosen(alloc, truth(&o), u, v)?)
-        }
-        Form::Concat(es) => {
-            let parts = all_alone(alloc, es.as_slice(), scene, rest)?;
-            Ok(extended(alloc, &stack(alloc, &parts)?, width, signed)?)
-        }
-        Form::Repeat(n, es) => {
-            let parts = all_alone(alloc, es.as_slice(), scene, rest)?;
-            let once = stack(alloc, &parts)?;
-            Ok(extended(alloc, &repeat(alloc, *n, &once)?, width, signed)?)
-        }
+        } => two(
+            alloc,
+            e,
+            &Two::Equal(*op, *negated, left.get(), right.get()),
+            width,
+            signed,
+            scene,
+            rest,
+        ),
+        Form::Both(x, y) => two(
+            alloc,
+            e,
+            &Two::Both(x.get(), y.get()),
+            width,
+            signed,
+            scene,
+            rest,
+        ),
+        Form::Either(x, y) => two(
+            alloc,
+            e,
+            &Two::Either(x.get(), y.get()),
+            width,
+            signed,
+            scene,
+            rest,
+        ),
+        Form::Choose(on, x, y) => choose(
+            alloc,
+            e,
+            on.get(),
+            x.get(),
+            y.get(),
+            width,
+            signed,
+            scene,
+            rest,
+        ),
+        Form::Concat(es) => many(
+            alloc,
+            e,
+            &Many::Concat(es.as_slice()),
+            width,
+            signed,
+            scene,
+            rest,
+        ),
+        Form::Repeat(n, es) => many(
+            alloc,
+            e,
+            &Many::Repeat(*n, es.as_slice()),
+            width,
+            signed,
+            scene,
+            rest,
+        ),
         Form::Inside(x, choices) => {
             let b = inside(alloc, x.get(), choices.as_slice(), scene, rest)?;
-            Ok(one_bit(alloc, b, width, signed)?)
+            or_memory(one_bit(alloc, b, width, signed))
         }
-        Form::Cast(x) => {
-            let v = alone(alloc, x.get(), scene, rest)?;
-            Ok(converted(alloc, &e.of, &v, own_sign(x.get()), width, signed)?)
-        }
-        Form::Clog2(x) => {
-            let v = alone(alloc, x.get(), scene, rest)?;
-            Ok(clog2(alloc, &v, width, signed)?)
-        }
-        Form::Pattern(es) => {
-            let parts = all_assigned(alloc, &Places::Parts(&e.of), es.as_slice(), scene, rest)?;
-            Ok(extended(alloc, &stack(alloc, &parts)?, width, signed)?)
-        }
-        Form::Call(f, es) => {
-            let formals = Places::Formals(scene.calls.formals(*f));
-            let passed = all_assigned(alloc, &formals, es.as_slice(), scene, rest)?;
-            let v = scene.calls.call(alloc, *f, &passed, rest)?;
-            Ok(extended(alloc, &v, width, signed)?)
-        }
+        Form::Cast(x) => one(alloc, e, &One::Cast(x.get()), width, signed, scene, rest),
+        Form::Clog2(x) => one(alloc, e, &One::Clog2(x.get()), width, signed, scene, rest),
+        Form::Pattern(es) => many(
+            alloc,
+            e,
+            &Many::Pattern(es.as_slice()),
+            width,
+            signed,
+            scene,
+            rest,
+        ),
+        Form::Call(f, es) => many(
+            alloc,
+            e,
+            &Many::Call(*f, es.as_slice()),
+            width,
+            signed,
+            scene,
+            rest,
+        ),
         Form::Stream {
             reversed,
             slice,
             parts,
-        } => {
-            let values = all_alone(alloc, parts.as_slice(), scene, rest)?;
-            let v = streamed_bits(alloc, *reversed, *slice, stack(alloc, &values)?)?;
-            Ok(extended(alloc, &v, width, false)?)
+        } => many(
+            alloc,
+            e,
+            &Many::Stream(*reversed, *slice, parts.as_slice()),
+            width,
+            signed,
+            scene,
+            rest,
+        ),
+    }
+}
+
+// The value of a form with one operand.
+#[cycle(eval)]
+fn one<C: Calls>(
+    alloc: Global,
+    e: &Expr,
+    form: &One<'_>,
+    width: u32,
+    signed: bool,
+    scene: &Scene<'_, C>,
+    rest: &mut Option<u64>,
+) -> Result<Vec4, Halt>
+    requires form { IsOne form.now e.now }
+    requires fits { Fits (meaning e.now) (formals_in (C.callee scene.now.calls.now)) width }
+    ensures { Gives result (meaning e.now) width signed (around_in (C.callee scene.now.calls.now) scene.now.signals.now scene.now.locals.now) rest.old rest.new }
+{
+    match form {
+        One::Unary(op, x) => {
+            let inner = eval(alloc, x, width, signed, scene, rest)?;
+            or_memory(unary(alloc, *op, &inner))
+        }
+        One::Reduce(op, x) => {
+            let reduced = alone(alloc, x, scene, rest)?;
+            or_memory(one_bit(alloc, reduce(*op, &reduced), width, signed))
+        }
+        One::Negate(x) => {
+            let negated = alone(alloc, x, scene, rest)?;
+            or_memory(one_bit(alloc, negate(truth(&negated)), width, signed))
+        }
+        One::Cast(x) => {
+            let cast = alone(alloc, x, scene, rest)?;
+            or_memory(converted(alloc, &e.of, &cast, own_sign(x), width, signed))
+        }
+        One::Clog2(x) => {
+            let number = alone(alloc, x, scene, rest)?;
+            or_memory(clog2(alloc, &number, width, signed))
+        }
+    }
+}
+
+// The value of a form with two operands.
+#[cycle(eval)]
+fn two<C: Calls>(
+    alloc: Global,
+    e: &Expr,
+    form: &Two<'_>,
+    width: u32,
+    signed: bool,
+    scene: &Scene<'_, C>,
+    rest: &mut Option<u64>,
+) -> Result<Vec4, Halt>
+    requires form { IsTwo form.now e.now }
+    requires fits { Fits (meaning e.now) (formals_in (C.callee scene.now.calls.now)) width }
+    ensures { Gives result (meaning e.now) width signed (around_in (C.callee scene.now.calls.now) scene.now.signals.now scene.now.locals.now) rest.old rest.new }
+{
+    match form {
+        Two::Binary(op, x, y) => {
+            let left = eval(alloc, x, width, signed, scene, rest)?;
+            let right = eval(alloc, y, width, signed, scene, rest)?;
+            or_memory(binary(alloc, *op, &left, &right, signed))
+        }
+        Two::Shift(op, x, y) => {
+            let value = eval(alloc, x, width, signed, scene, rest)?;
+            let amount = alone(alloc, y, scene, rest)?;
+            or_memory(shift(alloc, *op, &value, &amount, signed))
+        }
+        Two::Power(x, y) => {
+            let base = eval(alloc, x, width, signed, scene, rest)?;
+            let exponent = alone(alloc, y, scene, rest)?;
+            or_memory(power(alloc, &base, &exponent, signed, own_sign(y)))
+        }
+        Two::Order(op, x, y) => {
+            let is_signed = are_signed(x, y);
+            let low = eval(alloc, x, wider(x, y), is_signed, scene, rest)?;
+            let high = eval(alloc, y, wider(x, y), is_signed, scene, rest)?;
+            or_memory(one_bit(alloc, order(*op, &low, &high, is_signed), width, signed))
+        }
+        Two::Equal(op, negated, x, y) => {
+            let this = eval(alloc, x, wider(x, y), are_signed(x, y), scene, rest)?;
+            let that = eval(alloc, y, wider(x, y), are_signed(x, y), scene, rest)?;
+            or_memory(one_bit(
+                alloc,
+                equality_bit(*op, *negated, &this, &that),
+                width,
+                signed,
+            ))
+        }
+        Two::Both(x, y) => {
+            let first = alone(alloc, x, scene, rest)?;
+            let second = alone(alloc, y, scene, rest)?;
+            or_memory(one_bit(alloc, both(truth(&first), truth(&second)), width, signed))
+        }
+        Two::Either(x, y) => {
+            let before = alone(alloc, x, scene, rest)?;
+            let after = alone(alloc, y, scene, rest)?;
+            or_memory(one_bit(alloc, either(truth(&before), truth(&after)), width, signed))
+        }
+    }
+}
+
+// The value of `?:`.
+#[cycle(eval)]
+fn choose<C: Calls>(
+    alloc: Global,
+    e: &Expr,
+    on: &Expr,
+    x: &Expr,
+    y: &Expr,
+    width: u32,
+    signed: bool,
+    scene: &Scene<'_, C>,
+    rest: &mut Option<u64>,
+) -> Result<Vec4, Halt>
+    requires form { e.now.form ≡ Form.Choose on.now x.now y.now }
+    requires fits { Fits (meaning e.now) (formals_in (C.callee scene.now.calls.now)) width }
+    ensures { Gives result (meaning e.now) width signed (around_in (C.callee scene.now.calls.now) scene.now.signals.now scene.now.locals.now) rest.old rest.new }
+{
+    let taken = alone(alloc, on, scene, rest)?;
+    let left = eval(alloc, x, width, signed, scene, rest)?;
+    let right = eval(alloc, y, width, signed, scene, rest)?;
+    or_memory(chosen(alloc, truth(&taken), left, right))
+}
+
+// The value of a form with several operands.
+#[cycle(eval)]
+fn many<C: Calls>(
+    alloc: Global,
+    e: &Expr,
+    form: &Many<'_>,
+    width: u32,
+    signed: bool,
+    scene: &Scene<'_, C>,
+    rest: &mut Option<u64>,
+) -> Result<Vec4, Halt>
+    requires form { IsMany form.now e.now }
+    requires fits { Fits (meaning e.now) (formals_in (C.callee scene.now.calls.now)) width }
+    ensures { Gives result (meaning e.now) width signed (around_in (C.callee scene.now.calls.now) scene.now.signals.now scene.now.locals.now) rest.old rest.new }
+{
+    match form {
+        Many::Concat(es) => {
+            let joined = all_alone(alloc, es, scene, rest)?;
+            or_memory(in_context(alloc, &joined, width, signed))
+        }
+        Many::Repeat(n, es) => {
+            let repeated = all_alone(alloc, es, scene, rest)?;
+            or_memory(repeated_in_context(alloc, *n, &repeated, width, signed))
+        }
+        Many::Pattern(es) => {
+            let items = all_assigned(alloc, &Places::Parts(&e.of), es, scene, rest)?;
+            or_memory(in_context(alloc, &items, width, signed))
+        }
+        Many::Call(f, es) => {
+            let formals = Places::Formals(scene.calls.formals(*f));
+            let passed = all_assigned(alloc, &formals, es, scene, rest)?;
+            let called = scene.calls.call(alloc, *f, &passed, rest)?;
+            or_memory(extended(alloc, &called, width, signed))
+        }
+        Many::Stream(reversed, slice, parts) => {
+            let streamed = all_alone(alloc, parts, scene, rest)?;
+            or_memory(stream_in_context(alloc, *reversed, *slice, &streamed, width))
         }
     }
 }
