@@ -20,3 +20,4 @@ pub mod Streaming
 pub mod Narrower
 pub mod Insides
 pub mod PathLimits
+pub mod Elements

@@ -6,10 +6,12 @@ ghost use Rattle.eval_parts.specs.declared.halt.Halt.TheVariants.{Memory};
 ghost use Rattle.sv_types.specs.Layouts.{stacked, repeated};
 ghost use Rattle.sv_types.specs.Operators.{streamed};
 ghost use Rattle.sv_types.specs.Values.{bits};
-ghost use Rattle.expr_eval.specs.Memory.{Stops};
+ghost use Rattle.eval_parts.specs.Answers.{Stops};
 
+use crate::halt::Halt;
+use crate::orders::streamed_bits;
+use crate::vectors::{extended, repeat, stack};
 use b4_core::Vec4;
-use eval_parts::{Halt, extended, repeat, stack, streamed_bits};
 use std::alloc::{AllocError, Global};
 use sv_types::{Expr, Value, bits_of};
 

@@ -4,7 +4,7 @@ ghost use Rattle.std.specs.Prelude.{◌≡◌, ◌≤◌, map, replicate, slice_
 ghost use Rattle.sv_types.specs.Layouts.{layout, width_of, count_of, at_the_bottom};
 ghost use Rattle.sv_types.specs.Operators.{parts_of};
 ghost use Rattle.sv_types.specs.Functions.{parameter};
-ghost use Rattle.expr_eval.specs.Scenes.{AreNarrow, AllNarrow, MembersAreNarrow, marks_of, marks_of_formals, marks_of_parts, IsTypeAt, IsMemberAt};
+ghost use Rattle.eval_parts.specs.Targets.{AreNarrow, AllNarrow, marks_of, marks_of_formals, marks_of_parts, IsTypeAt, IsMemberAt};
 
 use sv_types::{Formal, Member, SvType};
 
@@ -25,7 +25,7 @@ fn count_between(left: i64, right: i64) -> u128
 }
 
 // The type of the element at a place.
-#[tactic(auto, using(crate::proofs::Types::elements))]
+#[tactic(auto, using(crate::proofs::Elements::elements))]
 fn element_type(left: i64, right: i64, item: &SvType, i: usize) -> Option<&SvType>
     requires { width_of item.now ≤ 4194304 }
     ensures { IsTypeAt result (slice_get (marks_of_parts (replicate (count_of left right) (at_the_bottom (layout item.now)))) i) }
@@ -39,7 +39,6 @@ fn element_type(left: i64, right: i64, item: &SvType, i: usize) -> Option<&SvTyp
 
 // The type of the member at a place.
 fn member_type(members: &[Member], i: usize) -> Option<&SvType>
-    requires { MembersAreNarrow members.now }
     ensures { IsMemberAt result members.now i }
 {
     if i < members.len() {
