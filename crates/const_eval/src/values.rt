@@ -4,27 +4,30 @@ ghost use Rattle.std.specs.Prelude.{◌≡◌, ◌≤◌, map, length, max};
 ghost use Rattle.sv_types.specs.Meanings.{wide, signed};
 ghost use Rattle.sv_types.specs.Operators.{assigned_width};
 ghost use Rattle.sv_types.specs.Expressions.{meaning};
-ghost use Rattle.eval_parts.specs.Answers.{Gives, GivesTo, AllGive, AllAssigned};
+ghost use Rattle.sv_types.specs.Functions.{callees_within};
+ghost use Rattle.eval_parts.specs.Answers.{Gives, GivesTo, AllGive, AllAssigned, CallGives};
 ghost use Rattle.eval_parts.specs.Limits.{Fits, AllFit, AllFitAt};
 ghost use Rattle.eval_parts.specs.Insides.{alternative, Runs, AlternativeFits, AllAlternativesFit, AlternativeGives, InsideGives};
 ghost use Rattle.eval_parts.specs.Places.{FindGives};
 ghost use Rattle.eval_parts.specs.Steps.{IsStep};
-ghost use Rattle.expr_eval.specs.Scenes.{around_in, formals_in, marks_of, AreNarrow};
-ghost use Rattle.expr_eval.specs.Views.{IsOne, IsTwo, IsMany};
+ghost use Rattle.eval_parts.specs.Targets.{marks_of, AreNarrow};
+ghost use Rattle.const_eval.specs.Scenes.{seen_by, formals_by, AllFunctionsFit};
+ghost use Rattle.const_eval.specs.Views.{IsOne, IsTwo, IsMany};
 ghost use Rattle.sv_types.specs.declared.expression.Form.{Form};
 
-use crate::memory::{constant, in_context, or_memory, repeated_in_context, stream_in_context};
-use crate::places::{Places, type_at};
-use crate::scene::{Calls, Scene};
+use crate::calls::formals_of;
+use crate::scene::Scene;
 use crate::views::{Many, One, Two};
 use b4_core::{
     Bit4, EqOp, OrdOp, Vec4, binary, both, either, equal, negate, order, power, reduce, shift,
     truth, unary,
 };
 use eval_parts::{
-    Found, Halt, Root, Step, are_signed, between_at, can_be_read, chosen, clog2, converted, cut,
-    element_at, entire, equality_bit, extended, filled, from_top, index_of, literal, member_at,
-    one_bit, own_sign, own_width, read, slide_at, stack, step_of, stream_of, streamed_bits, wider,
+    Found, Halt, Places, Root, Step, are_signed, between_at, can_be_read, chosen, clog2, constant,
+    converted, cut, element_at, entire, equality_bit, extended, filled, from_top, in_context,
+    index_of, literal, member_at, one_bit, or_memory, own_sign, own_width, read,
+    repeated_in_context, slide_at, stack, step_of, stream_in_context, stream_of, streamed_bits,
+    type_at, wider,
 };
 use std::alloc::Global;
 use sv_types::{Choice, Expr, Form, store, width as width_of_type};
@@ -32,16 +35,17 @@ use sv_types::{Choice, Expr, Form, store, width as width_of_type};
 /// The value of an expression at a width and a sign (IEEE 1800-2017 clause 11.8.2). `rest` is how many statements may still
 /// run, if there is a limit.
 #[cycle(eval)]
-pub fn eval<C: Calls>(
+pub fn eval(
     alloc: Global,
     e: &Expr,
     width: u32,
     signed: bool,
-    scene: &Scene<'_, C>,
+    scene: &Scene<'_>,
     rest: &mut Option<u64>,
 ) -> Result<Vec4, Halt>
-    requires { Fits (meaning e.now) (formals_in (C.callee scene.now.calls.now)) width }
-    ensures { Gives result (meaning e.now) width signed (around_in (C.callee scene.now.calls.now) scene.now.signals.now scene.now.locals.now) rest.old rest.new }
+    requires functions { AllFunctionsFit scene.now.functions.now }
+    requires fits { Fits (meaning e.now) (formals_by scene.now) width }
+    ensures { Gives result (meaning e.now) width signed (seen_by scene.now) rest.old rest.new }
 {
     match &e.form {
         Form::Literal { bits, goes_on } => or_memory(literal(alloc, bits, *goes_on, width, signed)),
@@ -247,18 +251,19 @@ pub fn eval<C: Calls>(
 
 // The value of a form with one operand.
 #[cycle(eval)]
-fn one<C: Calls>(
+fn one(
     alloc: Global,
     e: &Expr,
     form: &One<'_>,
     width: u32,
     signed: bool,
-    scene: &Scene<'_, C>,
+    scene: &Scene<'_>,
     rest: &mut Option<u64>,
 ) -> Result<Vec4, Halt>
+    requires functions { AllFunctionsFit scene.now.functions.now }
     requires form { IsOne form.now e.now }
-    requires fits { Fits (meaning e.now) (formals_in (C.callee scene.now.calls.now)) width }
-    ensures { Gives result (meaning e.now) width signed (around_in (C.callee scene.now.calls.now) scene.now.signals.now scene.now.locals.now) rest.old rest.new }
+    requires fits { Fits (meaning e.now) (formals_by scene.now) width }
+    ensures { Gives result (meaning e.now) width signed (seen_by scene.now) rest.old rest.new }
 {
     match form {
         One::Unary(op, x) => {
@@ -286,18 +291,19 @@ fn one<C: Calls>(
 
 // The value of a form with two operands.
 #[cycle(eval)]
-fn two<C: Calls>(
+fn two(
     alloc: Global,
     e: &Expr,
     form: &Two<'_>,
     width: u32,
     signed: bool,
-    scene: &Scene<'_, C>,
+    scene: &Scene<'_>,
     rest: &mut Option<u64>,
 ) -> Result<Vec4, Halt>
+    requires functions { AllFunctionsFit scene.now.functions.now }
     requires form { IsTwo form.now e.now }
-    requires fits { Fits (meaning e.now) (formals_in (C.callee scene.now.calls.now)) width }
-    ensures { Gives result (meaning e.now) width signed (around_in (C.callee scene.now.calls.now) scene.now.signals.now scene.now.locals.now) rest.old rest.new }
+    requires fits { Fits (meaning e.now) (formals_by scene.now) width }
+    ensures { Gives result (meaning e.now) width signed (seen_by scene.now) rest.old rest.new }
 {
     match form {
         Two::Binary(op, x, y) => {
@@ -346,7 +352,7 @@ fn two<C: Calls>(
 
 // The value of `?:`.
 #[cycle(eval)]
-fn choose<C: Calls>(
+fn choose(
     alloc: Global,
     e: &Expr,
     on: &Expr,
@@ -354,12 +360,13 @@ fn choose<C: Calls>(
     y: &Expr,
     width: u32,
     signed: bool,
-    scene: &Scene<'_, C>,
+    scene: &Scene<'_>,
     rest: &mut Option<u64>,
 ) -> Result<Vec4, Halt>
+    requires functions { AllFunctionsFit scene.now.functions.now }
     requires form { e.now.form ≡ Form.Choose on.now x.now y.now }
-    requires fits { Fits (meaning e.now) (formals_in (C.callee scene.now.calls.now)) width }
-    ensures { Gives result (meaning e.now) width signed (around_in (C.callee scene.now.calls.now) scene.now.signals.now scene.now.locals.now) rest.old rest.new }
+    requires fits { Fits (meaning e.now) (formals_by scene.now) width }
+    ensures { Gives result (meaning e.now) width signed (seen_by scene.now) rest.old rest.new }
 {
     let taken = alone(alloc, on, scene, rest)?;
     let left = eval(alloc, x, width, signed, scene, rest)?;
@@ -369,18 +376,19 @@ fn choose<C: Calls>(
 
 // The value of a form with several operands.
 #[cycle(eval)]
-fn many<C: Calls>(
+fn many(
     alloc: Global,
     e: &Expr,
     form: &Many<'_>,
     width: u32,
     signed: bool,
-    scene: &Scene<'_, C>,
+    scene: &Scene<'_>,
     rest: &mut Option<u64>,
 ) -> Result<Vec4, Halt>
+    requires functions { AllFunctionsFit scene.now.functions.now }
     requires form { IsMany form.now e.now }
-    requires fits { Fits (meaning e.now) (formals_in (C.callee scene.now.calls.now)) width }
-    ensures { Gives result (meaning e.now) width signed (around_in (C.callee scene.now.calls.now) scene.now.signals.now scene.now.locals.now) rest.old rest.new }
+    requires fits { Fits (meaning e.now) (formals_by scene.now) width }
+    ensures { Gives result (meaning e.now) width signed (seen_by scene.now) rest.old rest.new }
 {
     match form {
         Many::Concat(es) => {
@@ -396,9 +404,9 @@ fn many<C: Calls>(
             or_memory(in_context(alloc, &items, width, signed))
         }
         Many::Call(f, es) => {
-            let formals = Places::Formals(scene.calls.formals(*f));
+            let formals = Places::Formals(formals_of(scene.functions, *f));
             let passed = all_assigned(alloc, &formals, es, scene, rest)?;
-            let called = scene.calls.call(alloc, *f, &passed, rest)?;
+            let called = call(alloc, *f, &passed, scene, rest)?;
             or_memory(extended(alloc, &called, width, signed))
         }
         Many::Stream(reversed, slice, parts) => {
@@ -410,28 +418,30 @@ fn many<C: Calls>(
 
 /// The value of an expression alone: at its own width and sign.
 #[cycle(eval)]
-pub fn alone<C: Calls>(
+pub fn alone(
     alloc: Global,
     e: &Expr,
-    scene: &Scene<'_, C>,
+    scene: &Scene<'_>,
     rest: &mut Option<u64>,
 ) -> Result<Vec4, Halt>
-    requires { Fits (meaning e.now) (formals_in (C.callee scene.now.calls.now)) (wide (meaning e.now)) }
-    ensures { Gives result (meaning e.now) (wide (meaning e.now)) (signed (meaning e.now)) (around_in (C.callee scene.now.calls.now) scene.now.signals.now scene.now.locals.now) rest.old rest.new }
+    requires functions { AllFunctionsFit scene.now.functions.now }
+    requires fits { Fits (meaning e.now) (formals_by scene.now) (wide (meaning e.now)) }
+    ensures { Gives result (meaning e.now) (wide (meaning e.now)) (signed (meaning e.now)) (seen_by scene.now) rest.old rest.new }
 {
     eval(alloc, e, own_width(e), own_sign(e), scene, rest)
 }
 
 // The values of several expressions, each alone, from left to right.
 #[cycle(eval)]
-fn all_alone<C: Calls>(
+fn all_alone(
     alloc: Global,
     es: &[Expr],
-    scene: &Scene<'_, C>,
+    scene: &Scene<'_>,
     rest: &mut Option<u64>,
 ) -> Result<Vec<Vec4>, Halt>
-    requires { AllFit es.now (formals_in (C.callee scene.now.calls.now)) }
-    ensures { AllGive result (map meaning es.now) (around_in (C.callee scene.now.calls.now) scene.now.signals.now scene.now.locals.now) rest.old rest.new }
+    requires functions { AllFunctionsFit scene.now.functions.now }
+    requires fits { AllFit es.now (formals_by scene.now) }
+    ensures { AllGive result (map meaning es.now) (seen_by scene.now) rest.old rest.new }
 {
     let mut values = Vec::new(alloc);
     for e in es {
@@ -443,18 +453,19 @@ fn all_alone<C: Calls>(
 
 // The value of a select path.
 #[cycle(eval)]
-fn select<C: Calls>(
+fn select(
     alloc: Global,
     e: &Expr,
     step: &Step<'_>,
     width: u32,
     signed: bool,
-    scene: &Scene<'_, C>,
+    scene: &Scene<'_>,
     rest: &mut Option<u64>,
 ) -> Result<Vec4, Halt>
+    requires functions { AllFunctionsFit scene.now.functions.now }
     requires step { IsStep step.now e.now }
-    requires fits { Fits (meaning e.now) (formals_in (C.callee scene.now.calls.now)) width }
-    ensures { Gives result (meaning e.now) width signed (around_in (C.callee scene.now.calls.now) scene.now.signals.now scene.now.locals.now) rest.old rest.new }
+    requires fits { Fits (meaning e.now) (formals_by scene.now) width }
+    ensures { Gives result (meaning e.now) width signed (seen_by scene.now) rest.old rest.new }
 {
     if !can_be_read(e, scene.signals) {
         return Err(Halt::NotHeld(e.spot.at));
@@ -467,16 +478,17 @@ fn select<C: Calls>(
 
 // The bits that a select path names.
 #[cycle(eval)]
-fn path<C: Calls>(
+fn path(
     alloc: Global,
     e: &Expr,
     step: &Step<'_>,
-    scene: &Scene<'_, C>,
+    scene: &Scene<'_>,
     rest: &mut Option<u64>,
 ) -> Result<Found, Halt>
+    requires functions { AllFunctionsFit scene.now.functions.now }
     requires step { IsStep step.now e.now }
-    requires fits { Fits (meaning e.now) (formals_in (C.callee scene.now.calls.now)) (wide (meaning e.now)) }
-    ensures { FindGives result (meaning e.now) (around_in (C.callee scene.now.calls.now) scene.now.signals.now scene.now.locals.now) rest.old rest.new }
+    requires fits { Fits (meaning e.now) (formals_by scene.now) (wide (meaning e.now)) }
+    ensures { FindGives result (meaning e.now) (seen_by scene.now) rest.old rest.new }
 {
     match step {
         Step::Signal(n) => Ok(Found {
@@ -537,14 +549,10 @@ fn path<C: Calls>(
 
 // What a step selects from: a path, or the bits of a value.
 #[cycle(eval)]
-fn find<C: Calls>(
-    alloc: Global,
-    e: &Expr,
-    scene: &Scene<'_, C>,
-    rest: &mut Option<u64>,
-) -> Result<Found, Halt>
-    requires { Fits (meaning e.now) (formals_in (C.callee scene.now.calls.now)) (wide (meaning e.now)) }
-    ensures { FindGives result (meaning e.now) (around_in (C.callee scene.now.calls.now) scene.now.signals.now scene.now.locals.now) rest.old rest.new }
+fn find(alloc: Global, e: &Expr, scene: &Scene<'_>, rest: &mut Option<u64>) -> Result<Found, Halt>
+    requires functions { AllFunctionsFit scene.now.functions.now }
+    requires fits { Fits (meaning e.now) (formals_by scene.now) (wide (meaning e.now)) }
+    ensures { FindGives result (meaning e.now) (seen_by scene.now) rest.old rest.new }
 {
     match step_of(e) {
         Some(step) => path(alloc, e, &step, scene, rest),
@@ -560,15 +568,16 @@ fn find<C: Calls>(
 
 // What an expression gives to a target of so many bits (IEEE 1800-2017 clause 10.7).
 #[cycle(eval)]
-fn given<C: Calls>(
+fn given(
     alloc: Global,
     e: &Expr,
     width: u32,
-    scene: &Scene<'_, C>,
+    scene: &Scene<'_>,
     rest: &mut Option<u64>,
 ) -> Result<Vec4, Halt>
-    requires { Fits (meaning e.now) (formals_in (C.callee scene.now.calls.now)) (max width (wide (meaning e.now))) }
-    ensures { GivesTo result (meaning e.now) width (around_in (C.callee scene.now.calls.now) scene.now.signals.now scene.now.locals.now) rest.old rest.new }
+    requires functions { AllFunctionsFit scene.now.functions.now }
+    requires fits { Fits (meaning e.now) (formals_by scene.now) (max width (wide (meaning e.now))) }
+    ensures { GivesTo result (meaning e.now) width (seen_by scene.now) rest.old rest.new }
 {
     match stream_of(e) {
         None => {
@@ -587,16 +596,17 @@ fn given<C: Calls>(
 
 // What several expressions assign to places, from left to right, as far as there are both.
 #[cycle(eval)]
-fn all_assigned<C: Calls>(
+fn all_assigned(
     alloc: Global,
     places: &Places<'_>,
     es: &[Expr],
-    scene: &Scene<'_, C>,
+    scene: &Scene<'_>,
     rest: &mut Option<u64>,
 ) -> Result<Vec<Vec4>, Halt>
+    requires functions { AllFunctionsFit scene.now.functions.now }
     requires narrow { AreNarrow places.now }
-    requires fits { AllFitAt (marks_of places.now) es.now (formals_in (C.callee scene.now.calls.now)) }
-    ensures { AllAssigned result (marks_of places.now) (map meaning es.now) (around_in (C.callee scene.now.calls.now) scene.now.signals.now scene.now.locals.now) rest.old rest.new }
+    requires fits { AllFitAt (marks_of places.now) es.now (formals_by scene.now) }
+    ensures { AllAssigned result (marks_of places.now) (map meaning es.now) (seen_by scene.now) rest.old rest.new }
 {
     let mut values = Vec::new(alloc);
     for (i, e) in es.iter().enumerate() {
@@ -611,16 +621,17 @@ fn all_assigned<C: Calls>(
 
 // Whether a value is one of the alternatives of `inside` (IEEE 1800-2017 clause 11.4.13).
 #[cycle(eval)]
-fn inside<C: Calls>(
+fn inside(
     alloc: Global,
     x: &Expr,
     choices: &[Choice],
-    scene: &Scene<'_, C>,
+    scene: &Scene<'_>,
     rest: &mut Option<u64>,
 ) -> Result<Bit4, Halt>
-    requires one { Fits (meaning x.now) (formals_in (C.callee scene.now.calls.now)) (wide (meaning x.now)) }
-    requires choices { AllAlternativesFit (meaning x.now) (formals_in (C.callee scene.now.calls.now)) (map alternative choices.now) }
-    ensures { InsideGives result (meaning x.now) (map alternative choices.now) (around_in (C.callee scene.now.calls.now) scene.now.signals.now scene.now.locals.now) rest.old rest.new }
+    requires functions { AllFunctionsFit scene.now.functions.now }
+    requires one { Fits (meaning x.now) (formals_by scene.now) (wide (meaning x.now)) }
+    requires choices { AllAlternativesFit (meaning x.now) (formals_by scene.now) (map alternative choices.now) }
+    ensures { InsideGives result (meaning x.now) (map alternative choices.now) (seen_by scene.now) rest.old rest.new }
 {
     let start = *rest;
     alone(alloc, x, scene, rest)?;
@@ -635,17 +646,18 @@ fn inside<C: Calls>(
 // Whether a value is an alternative. It is valued again, at the width and sign of the comparison, on the budget on which it
 // ran before.
 #[cycle(eval)]
-fn matches<C: Calls>(
+fn matches(
     alloc: Global,
     x: &Expr,
     choice: &Choice,
     start: Option<u64>,
-    scene: &Scene<'_, C>,
+    scene: &Scene<'_>,
     rest: &mut Option<u64>,
 ) -> Result<Bit4, Halt>
-    requires fits { AlternativeFits (meaning x.now) (formals_in (C.callee scene.now.calls.now)) (alternative choice.now) }
-    requires ran { Runs (meaning x.now) (around_in (C.callee scene.now.calls.now) scene.now.signals.now scene.now.locals.now) start }
-    ensures { AlternativeGives result (meaning x.now) (alternative choice.now) (around_in (C.callee scene.now.calls.now) scene.now.signals.now scene.now.locals.now) rest.old rest.new }
+    requires functions { AllFunctionsFit scene.now.functions.now }
+    requires fits { AlternativeFits (meaning x.now) (formals_by scene.now) (alternative choice.now) }
+    requires ran { Runs (meaning x.now) (seen_by scene.now) start }
+    ensures { AlternativeGives result (meaning x.now) (alternative choice.now) (seen_by scene.now) rest.old rest.new }
 {
     let mut again = start;
     match choice {
@@ -670,4 +682,18 @@ fn matches<C: Calls>(
             Ok(both(not_below, order(OrdOp::LessEqual, &p, &q, s)))
         }
     }
+}
+
+// What a call gives.
+fn call(
+    alloc: Global,
+    function: u32,
+    passed: &[Vec4],
+    scene: &Scene<'_>,
+    rest: &mut Option<u64>,
+) -> Result<Vec4, Halt>
+    requires functions { AllFunctionsFit scene.now.functions.now }
+    ensures { CallGives result (callees_within scene.now.depth scene.now.functions.now function) passed.now rest.old rest.new }
+{
+    Err(Halt::Memory)
 }

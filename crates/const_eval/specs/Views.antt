@@ -2,12 +2,12 @@
 use Rattle.std.specs.Prelude.{◌≡◌}
 use Rattle.sv_types.specs.declared.expression.Expr.{Expr}
 use Rattle.sv_types.specs.declared.expression.Form.TheVariants as V
-use Rattle.expr_eval.specs.declared.views.One.{One}
-use Rattle.expr_eval.specs.declared.views.One.TheVariants as A
-use Rattle.expr_eval.specs.declared.views.Two.{Two}
-use Rattle.expr_eval.specs.declared.views.Two.TheVariants as B
-use Rattle.expr_eval.specs.declared.views.Many.{Many}
-use Rattle.expr_eval.specs.declared.views.Many.TheVariants as C
+use Rattle.const_eval.specs.declared.views.One.{One}
+use Rattle.const_eval.specs.declared.views.One.TheVariants as A
+use Rattle.const_eval.specs.declared.views.Two.{Two}
+use Rattle.const_eval.specs.declared.views.Two.TheVariants as B
+use Rattle.const_eval.specs.declared.views.Many.{Many}
+use Rattle.const_eval.specs.declared.views.Many.TheVariants as C
 
 abbrev pub IsOne : One → Expr → Type 0
 IsOne (A.Unary op x) e = e.form ≡ V.Unary op x.now

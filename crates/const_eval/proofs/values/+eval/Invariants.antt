@@ -1,46 +1,46 @@
 use Rattle.std.proofs.Common.{◌≡◌, ◌+◌, ◌*◌, ◌++◌, map, drop, length}
 use Rattle.sv_types.specs.Meanings.{total}
 use Rattle.eval_parts.proofs.Nodes.{nodes, choice_nodes}
-use Rattle.expr_eval.proofs.values.+eval.Given as goal
+use Rattle.const_eval.proofs.values.+eval.Given as goal
 
 abbrev pub decreases-eval : goal.decreases-eval
-decreases-eval g l = 8 * nodes l.e.now + 2
+decreases-eval l = 8 * nodes l.e.now + 2
 
 abbrev pub decreases-alone : goal.decreases-alone
-decreases-alone g l = 8 * nodes l.e.now + 3
+decreases-alone l = 8 * nodes l.e.now + 3
 
 abbrev pub decreases-all_alone : goal.decreases-all_alone
-decreases-all_alone g l = 8 * total (map nodes l.es.now) + 5
+decreases-all_alone l = 8 * total (map nodes l.es.now) + 5
 
 abbrev pub decreases-select : goal.decreases-select
-decreases-select g l = 8 * nodes l.e.now + 1
+decreases-select l = 8 * nodes l.e.now + 1
 
 abbrev pub decreases-one : goal.decreases-one
-decreases-one g l = 8 * nodes l.e.now + 1
+decreases-one l = 8 * nodes l.e.now + 1
 
 abbrev pub decreases-two : goal.decreases-two
-decreases-two g l = 8 * nodes l.e.now + 1
+decreases-two l = 8 * nodes l.e.now + 1
 
 abbrev pub decreases-choose : goal.decreases-choose
-decreases-choose g l = 8 * nodes l.e.now + 1
+decreases-choose l = 8 * nodes l.e.now + 1
 
 abbrev pub decreases-many : goal.decreases-many
-decreases-many g l = 8 * nodes l.e.now + 1
+decreases-many l = 8 * nodes l.e.now + 1
 
 abbrev pub decreases-path : goal.decreases-path
-decreases-path g l = 8 * nodes l.e.now
+decreases-path l = 8 * nodes l.e.now
 
 abbrev pub decreases-find : goal.decreases-find
-decreases-find g l = 8 * nodes l.e.now + 4
+decreases-find l = 8 * nodes l.e.now + 4
 
 abbrev pub decreases-given : goal.decreases-given
-decreases-given g l = 8 * nodes l.e.now + 4
+decreases-given l = 8 * nodes l.e.now + 4
 
 abbrev pub decreases-all_assigned : goal.decreases-all_assigned
-decreases-all_assigned g l = 8 * total (map nodes l.es.now) + 5
+decreases-all_assigned l = 8 * total (map nodes l.es.now) + 5
 
 abbrev pub decreases-inside : goal.decreases-inside
-decreases-inside g l = 8 * (nodes l.x.now + total (map choice_nodes l.choices.now)) + 7
+decreases-inside l = 8 * (nodes l.x.now + total (map choice_nodes l.choices.now)) + 7
 
 abbrev pub decreases-matches : goal.decreases-matches
-decreases-matches g l = 8 * (nodes l.x.now + choice_nodes l.choice.now) + 6
+decreases-matches l = 8 * (nodes l.x.now + choice_nodes l.choice.now) + 6
