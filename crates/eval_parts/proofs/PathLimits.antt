@@ -1,5 +1,5 @@
 -- What a select path that fits asks of its parts.
-use Rattle.std.proofs.Common.{◌≡◌, ℕ, ◌≤◌, ◌<◌, Bool, ℤ, List, Option, Some, None, cond, refl, arith, ap, sym, ◌∙◌, subst}
+use Rattle.std.proofs.Common.{◌≡◌, ℕ, ◌≤◌, ◌<◌, Bool, ℤ, List, Option, Some, None, cond, arith, ap, sym, ◌∙◌, subst}
 use Rattle.b4_core.specs.declared.bit.Bit4.{Bit4}
 use Rattle.b4_core.specs.Vectors.{known, number}
 use Rattle.sv_types.specs.declared.expression.Expr.{Expr}
