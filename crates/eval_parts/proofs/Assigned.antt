@@ -16,6 +16,7 @@ use Rattle.eval_parts.specs.declared.halt.Halt.{Halt}
 use Rattle.eval_parts.specs.Surroundings.{running}
 use Rattle.eval_parts.specs.Answers.{Gives, Halts, AllAssigned, CallGives, assigned, values_assigned}
 use Rattle.eval_parts.specs.Limits.{Fits, AllFitAt}
+use Rattle.eval_parts.specs.Targets.{marks_of_parts, marks_of_formals}
 use Rattle.eval_parts.proofs.Efforts.{first-on, first-halts, halts-onward}
 use Rattle.eval_parts.proofs.Steps.{at-form}
 
@@ -41,13 +42,6 @@ values-on p ps e es a old new is = first-on (by_itself (meaning e)) (map (λ q. 
 pub values-halt : (h : Halt) (p : List Bool) (ps : List (List Bool)) (e : Expr) (es : List Expr) (a : Around) (old : Option ℕ) → Halts h ((meaning e).values a (running old))
     → Halts h (values_assigned (p ∷ ps) (map meaning (e ∷ es)) a (running old))
 values-halt h p ps e es a old halts = first-halts h (by_itself (meaning e)) (map (λ q. by_itself q.1) (zip ps (map meaning es))) a (running old) halts
-
--- the marks of parts
-abbrev pub marks_of_parts : List Part → List (List Bool)
-marks_of_parts ps = map (λ (p : Part). p.two_state) ps
-
-abbrev pub marks_of_formals : List Parameter → List (List Bool)
-marks_of_formals ps = map (λ (p : Parameter). p.two_state) ps
 
 pub parts-assigned : (ps : List Part) (ms : List Meaning) (a : Around) → map (λ p. assigned_to p.0.two_state p.1 a) (zip ps ms) ≡ assigned (marks_of_parts ps) ms a
 parts-assigned [] ms a = refl

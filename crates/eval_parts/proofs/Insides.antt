@@ -15,7 +15,7 @@ use Rattle.sv_types.specs.declared.expression.Choice.TheVariants as C
 use Rattle.sv_types.specs.declared.expression.Form.TheVariants as V
 use Rattle.sv_types.specs.Layouts.{Layout, layout}
 use Rattle.sv_types.specs.Surroundings.{Around, Tally, Stop, Parameter}
-use Rattle.sv_types.specs.Meanings.{Meaning, Operand, wide, at_width, values_all, most, total}
+use Rattle.sv_types.specs.Meanings.{Meaning, Operand, wide, by_itself, at_width, values_all, most, total}
 use Rattle.sv_types.specs.Operators as O
 use Rattle.sv_types.specs.Operators.{Alternative, both_wide, both_signed, is_inside, inside_operands, inside_width, inside_arithmetic}
 use Rattle.sv_types.specs.Expressions.{meaning}
@@ -26,7 +26,7 @@ use Rattle.eval_parts.specs.declared.halt.Halt.{Halt}
 use Rattle.eval_parts.specs.declared.halt.Halt.TheVariants as H
 use Rattle.eval_parts.specs.Surroundings.{running}
 use Rattle.eval_parts.specs.Answers.{Gives, Halts}
-use Rattle.eval_parts.specs.Insides.{alternative, Runs, PairFits, RangeFits, AlternativeFits, AllAlternativesFit, GoesOn, StopsIn, AlternativeGives, AllAlternativesGive}
+use Rattle.eval_parts.specs.Insides.{alternative, Runs, PairFits, RangeFits, AlternativeFits, AllAlternativesFit, GoesOn, StopsIn, AlternativeGives, InsideGives}
 use Rattle.eval_parts.specs.Limits.{Fits}
 use Rattle.eval_parts.proofs.Efforts.{first-on, first-halts, second-halts}
 use Rattle.eval_parts.proofs.Narrower.{grows}
@@ -131,38 +131,33 @@ choice-halts h cs i c m a all old within is stops before =
 pub same-Inside : (e x : Expr) (cs : List Choice) → e.form ≡ V.Inside x cs → meaning e ≡ O.inside (layout e.of) e.spot.at (meaning x) (map alternative cs)
 same-Inside e x cs is = at-form e (V.Inside x cs) _ is (L.form-Inside x cs)
 
-inside-halts-x-in : (h : Halt) (of : Layout) (at : ℕ) (m : Meaning) (cs : List Alternative) (w : ℕ) (s : Bool) (a : Around) (old new : Option ℕ) → Halts h (m.values a (running old)) → Gives (Err h) (O.inside of at m cs) w s a old new
+inside-halts-in : (h : Halt) (of : Layout) (at : ℕ) (m : Meaning) (cs : List Alternative) (w : ℕ) (s : Bool) (a : Around) (old new : Option ℕ) → InsideGives (Err h) m cs a old new → Gives (Err h) (O.inside of at m cs) w s a old new
 unfolding O.inside
-inside-halts-x-in h of at m cs w s a old new halts = first-halts h (at_width (max (wide m) (most (map (inside_width m) cs))) m) (flat_map (inside_operands m) cs) a (running old) halts
+inside-halts-in h of at m cs w s a old new halts = halts
 
-pub inside-halts-x : (h : Halt) (e x : Expr) (cs : List Choice) (w : ℕ) (s : Bool) (a : Around) (old new : Option ℕ) → e.form ≡ V.Inside x cs → Halts h ((meaning x).values a (running old)) → Gives (Err h) (meaning e) w s a old new
-inside-halts-x h e x cs w s a old new is halts =
-    subst (λ m. Gives (Err h) m w s a old new) (sym (same-Inside e x cs is)) (inside-halts-x-in h (layout e.of) e.spot.at (meaning x) (map alternative cs) w s a old new halts)
+pub inside-halts : (h : Halt) (e x : Expr) (cs : List Choice) (w : ℕ) (s : Bool) (a : Around) (old new : Option ℕ) → e.form ≡ V.Inside x cs → InsideGives (Err h) (meaning x) (map alternative cs) a old new → Gives (Err h) (meaning e) w s a old new
+inside-halts h e x cs w s a old new is halts =
+    subst (λ m. Gives (Err h) m w s a old new) (sym (same-Inside e x cs is)) (inside-halts-in h (layout e.of) e.spot.at (meaning x) (map alternative cs) w s a old new halts)
 
-inside-halts-y-in : (h : Halt) (of : Layout) (at : ℕ) (m : Meaning) (cs : List Alternative) (w : ℕ) (s : Bool) (a : Around) (old one new : Option ℕ) → m.values a (running old) ≡ running one
-    → Halts h (values_all (flat_map (inside_operands m) cs) a (running one)) → Gives (Err h) (O.inside of at m cs) w s a old new
+inside-done-in : (of : Layout) (at : ℕ) (m : Meaning) (cs : List Alternative) (b : Bit4) (r : List Bit4) (w : ℕ) (s : Bool) (a : Around) (old new : Option ℕ) → InsideGives (Ok b) m cs a old new → r ≡ ext w s (b ∷ []) → Gives (Ok r) (O.inside of at m cs) w s a old new
 unfolding O.inside
-inside-halts-y-in h of at m cs w s a old one new ran halts =
-    subst (Halts h) (sym (first-on (at_width (max (wide m) (most (map (inside_width m) cs))) m) (flat_map (inside_operands m) cs) a (running old) one ran)) halts
+inside-done-in of at m cs b r w s a old new g is = (is ∙ ap (λ q. ext w s (q ∷ [])) g.0, g.1)
 
-pub inside-halts-y : (h : Halt) (e x : Expr) (cs : List Choice) (w : ℕ) (s : Bool) (a : Around) (old one new : Option ℕ) → e.form ≡ V.Inside x cs → (meaning x).values a (running old) ≡ running one
-    → AllAlternativesGive (Err h) (meaning x) (map alternative cs) a one new → Gives (Err h) (meaning e) w s a old new
-inside-halts-y h e x cs w s a old one new is ran halts =
-    subst (λ m. Gives (Err h) m w s a old new) (sym (same-Inside e x cs is)) (inside-halts-y-in h (layout e.of) e.spot.at (meaning x) (map alternative cs) w s a old one new ran halts)
-
-inside-done-in : (of : Layout) (at : ℕ) (m : Meaning) (cs : List Alternative) (bs : List Bit4) (r : List Bit4) (w : ℕ) (s : Bool) (a : Around) (old one new : Option ℕ) → m.values a (running old) ≡ running one
-    → bs ≡ map (is_inside m a) cs → values_all (flat_map (inside_operands m) cs) a (running one) ≡ running new → r ≡ ext w s (any4 bs ∷ []) → Gives (Ok r) (O.inside of at m cs) w s a old new
-unfolding O.inside
-inside-done-in of at m cs bs r w s a old one new ran values runs is = (
-  is ∙ ap (λ q. ext w s (any4 q ∷ [])) values,
-  first-on (at_width (max (wide m) (most (map (inside_width m) cs))) m) (flat_map (inside_operands m) cs) a (running old) one ran ∙ runs,
-)
-
-pub inside-done : (e x : Expr) (cs : List Choice) (bs : List Bit4) (r : List Bit4) (w : ℕ) (s : Bool) (a : Around) (old one new : Option ℕ) → e.form ≡ V.Inside x cs → (meaning x).values a (running old) ≡ running one
-    → bs ≡ map (is_inside (meaning x) a) (map alternative cs) → values_all (flat_map (inside_operands (meaning x)) (map alternative cs)) a (running one) ≡ running new → r ≡ ext w s (any4 bs ∷ [])
+pub inside-done : (e x : Expr) (cs : List Choice) (b : Bit4) (r : List Bit4) (w : ℕ) (s : Bool) (a : Around) (old new : Option ℕ) → e.form ≡ V.Inside x cs → InsideGives (Ok b) (meaning x) (map alternative cs) a old new → r ≡ ext w s (b ∷ [])
     → Gives (Ok r) (meaning e) w s a old new
-inside-done e x cs bs r w s a old one new at ran values runs is =
-    subst (λ m. Gives (Ok r) m w s a old new) (sym (same-Inside e x cs at)) (inside-done-in (layout e.of) e.spot.at (meaning x) (map alternative cs) bs r w s a old one new ran values runs is)
+inside-done e x cs b r w s a old new at g is =
+    subst (λ m. Gives (Ok r) m w s a old new) (sym (same-Inside e x cs at)) (inside-done-in (layout e.of) e.spot.at (meaning x) (map alternative cs) b r w s a old new g is)
+
+-- all alternatives, from what they gave one by one
+pub all-inside : (m : Meaning) (cs : List Alternative) (bs : List Bit4) (b : Bit4) (a : Around) (old one new : Option ℕ) → m.values a (running old) ≡ running one → bs ≡ map (is_inside m a) cs
+    → values_all (flat_map (inside_operands m) cs) a (running one) ≡ running new → b ≡ any4 bs → InsideGives (Ok b) m cs a old new
+all-inside m cs bs b a old one new ran values runs is = (is ∙ ap any4 values, first-on (by_itself m) (flat_map (inside_operands m) cs) a (running old) one ran ∙ runs)
+
+pub inside-first-halts : (h : Halt) (m : Meaning) (cs : List Alternative) (w : ℕ) (s : Bool) (a : Around) (old new : Option ℕ) → Gives (Err h) m w s a old new → InsideGives (Err h) m cs a old new
+inside-first-halts h m cs w s a old new halts = first-halts h (by_itself m) (flat_map (inside_operands m) cs) a (running old) halts
+
+pub inside-next-halts : (h : Halt) (m : Meaning) (cs : List Alternative) (a : Around) (old one new : Option ℕ) → m.values a (running old) ≡ running one → Halts h (values_all (flat_map (inside_operands m) cs) a (running one)) → InsideGives (Err h) m cs a old new
+inside-next-halts h m cs a old one new ran halts = subst (Halts h) (sym (first-on (by_itself m) (flat_map (inside_operands m) cs) a (running old) one ran)) halts
 
 -- its limits
 pair-fits : (x : Expr) (v : Meaning) (fs : ℕ → List Parameter) (w : ℕ) → both_wide (meaning x) v ≤ w → (meaning x).misfits ≡ 0 → (meaning x).widest ≤ 4194304 → (meaning x).arithmetic fs w ≤ 128 → (meaning x).indexing ≤ 64

@@ -19,3 +19,5 @@ pub mod Assigned
 pub mod Streaming
 pub mod Narrower
 pub mod Insides
+pub mod PathLimits
+pub mod Elements

@@ -48,3 +48,8 @@ AllAssigned (Err halt) places ms a old new = Halts halt (values_assigned places 
 abbrev pub CallGives : Result (List Bit4) Halt → Callee → List (List Bit4) → Option ℕ → Option ℕ → Type 0
 CallGives (Ok v) c vs old new = (v ≡ (c.run vs).result) × (c.effort vs (running old) ≡ running new)
 CallGives (Err halt) c vs old new = Halts halt (c.effort vs (running old))
+
+-- what can only want memory, which stops a run
+abbrev pub Stops : {E : Type 0} → Result (List Bit4) E → Result (List Bit4) Halt → Type 0
+Stops (Ok v) r = r ≡ Ok v
+Stops (Err x) r = r ≡ Err H.Memory

@@ -1,11 +1,11 @@
 -- What the alternatives of `inside` give.
-use Rattle.std.specs.Prelude.{◌≡◌, ⊤, Vec, ℕ, ◌≤◌, Option, List, [], ◌∷◌, ◌++◌, map, flat_map, Result, Ok, Err}
-use Rattle.std.specs.Global.{Global}
+use Rattle.std.specs.Prelude.{◌≡◌, ⊤, ℕ, ◌≤◌, Option, List, [], ◌∷◌, ◌++◌, map, flat_map, Result, Ok, Err}
 use Rattle.b4_core.specs.declared.bit.Bit4.{Bit4}
+use Rattle.b4_core.specs.Bitwise.{any4}
 use Rattle.sv_types.specs.declared.expression.Choice.{Choice, fold-Choice}
 use Rattle.sv_types.specs.Layouts.{Layout}
-use Rattle.sv_types.specs.Surroundings.{Around, Parameter}
-use Rattle.sv_types.specs.Meanings.{Meaning, Operand, values_all}
+use Rattle.sv_types.specs.Surroundings.{Around, Tally, Parameter}
+use Rattle.sv_types.specs.Meanings.{Meaning, Operand, by_itself, values_all}
 use Rattle.sv_types.specs.Operators.{Alternative, both_wide, is_inside, inside_operands}
 use Rattle.sv_types.specs.Expressions.{choice_step, form_step, expr_step}
 use Rattle.eval_parts.specs.declared.halt.Halt.{Halt}
@@ -52,6 +52,10 @@ abbrev pub AlternativeGives : Result Bit4 Halt → Meaning → Alternative → A
 AlternativeGives (Ok b) m c a old new = (b ≡ is_inside m a c) × GoesOn (inside_operands m c) a old new
 AlternativeGives (Err halt) m c a old new = StopsIn halt (inside_operands m c) a old
 
-abbrev pub AllAlternativesGive : Result (Vec Bit4 Global) Halt → Meaning → List Alternative → Around → Option ℕ → Option ℕ → Type 0
-AllAlternativesGive (Ok bs) m cs a old new = (bs.items ≡ map (is_inside m a) cs) × (values_all (flat_map (inside_operands m) cs) a (running old) ≡ running new)
-AllAlternativesGive (Err halt) m cs a old new = Halts halt (values_all (flat_map (inside_operands m) cs) a (running old))
+-- whether an expression is one of some alternatives, and what valuing all of them takes
+abbrev pub values_inside : Meaning → List Alternative → Around → Tally → Tally
+values_inside m cs = values_all (by_itself m ∷ flat_map (inside_operands m) cs)
+
+abbrev pub InsideGives : Result Bit4 Halt → Meaning → List Alternative → Around → Option ℕ → Option ℕ → Type 0
+InsideGives (Ok b) m cs a old new = (b ≡ any4 (map (is_inside m a) cs)) × (values_inside m cs a (running old) ≡ running new)
+InsideGives (Err halt) m cs a old new = Halts halt (values_inside m cs a (running old))

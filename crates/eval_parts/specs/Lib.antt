@@ -6,3 +6,4 @@ pub mod Steps
 pub mod Logs
 pub mod Streams
 pub mod Insides
+pub mod Targets
