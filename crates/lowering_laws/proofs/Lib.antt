@@ -18,3 +18,5 @@ pub mod Naming
 pub mod SignedNumbers
 pub mod AnyRank
 pub mod Indices
+pub mod Slides
+pub mod SlideCalls
