@@ -20,3 +20,4 @@ pub mod AnyRank
 pub mod Indices
 pub mod Slides
 pub mod SlideCalls
+pub mod Inside

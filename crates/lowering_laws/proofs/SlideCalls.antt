@@ -1,10 +1,9 @@
 -- A part-select by an index is a call of a helper.
-use Rattle.std.proofs.Common.{◌≡◌, ℕ, zero, suc, Bool, true, false, cond, ℤ, pos, ◌+ℤ◌, length, replicate, List, [], ◌∷◌, Option, Some, None, refl, sym, ◌∙◌, subst, ap}
+use Rattle.std.proofs.Common.{◌≡◌, ℕ, Bool, false, cond, ℤ, pos, ◌+ℤ◌, List, [], ◌∷◌, Option, Some, None, sym, ◌∙◌, ap}
 use Rattle.b4_core.specs.declared.bit.Bit4.{Bit4}
-use Rattle.b4_core.specs.declared.bit.Bit4.TheVariants.{X}
 use Rattle.b4_core.specs.Vectors.{known, snum, ext}
 use Rattle.row_machine.specs.Valuation.{Valuation}
-use Rattle.picks.specs.Windows.{Window, whole, nowhere, part, picked, bit_at, seen, tabulated}
+use Rattle.picks.specs.Windows.{whole, nowhere, part, bit_at, seen}
 use Rattle.sv_types.specs.Surroundings.{Around}
 use Rattle.sv_types.specs.Meanings as S
 use Rattle.sv_types.proofs.Picks.{tabulated-same, length-tabulated, nothing-there}
@@ -42,12 +41,13 @@ two-arguments : (helper : Name) (m k : T.Meaning) (n w d : ℕ) (x o : List Bit4
     → T.given m w sc v ≡ x → T.given k d sc v ≡ o → ((T.call helper (m ∷ k ∷ [])).width sc ≡ n) × (T.alone (T.call helper (m ∷ k ∷ [])) sc v ≡ from_offset n w x o)
 unfolding T.call
 two-arguments helper m k n w d x o sc v helps first second =
-    let f = sc.callee helper in
-    (helps.width,
-    ap (λ is. ext f.width false (f.run v (T.arguments is (m ∷ k ∷ []) sc v))) helps.inputs
-    ∙ (λ i. ext f.width false (f.run v (first i ∷ second i ∷ [])))
-    ∙ ap (ext f.width false) (helps.run v x o)
-    ∙ ext-at f.width false (from_offset n w x o) (length-tabulated n _ ∙ sym helps.width))
+    let f = sc.callee helper in (
+      helps.width,
+      ap (λ is. ext f.width false (f.run v (T.arguments is (m ∷ k ∷ []) sc v))) helps.inputs
+          ∙ (λ i. ext f.width false (f.run v (first i ∷ second i ∷ [])))
+          ∙ ap (ext f.width false) (helps.run v x o)
+          ∙ ext-at f.width false (from_offset n w x o) (length-tabulated n _ ∙ sym helps.width),
+    )
 
 -- so a part-select of four-state bits is a call with the whole and the offset
 pub slide-same : (e from : S.Meaning) (a : Around) (context : ℕ) (s : Bool) (helper : Name) (m k : T.Meaning) (d : ℕ) (o : List Bit4) (sc : Scope) (v : Valuation)

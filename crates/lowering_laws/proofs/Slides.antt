@@ -1,11 +1,11 @@
 -- Part-selects by an index: what is out of range is x.
-use Rattle.std.proofs.Common.{◌≡◌, ℕ, zero, suc, ◌+◌, ◌-◌, ◌*◌, ◌<◌, ◌≤◌, max, min, Bool, true, false, ◌&&◌, cond, ℤ, pos, negsuc, ◌+ℤ◌, ◌-ℤ◌, ◌*ℤ◌, length, List, [], ◌∷◌, Option, Some, None, refl, arith, sym, ◌∙◌, subst, ap, true≢false}
+use Rattle.std.proofs.Common.{◌≡◌, ℕ, zero, suc, ◌<◌, ◌≤◌, max, min, Bool, true, false, ◌&&◌, cond, ℤ, pos, negsuc, ◌+ℤ◌, ◌-ℤ◌, List, Some, None, refl, arith, sym, ◌∙◌, ap}
 use Rattle.std.specs.Prelude.{slice_index_or, int_le, int_lt, nat_le, nat_lt}
 use Rattle.std.proofs.lemmas.Int.{ints}
 use Rattle.std.proofs.lemmas.Bool.Decides.{nat_tests}
 use Rattle.b4_core.specs.declared.bit.Bit4.{Bit4}
 use Rattle.b4_core.specs.declared.bit.Bit4.TheVariants.{X}
-use Rattle.picks.specs.Windows.{Window, whole, nowhere, part, within, picked, bit_at, seen, tabulated, at_least_0}
+use Rattle.picks.specs.Windows.{Window, whole, part, within, picked, bit_at, seen, tabulated, at_least_0}
 use Rattle.sv_types.proofs.Picks.{pick, range-same, picked-trimmed, tabulated-same}
 use Rattle.lowering_laws.proofs.WriteAt.{IsTight}
 

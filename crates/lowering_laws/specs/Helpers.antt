@@ -1,7 +1,9 @@
 -- What functions of the target text have to give for what lowering calls them for.
-use Rattle.std.specs.Prelude.{◌≡◌, ℕ, Bool, cond, List, [], ◌∷◌, length, map, Option, Some, None}
+use Rattle.std.specs.Prelude.{◌≡◌, ℕ, Bool, cond, List, [], ◌∷◌, length, map, Some, None}
 use Rattle.b4_core.specs.declared.bit.Bit4.{Bit4}
+use Rattle.b4_core.specs.declared.operators.EqOp.TheVariants.{Wild}
 use Rattle.b4_core.specs.Vectors.{known, snum}
+use Rattle.b4_core.specs.Compare.{equality}
 use Rattle.row_machine.specs.Valuation.{Valuation}
 use Rattle.picks.specs.Windows.{whole, nowhere, part, seen}
 use Rattle.sv_types.specs.Layouts.{stored}
@@ -24,6 +26,12 @@ pub record Slices (n w k : ℕ) (f : T.Callee) : Type 0 where
   pub width : f.width ≡ n
   pub inputs : f.inputs ≡ w ∷ k ∷ []
   pub run : (v : Valuation) (x o : List Bit4) → f.run v (x ∷ o ∷ []) ≡ from_offset n w x o
+
+-- a helper that compares two vectors of w bits by ==?
+pub record Matches (w : ℕ) (f : T.Callee) : Type 0 where
+  pub width : f.width ≡ 1
+  pub inputs : f.inputs ≡ w ∷ w ∷ []
+  pub run : (v : Valuation) (x y : List Bit4) → f.run v (x ∷ y ∷ []) ≡ equality Wild x y ∷ []
 
 -- the widths of formals
 abbrev pub widths : List Parameter → List ℕ
