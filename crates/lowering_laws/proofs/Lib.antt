@@ -18,3 +18,6 @@ pub mod Naming
 pub mod SignedNumbers
 pub mod AnyRank
 pub mod Indices
+pub mod Slides
+pub mod SlideCalls
+pub mod Inside

@@ -131,7 +131,7 @@ either-same of at l r w s a m n sc v fits h g = bit-same of at _ (S.by_itself l 
 abbrev pub SameCompared : S.Meaning → S.Meaning → S.Meaning → Around → T.Meaning → Scope → Valuation → Type 0
 SameCompared l r e a m sc v = Same e (O.both_wide l r) (O.both_signed l r) a m sc v
 
-compared-value : (l r e : S.Meaning) (a : Around) (m n k : T.Meaning) (sc : Scope) (v : Valuation)
+pub compared-value : (l r e : S.Meaning) (a : Around) (m n k : T.Meaning) (sc : Scope) (v : Valuation)
     → SameCompared l r l a m sc v → SameCompared l r r a n sc v → SameCompared l r e a k sc v
     → k.value (T.larger m n sc) (m.signed && n.signed) sc v ≡ e.value (O.both_wide l r) (O.both_signed l r) a
 compared-value l r e a m n k sc v h g f =
