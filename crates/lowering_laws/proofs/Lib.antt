@@ -21,3 +21,4 @@ pub mod Indices
 pub mod Slides
 pub mod SlideCalls
 pub mod Inside
+pub mod Runs

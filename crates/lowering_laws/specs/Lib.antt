@@ -3,3 +3,4 @@ pub mod Helpers
 pub mod Images
 pub mod Placed
 pub mod NamedImages
+pub mod Agreeing
