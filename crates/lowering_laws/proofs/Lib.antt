@@ -22,3 +22,4 @@ pub mod Slides
 pub mod SlideCalls
 pub mod Inside
 pub mod Runs
+pub mod Assignments
