@@ -23,3 +23,4 @@ pub mod SlideCalls
 pub mod Inside
 pub mod Runs
 pub mod Assignments
+pub mod Cases
