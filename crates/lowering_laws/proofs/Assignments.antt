@@ -1,21 +1,19 @@
 -- An assignment through a select path is one to its image, under the path's guard.
-use Rattle.std.proofs.Common.{◌≡◌, ℕ, ◌+◌, ◌<◌, ◌≤◌, ◌==◌, max, Bool, true, false, ◌&&◌, ◌||◌, ◌-◌, cond, ℤ, pos, ◌-ℤ◌, length, take, drop, List, [], ◌∷◌, Option, Some, None, refl, arith, sym, ◌∙◌, subst, ap, true≢false}
+use Rattle.std.proofs.Common.{◌≡◌, ℕ, ◌==◌, Bool, true, false, ◌&&◌, ◌||◌, ◌-◌, cond, pos, ◌-ℤ◌, length, take, drop, List, [], ◌∷◌, Option, Some, None, refl, arith, sym, ◌∙◌, subst, ap}
 use Rattle.std.specs.Prelude.{slice_index_or}
 use Rattle.std.proofs.lemmas.Bool.Decides.{nat_tests}
 use Rattle.b4_core.specs.declared.bit.Bit4.{Bit4}
 use Rattle.b4_core.specs.declared.bit.Bit4.TheVariants.{X}
-use Rattle.b4_core.specs.Bits.{is_one}
 use Rattle.row_machine.specs.Valuation.{Place, Valuation, Changes, put}
-use Rattle.row_machine.specs.Steps.{then_changes, later_or, unchanged}
+use Rattle.row_machine.specs.Steps.{then_changes, later_or}
 use Rattle.picks.specs.Windows.{Window, within, written, at_least_0}
 use Rattle.sv_types.specs.Layouts.{stored}
-use Rattle.sv_types.specs.declared.statement.Outcome.TheVariants.{Normal}
 use Rattle.sv_types.specs.Surroundings.{Around}
 use Rattle.sv_types.specs.Meanings as M
 use Rattle.sv_types.specs.Operators.{puts_all, width_of_all}
 use Rattle.sv_types.specs.Runs as S
 use Rattle.v_tree.specs.Names.{Name}
-use Rattle.v_meaning.specs.Scopes.{Scope, Named, named}
+use Rattle.v_meaning.specs.Scopes.{Scope, named}
 use Rattle.v_meaning.specs.Values as V
 use Rattle.v_meaning.specs.Statements as D
 use Rattle.v_meaning.specs.Runs as T

@@ -1,8 +1,7 @@
 -- A `case` of the target takes the item that the source's takes.
-use Rattle.std.proofs.Common.{◌≡◌, ℕ, ◌≤◌, max, Bool, true, false, ◌&&◌, ◌||◌, not, flat_map, length, zip, List, [], ◌∷◌, ◌++◌, Option, Some, None, refl, arith, sym, ◌∙◌, subst, ap}
-use Rattle.std.specs.List.{list_any, list_all}
+use Rattle.std.proofs.Common.{◌≡◌, ℕ, ◌≤◌, Bool, true, false, ◌&&◌, ◌||◌, flat_map, List, [], ◌∷◌, ◌++◌, Option, Some, None, refl, arith, sym, ◌∙◌, subst, ap}
+use Rattle.std.specs.List.{list_any}
 use Rattle.b4_core.specs.declared.bit.Bit4.{Bit4}
-use Rattle.b4_core.specs.declared.bit.Bit4.TheVariants.{Zero, One, X, Z}
 use Rattle.row_machine.specs.Valuation.{Valuation, put}
 use Rattle.sv_types.specs.declared.statement.CaseKind.{CaseKind}
 use Rattle.sv_types.specs.declared.statement.CaseKind.TheVariants as C
@@ -15,9 +14,8 @@ use Rattle.v_meaning.specs.Scopes.{Scope}
 use Rattle.v_meaning.specs.Values as V
 use Rattle.v_meaning.specs.Statements as D
 use Rattle.v_meaning.specs.Runs as T
-use Rattle.lowering_laws.specs.Same.{Same}
 use Rattle.lowering_laws.specs.Agreeing.{Images, Agree, SameState, Stands, SameRun}
-use Rattle.lowering_laws.proofs.Runs.{idle-same, current-agrees}
+use Rattle.lowering_laws.proofs.Runs.{current-agrees}
 
 -- the same kind of `case`
 abbrev pub kind_of : CaseKind → VCaseKind
@@ -192,8 +190,8 @@ case-same im a sc kind on m is other ks stands h now v st u agree same =
     let x = on.value w s (record a { now = put st.written now }) in
     let value = (stands (put st.written now) (T.current v u) here).value in
     let selector : T.selector (kind_of kind) m (D.item_values ks) sc (T.current v u) ≡ record { kind = kind_of kind; width = w; signed = s; value = x } =
-        (λ i. record { kind = kind_of kind; width = width i; signed = sign i; value = m.value (width i) (sign i) sc (T.current v u) })
-        ∙ ap (λ (b : List Bit4). record { kind = kind_of kind; width = w; signed = s; value = b }) value in
+    (λ i. record { kind = kind_of kind; width = width i; signed = sign i; value = m.value (width i) (sign i) sc (T.current v u) })
+    ∙ ap (λ (b : List Bit4). record { kind = kind_of kind; width = w; signed = s; value = b }) value in
     subst (SameState im (S.select kind on values is other (record a { now = now }) st)) (sym (cases-run (kind_of kind) m ks sc v u))
     (subst (λ (f : T.Selector). SameState im (S.select kind on values is other (record a { now = now }) st) (T.first_match f (D.item_runs ks) (D.otherwise ks).run sc v u)) (sym selector)
     (items-same im a sc kind w s x is other ks h now v st u agree same))

@@ -1,11 +1,8 @@
 -- Statements of the target do what those of the source do.
-use Rattle.std.proofs.Common.{◌≡◌, ℕ, ◌<◌, ◌≤◌, ◌==◌, max, Bool, true, false, ◌&&◌, cond, length, take, drop, List, [], ◌∷◌, Option, Some, None, refl, arith, sym, ◌∙◌, subst, ap, true≢false}
-use Rattle.std.proofs.lemmas.Bool.Decides.{nat_tests}
-use Rattle.b4_core.specs.declared.bit.Bit4.{Bit4}
+use Rattle.std.proofs.Common.{◌≡◌, Bool, true, false, List, [], ◌∷◌, refl, sym, ◌∙◌, subst, ap}
 use Rattle.b4_core.specs.Bits.{is_one}
 use Rattle.row_machine.specs.Valuation.{Valuation, Changes, put, changed}
 use Rattle.row_machine.specs.Steps.{then_changes, later_or, unchanged}
-use Rattle.picks.specs.Windows.{Window, within, written, at_least_0}
 use Rattle.sv_types.specs.declared.statement.Outcome.{Outcome}
 use Rattle.sv_types.specs.declared.statement.Outcome.TheVariants.{Normal}
 use Rattle.sv_types.specs.Surroundings.{Around}
@@ -15,8 +12,7 @@ use Rattle.v_meaning.specs.Scopes.{Scope}
 use Rattle.v_meaning.specs.Values as V
 use Rattle.v_meaning.specs.Statements as D
 use Rattle.v_meaning.specs.Runs as T
-use Rattle.lowering_laws.specs.Same.{Same, SameAlone}
-use Rattle.lowering_laws.specs.Agreeing.{Images, AreDistinct, Agree, SameChanges, SameState, Stands, SameRun, SameRuns}
+use Rattle.lowering_laws.specs.Agreeing.{Images, Agree, SameChanges, SameState, Stands, SameRun, SameRuns}
 use Rattle.lowering_laws.proofs.Operators.{truth-same}
 
 module _ (im : Images) where
