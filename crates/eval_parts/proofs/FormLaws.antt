@@ -1,5 +1,5 @@
 -- What each form gives, from what its last operand answered.
-use Rattle.std.proofs.Common.{◌≡◌, ℕ, ◌<◌, ◌≤◌, Bool, false, cond, length, List, [], ◌∷◌, map, Option, Result, Ok, Err, IfOk, refl, arith, ap, sym, ◌∙◌, subst}
+use Rattle.std.proofs.Common.{◌≡◌, ℕ, ◌<◌, ◌≤◌, Bool, false, cond, length, List, [], ◌∷◌, map, Option, Result, Ok, Err, IfOk, arith, sym, ◌∙◌, subst}
 use Rattle.std.specs.Prelude.{Vec}
 use Rattle.std.specs.Global.{Global}
 use Rattle.b4_core.specs.declared.bit.Bit4.{Bit4}
@@ -13,7 +13,7 @@ use Rattle.b4_core.specs.Bits.{and4, or4, not4}
 use Rattle.b4_core.specs.Bitwise.{truth_of}
 use Rattle.b4_core.specs.Vectors.{ext}
 use Rattle.b4_core.specs.Unary.{unary_value, UnaryFitsWord}
-use Rattle.b4_core.specs.Binary.{binary_value, BinaryFitsWord}
+use Rattle.b4_core.specs.Binary.{binary_value}
 use Rattle.b4_core.specs.Shift.{shift_value}
 use Rattle.b4_core.specs.Power.{power_value}
 use Rattle.b4_core.specs.Reduce.{reduction}
@@ -22,14 +22,14 @@ use Rattle.sv_types.specs.declared.expression.Expr.{Expr}
 use Rattle.sv_types.specs.declared.expression.Form.TheVariants as V
 use Rattle.sv_types.specs.Layouts.{layout, width_of, stored, stacked, repeated}
 use Rattle.sv_types.specs.Surroundings.{Around, Parameter}
-use Rattle.sv_types.specs.Meanings.{Meaning, wide, signed, by_itself, values_all}
+use Rattle.sv_types.specs.Meanings.{Meaning, wide, signed}
 use Rattle.sv_types.specs.Operators as O
 use Rattle.sv_types.specs.Operators.{parts_of}
 use Rattle.sv_types.specs.Expressions.{meaning}
 use Rattle.eval_parts.specs.declared.halt.Halt.{Halt}
 use Rattle.eval_parts.specs.declared.halt.Halt.TheVariants as H
 use Rattle.eval_parts.specs.Surroundings.{running}
-use Rattle.eval_parts.specs.Answers.{Gives, Halts, AllGive, AllAssigned, CallGives, Makes, Follows, FollowsAll, assigned, values_assigned}
+use Rattle.eval_parts.specs.Answers.{Gives, AllGive, AllAssigned, CallGives, Follows, FollowsAll, assigned, values_assigned}
 use Rattle.eval_parts.specs.Limits.{Fits}
 use Rattle.eval_parts.specs.Targets.{marks_of_parts, marks_of_formals}
 use Rattle.eval_parts.proofs.Steps as S

@@ -1,26 +1,24 @@
 -- What a step of a select path finds, from what its last part answered.
-use Rattle.std.proofs.Common.{◌≡◌, ℕ, ◌≤◌, Bool, ℤ, List, length, Option, Some, None, cond, Result, Ok, Err, IfOk, refl, ap, sym, ◌∙◌, subst}
+use Rattle.std.proofs.Common.{◌≡◌, ℕ, Bool, ℤ, List, Option, Some, None, cond, Result, Ok, Err, IfOk, refl, ap, sym, ◌∙◌, subst}
 use Rattle.std.specs.Prelude.{slice_get}
 use Rattle.b4_core.specs.declared.bit.Bit4.{Bit4}
 use Rattle.b4_core.specs.Vectors.{known, number}
 use Rattle.sv_types.specs.declared.expression.Expr.{Expr}
 use Rattle.sv_types.specs.declared.expression.Form.TheVariants as V
-use Rattle.sv_types.specs.Layouts.{Layout, layout, width_of}
+use Rattle.sv_types.specs.Layouts.{Layout, layout}
 use Rattle.sv_types.specs.Windows as W
 use Rattle.sv_types.specs.Windows.{member_of, element_of, between, slide, whole}
 use Rattle.sv_types.specs.Surroundings.{Around}
-use Rattle.sv_types.specs.Meanings.{Meaning, wide, signed, alone}
-use Rattle.sv_types.specs.Paths as P
+use Rattle.sv_types.specs.Meanings.{Meaning, wide, signed}
 use Rattle.sv_types.specs.Expressions.{meaning}
 use Rattle.sv_types.proofs.Heads.{heads}
 use Rattle.eval_parts.specs.declared.halt.Halt.{Halt}
 use Rattle.eval_parts.specs.declared.paths.Found.{Found}
 use Rattle.eval_parts.specs.Answers.{Gives}
 use Rattle.eval_parts.specs.Places.{FindGives, IsNear, window_of}
-use Rattle.eval_parts.specs.PathForms.{Moves, StepsOn, StepsBy, Stands, StandsOn}
+use Rattle.eval_parts.specs.PathForms.{StepsOn, StepsBy, StandsOn}
 use Rattle.eval_parts.specs.Steps.{IsValued}
 use Rattle.eval_parts.proofs.PathLimits.{index-is}
-use Rattle.eval_parts.proofs.TypeKinds.{wide-is}
 use Rattle.eval_parts.proofs.Selecting as S
 
 abbrev Finding : Type 0
