@@ -21,3 +21,5 @@ pub mod Narrower
 pub mod Insides
 pub mod PathLimits
 pub mod Elements
+pub mod FormLaws
+pub mod PathLaws

@@ -7,3 +7,4 @@ pub mod Logs
 pub mod Streams
 pub mod Insides
 pub mod Targets
+pub mod PathForms
