@@ -2,6 +2,8 @@
 #![tactic(auto)]
 
 mod parse;
+mod spot;
 mod walk;
 
 pub use parse::{NESTING_LIMIT, parse_text, parse_tokens};
+pub use spot::{Place, Spot, find_spot};

@@ -1,3 +1,3 @@
-pub mod Expressions
-pub mod Statements
-pub mod Items
+pub mod KeptExpressions
+pub mod KeptStatements
+pub mod KeptItems

@@ -1,4 +1,5 @@
 //! What the rows of expressions mean by what their parts mean (IEEE 1364-2005 A.8.3, A.8.4).
+#![tactic(auto, using(crate::proofs::KeptExpressions::kept))]
 
 ghost use Rattle.std.specs.Prelude.{◌≡◌, IfOk};
 ghost use Rattle.v_tree.specs.Meaning as means;

@@ -1,4 +1,5 @@
 //! What the rows of texts, modules and items mean by what their parts mean (IEEE 1364-2005 A.1, A.2, A.4).
+#![tactic(auto, using(crate::proofs::KeptItems::kept))]
 
 ghost use Rattle.std.specs.Prelude.{◌≡◌, IfOk};
 ghost use Rattle.v_tree.specs.Meaning as means;

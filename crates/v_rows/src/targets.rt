@@ -1,4 +1,5 @@
 //! What the rows of targets and selects mean by what their parts mean (IEEE 1364-2005 A.8.5, A.8.3).
+#![tactic(auto, using(crate::proofs::KeptExpressions::kept))]
 
 ghost use Rattle.std.specs.Prelude.{◌≡◌, ℕ, IfOk};
 ghost use Rattle.v_tree.specs.Meaning as means;
