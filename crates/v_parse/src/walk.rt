@@ -60,7 +60,11 @@ fn started(alloc: Global, row: u16, left: Kids) -> Open
 fn closed(alloc: Global, open: Open) -> Result<VPart, AllocError>
     ensures { IfOk result (λ part. part ≡ meaning_of open.row (reverse open.parts)) }
 {
-    let Open { row, left: _, parts } = open;
+    let Open {
+        row,
+        left: _left,
+        parts,
+    } = open;
     let parts = turned(alloc, parts)?;
     node_part(alloc, row, parts)
 }

@@ -11,7 +11,5 @@ pub use expressions::{
 pub use items::{
     Connection, Connections, Edge, Event, Initial, Input, Item, Module, Ports, Range, RegRest,
 };
-pub use statements::{
-    Branch, CaseItem, CaseItems, CaseKind, Else, Label, Later, Local, Stmt,
-};
+pub use statements::{Branch, CaseItem, CaseItems, CaseKind, Else, Label, Later, Local, Stmt};
 pub use tokens::{Decimal, Name, Number, Something};

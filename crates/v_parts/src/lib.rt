@@ -6,4 +6,4 @@ pub mod kinds;
 mod taking;
 
 pub use kind::Kind;
-pub use taking::{all, first, same, split};
+pub use taking::{all, first, same, split, turned};

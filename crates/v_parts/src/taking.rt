@@ -56,10 +56,7 @@ pub fn all<K: Kind>(alloc: Global, parts: VParts) -> Result<Items<K::Value>, All
 }
 
 /// What the parts of the kind say, and the others, both in order, or want of memory.
-pub fn split<K: Kind>(
-    alloc: Global,
-    parts: VParts,
-) -> Result<(Items<K::Value>, VParts), AllocError>
+pub fn split<K: Kind>(alloc: Global, parts: VParts) -> Result<(Items<K::Value>, VParts), AllocError>
     ensures { IfOk result (λ found. (found.0 ≡ all_of K.value parts) × (found.1 ≡ others K.value parts)) }
 {
     let mut parts = turned(alloc, parts)?;

@@ -10,21 +10,21 @@ use v_parts::same;
 use v_tree::{VBinaryOp, VBranch, VCaseKind, VPart, VParts, VSensitivity, VUnaryOp};
 
 /// A row of texts and modules.
-#[tactic(auto, unfolding(crate::specs::Rows::meaning_of))]
+#[tactic(auto, using(crate::proofs::Meanings::texts))]
 fn text_row(alloc: Global, row: u16, parts: VParts) -> Result<VPart, AllocError>
     requires to { row < 4 }
     ensures { IfOk result (λ part. part ≡ meaning_of row parts) }
 {
     match row {
-        numbers::TEXT => items::text(alloc, parts),
-        numbers::MODULE => items::module(alloc, parts),
-        numbers::PORTS => items::ports(alloc, parts),
+        numbers::TEXT => Ok(items::text(alloc, parts)?),
+        numbers::MODULE => Ok(items::module(alloc, parts)?),
+        numbers::PORTS => Ok(items::ports(alloc, parts)?),
         _ => Ok(same(parts)),
     }
 }
 
 /// A row of items.
-#[tactic(auto, unfolding(crate::specs::Rows::meaning_of))]
+#[tactic(auto, using(crate::proofs::Meanings::items))]
 fn item_row(alloc: Global, row: u16, parts: VParts) -> Result<VPart, AllocError>
     requires from { 4 ≤ row }
     requires to { row < 27 }
@@ -38,7 +38,7 @@ fn item_row(alloc: Global, row: u16, parts: VParts) -> Result<VPart, AllocError>
         numbers::INITIAL => Ok(items::initial(parts)),
         numbers::ASSIGN => Ok(items::assign(parts)),
         numbers::ALWAYS => Ok(items::always(parts)),
-        numbers::FUNCTION => items::function(alloc, parts),
+        numbers::FUNCTION => Ok(items::function(alloc, parts)?),
         numbers::INSTANCE => Ok(items::instance(alloc, parts)),
         numbers::OUTPUT_NET => Ok(items::output(parts)),
         numbers::OUTPUT_REG => Ok(items::output_reg(parts)),
@@ -47,7 +47,7 @@ fn item_row(alloc: Global, row: u16, parts: VParts) -> Result<VPart, AllocError>
         numbers::MEMORY_RANGE => Ok(items::memory(parts)),
         numbers::INITIAL_VALUE => Ok(same(parts)),
         numbers::VALUE => Ok(items::value(parts)),
-        numbers::PIECES => items::pieces(alloc, parts),
+        numbers::PIECES => Ok(items::pieces(alloc, parts)?),
         numbers::NEXT_NUMBER => Ok(same(parts)),
         numbers::FUNCTION_INPUT => Ok(items::function_input(parts)),
         numbers::LOCAL => Ok(items::local(parts)),
@@ -58,7 +58,7 @@ fn item_row(alloc: Global, row: u16, parts: VParts) -> Result<VPart, AllocError>
 }
 
 /// A row of events, connections or statements.
-#[tactic(auto, unfolding(crate::specs::Rows::meaning_of))]
+#[tactic(auto, using(crate::proofs::Meanings::statements))]
 fn statement_row(alloc: Global, row: u16, parts: VParts) -> Result<VPart, AllocError>
     requires from { 27 ≤ row }
     requires to { row < 54 }
@@ -66,28 +66,28 @@ fn statement_row(alloc: Global, row: u16, parts: VParts) -> Result<VPart, AllocE
 {
     match row {
         numbers::STAR => Ok(VPart::Event(VSensitivity::Star)),
-        numbers::EDGES => statements::edges(alloc, parts),
+        numbers::EDGES => Ok(statements::edges(alloc, parts)?),
         numbers::NEXT_EDGE => Ok(same(parts)),
         numbers::POSEDGE => Ok(statements::edge(true, parts)),
         numbers::NEGEDGE => Ok(statements::edge(false, parts)),
-        numbers::CONNECTIONS => statements::connections(alloc, parts),
+        numbers::CONNECTIONS => Ok(statements::connections(alloc, parts)?),
         numbers::NEXT_CONNECTION => Ok(same(parts)),
         numbers::CONNECTION => Ok(statements::connection(parts)),
-        numbers::BRANCH => statements::branch(alloc, parts),
+        numbers::BRANCH => Ok(statements::branch(alloc, parts)?),
         numbers::EMPTY_BRANCH => Ok(VPart::Branch(VBranch::Empty)),
-        numbers::BLOCK => statements::block(alloc, parts),
+        numbers::BLOCK => Ok(statements::block(alloc, parts)?),
         numbers::IF => Ok(statements::if_statement(parts)),
         numbers::CASE => Ok(statements::case_statement(parts)),
         numbers::STORE => Ok(statements::store(parts)),
-        numbers::LABEL => statements::label(alloc, parts),
+        numbers::LABEL => Ok(statements::label(alloc, parts)?),
         numbers::ELSE => Ok(statements::else_branch(parts)),
         numbers::PLAIN_CASE => Ok(VPart::CaseKind(VCaseKind::Plain)),
         numbers::CASE_Z => Ok(VPart::CaseKind(VCaseKind::Z)),
         numbers::CASE_X => Ok(VPart::CaseKind(VCaseKind::X)),
-        numbers::CASE_ITEMS => statements::case_items(alloc, parts),
+        numbers::CASE_ITEMS => Ok(statements::case_items(alloc, parts)?),
         numbers::DEFAULT_ALONE => Ok(same(parts)),
-        numbers::DEFAULT_REST => statements::case_items(alloc, parts),
-        numbers::CASE_ITEM => statements::case_item(alloc, parts),
+        numbers::DEFAULT_REST => Ok(statements::case_items(alloc, parts)?),
+        numbers::CASE_ITEM => Ok(statements::case_item(alloc, parts)?),
         numbers::DEFAULT_ITEM => Ok(statements::default_item(parts)),
         numbers::NEXT_EXPRESSION => Ok(same(parts)),
         numbers::BLOCKING => Ok(VPart::Later(false)),
@@ -96,7 +96,7 @@ fn statement_row(alloc: Global, row: u16, parts: VParts) -> Result<VPart, AllocE
 }
 
 /// A row of targets or selects.
-#[tactic(auto, unfolding(crate::specs::Rows::meaning_of))]
+#[tactic(auto, using(crate::proofs::Meanings::targets))]
 fn target_row(alloc: Global, row: u16, parts: VParts) -> Result<VPart, AllocError>
     requires from { 54 ≤ row }
     requires to { row < 63 }
@@ -104,10 +104,10 @@ fn target_row(alloc: Global, row: u16, parts: VParts) -> Result<VPart, AllocErro
 {
     match row {
         numbers::LVALUE => Ok(targets::lvalue(alloc, parts)),
-        numbers::LVALUES => targets::lvalues(alloc, parts),
+        numbers::LVALUES => Ok(targets::lvalues(alloc, parts)?),
         numbers::NEXT_LVALUE => Ok(same(parts)),
-        numbers::SELECTS => targets::selects(alloc, parts),
-        numbers::SELECT => targets::select(alloc, parts),
+        numbers::SELECTS => Ok(targets::selects(alloc, parts)?),
+        numbers::SELECT => Ok(targets::select(alloc, parts)?),
         numbers::NUMBER_BASE => Ok(same(parts)),
         numbers::EXPRESSION_BASE => Ok(same(parts)),
         numbers::DOWN => Ok(targets::down(parts)),
@@ -116,7 +116,7 @@ fn target_row(alloc: Global, row: u16, parts: VParts) -> Result<VPart, AllocErro
 }
 
 /// A row of expressions.
-#[tactic(auto, unfolding(crate::specs::Rows::meaning_of))]
+#[tactic(auto, using(crate::proofs::Meanings::expressions))]
 fn expression_row(alloc: Global, row: u16, parts: VParts) -> Result<VPart, AllocError>
     requires from { 63 ≤ row }
     requires to { row < 78 }
@@ -128,21 +128,21 @@ fn expression_row(alloc: Global, row: u16, parts: VParts) -> Result<VPart, Alloc
         numbers::RIGHT => Ok(expressions::right(parts)),
         numbers::ARMS => Ok(expressions::arms(parts)),
         numbers::NUMBER => Ok(expressions::number(parts)),
-        numbers::PAREN => expressions::paren(alloc, parts),
+        numbers::PAREN => Ok(expressions::paren(alloc, parts)?),
         numbers::NAME => Ok(expressions::name(alloc, parts)),
         numbers::BRACES => Ok(same(parts)),
-        numbers::SIGN => expressions::sign(alloc, parts),
-        numbers::ARGUMENTS => expressions::arguments(alloc, parts),
+        numbers::SIGN => Ok(expressions::sign(alloc, parts)?),
+        numbers::ARGUMENTS => Ok(expressions::arguments(alloc, parts)?),
         numbers::NAME_SELECTS => Ok(same(parts)),
-        numbers::REPEAT => expressions::repeat(alloc, parts),
-        numbers::CONCAT => expressions::concat(alloc, parts),
+        numbers::REPEAT => Ok(expressions::repeat(alloc, parts)?),
+        numbers::CONCAT => Ok(expressions::concat(alloc, parts)?),
         numbers::SIGNED => Ok(VPart::Sign(true)),
         _ => Ok(VPart::Sign(false)),
     }
 }
 
 /// An operator before an operand.
-#[tactic(auto, unfolding(crate::specs::Rows::meaning_of))]
+#[tactic(auto, using(crate::proofs::Meanings::unaries))]
 fn unary_operator(row: u16) -> VPart
     requires from { 78 ≤ row }
     requires to { row < 87 }
@@ -162,7 +162,7 @@ fn unary_operator(row: u16) -> VPart
 }
 
 /// An operator between two operands.
-#[tactic(auto, unfolding(crate::specs::Rows::meaning_of))]
+#[tactic(auto, using(crate::proofs::Meanings::binaries))]
 fn binary_operator(row: u16) -> VPart
     requires from { 87 ≤ row }
     ensures { (parts : List VPart) → result ≡ meaning_of row parts }

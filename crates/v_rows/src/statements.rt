@@ -7,9 +7,7 @@ ghost use Rattle.v_tree.specs.Meaning as means;
 use std::alloc::{AllocError, Global};
 use sv_source::{Boxed, Items};
 use v_parts::{all, first, kinds};
-use v_tree::{
-    VBranch, VCaseItem, VConnection, VEdge, VLabel, VPart, VParts, VSensitivity, VStmt,
-};
+use v_tree::{VBranch, VCaseItem, VConnection, VEdge, VLabel, VPart, VParts, VSensitivity, VStmt};
 
 /// Edges, or want of memory.
 pub fn edges(alloc: Global, parts: VParts) -> Result<VPart, AllocError>

@@ -1,7 +1,10 @@
 //! What stands among the parts of modules and their items.
 
 use crate::kind::Kind;
-use v_tree::{Texts, VConnection, VConnections, VEdge, VInit, VItem, VLocal, VModule, VPart, VRegRest, VSensitivity};
+use v_tree::{
+    Texts, VConnection, VConnections, VEdge, VInit, VItem, VLocal, VModule, VPart, VRegRest,
+    VSensitivity,
+};
 
 /// The names of a port list.
 pub struct Ports;
