@@ -127,11 +127,12 @@ text-symbols bytes =
 placed-length : (at further : ℕ) (text : List ℕ) → length (placed_from at further text) ≤ length text
 placed-length at further [] = omega arith
 placed-length at (suc further) (c ∷ text) = omega (arith, placed-length (suc at) further text)
-placed-length at zero (c ∷ text) = by (T.first_cut c text)
+placed-length at zero (c ∷ text) = by (T.first_cut c text) (λ n. placed-length (suc at) n text)
   where
-    by : (k : T.Cut) → length (elim k [ T.gap further ↦ placed_from (suc at) further text | T.cut token further ↦ record { token = token; at = at; size = suc further } ∷ placed_from (suc at) further text ]) ≤ suc (length text)
-    by (T.gap n) = omega (arith, placed-length (suc at) n text)
-    by (T.cut t n) = omega (arith, placed-length (suc at) n text)
+    by : (k : T.Cut) → ((n : ℕ) → length (placed_from (suc at) n text) ≤ length text)
+        → length {A = Placed} (elim k [ T.gap further ↦ placed_from (suc at) further text | T.cut token further ↦ record { token = token; at = at; size = suc further } ∷ placed_from (suc at) further text ]) ≤ suc (length text)
+    by (T.gap n) h = let e = h n in omega (arith, e)
+    by (T.cut t n) h = let e = h n in omega (arith, e)
 
 pub text-length : (bytes : List ℕ) → length (tokens_of bytes) ≤ length bytes
 text-length bytes = rw (length-map (placed bytes) seen) (placed-length 0 0 bytes)
