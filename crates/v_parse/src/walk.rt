@@ -1,6 +1,7 @@
 //! What a derivation means.
 
-ghost use Rattle.std.specs.Prelude.{◌≡◌, ◌<◌, [], map, IfOk, OnOk, slice_get, reverse};
+ghost use Rattle.std.specs.Prelude.{◌≡◌, ◌<◌, ◌+◌, [], map, IfOk, OnOk, slice_get, reverse};
+ghost use Rattle.ll_engine.specs.declared.tree.Tree.TheVariants.{Node};
 ghost use Rattle.v_rows.specs.Rows.{meaning_of};
 ghost use Rattle.v_parse.specs.Walking.{kept, kept_part, around, with_part, walked, nodes, steps_left, Steps};
 
@@ -57,14 +58,14 @@ fn started(alloc: Global, row: u16, left: Kids) -> Open
 }
 
 /// What a node means whose parts are all read, or want of memory.
-fn closed(alloc: Global, open: Open) -> Result<VPart, AllocError>
-    ensures { IfOk result (λ part. part ≡ meaning_of open.row (reverse open.parts)) }
+fn closed(alloc: Global, node: Open) -> Result<VPart, AllocError>
+    ensures { IfOk result (λ part. part ≡ meaning_of node.row (reverse node.parts)) }
 {
     let Open {
         row,
         left: _left,
         parts,
-    } = open;
+    } = node;
     let parts = turned(alloc, parts)?;
     node_part(alloc, row, parts)
 }
@@ -78,11 +79,13 @@ impl Walk {
         match tree {
             Tree::Leaf(place) => {
                 let part = leaf_part(alloc, tokens, place)?;
-                self.top.parts.push(part)
+                self.top.parts.push(part)?;
+                Ok(())
             }
             Tree::Node { row, kids } => {
                 let outer = mem::replace(&mut self.top, started(alloc, row, kids));
-                self.around.push(outer)
+                self.around.push(outer)?;
+                Ok(())
             }
         }
     }
@@ -118,14 +121,15 @@ impl Walk {
     }
 }
 
-/// What a derivation of these tokens means, or want of memory.
-pub fn tree_part(alloc: Global, tokens: &[VToken], tree: Tree) -> Result<VPart, AllocError>
-    ensures { IfOk result (λ part. part ≡ kept_part tokens.now tree) }
+/// What a node means with these parts, or want of memory.
+fn parts_part(
+    alloc: Global,
+    tokens: &[VToken],
+    row: u16,
+    kids: Kids,
+) -> Result<VPart, AllocError>
+    ensures { IfOk result (λ part. part ≡ kept_part tokens.now (Node row kids)) }
 {
-    let (row, kids) = match tree {
-        Tree::Leaf(place) => return leaf_part(alloc, tokens, place),
-        Tree::Node { row, kids } => (row, kids),
-    };
     let mut walk = Walk {
         top: started(alloc, row, kids),
         around: Items::new(alloc),
@@ -134,5 +138,15 @@ pub fn tree_part(alloc: Global, tokens: &[VToken], tree: Tree) -> Result<VPart, 
         if let Some(part) = walk.step(alloc, tokens)? {
             return Ok(part);
         }
+    }
+}
+
+/// What a derivation of these tokens means, or want of memory.
+pub fn tree_part(alloc: Global, tokens: &[VToken], tree: Tree) -> Result<VPart, AllocError>
+    ensures { IfOk result (λ part. part ≡ kept_part tokens.now tree) }
+{
+    match tree {
+        Tree::Leaf(place) => Ok(leaf_part(alloc, tokens, place)?),
+        Tree::Node { row, kids } => Ok(parts_part(alloc, tokens, row, kids)?),
     }
 }
