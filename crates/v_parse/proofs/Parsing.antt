@@ -1,5 +1,5 @@
 -- The reading of the tokens that are kept is the reading of the text.
-use Rattle.std.proofs.Common.{◌≡◌, ◌≤◌, ◌<◌, ◌^◌, ◌-◌, ◌==◌, ◌&&◌, not, ℕ, zero, suc, Bool, true, false, List, [], ◌∷◌, map, length, Option, Some, None, slice_get, refl, sym, ap, subst, ◌∙◌, arith, eq-eqb, drop, option_map}
+use Rattle.std.proofs.Common.{◌≡◌, ◌≤◌, ◌<◌, ◌^◌, ◌-◌, ◌==◌, ◌&&◌, not, ℕ, zero, suc, Bool, true, false, List, [], ◌∷◌, map, length, Option, Some, None, slice_get, refl, sym, ap, subst, ◌∙◌, arith, eq-eqb, drop, option_map, Result, Ok, Err}
 use Rattle.std.proofs.lemmas.Bool.{false≢true}
 use Rattle.std.proofs.lemmas.List.{length-map}
 use Rattle.std.proofs.lemmas.Option.{slice_get-map, none-some, same_Some}
@@ -10,10 +10,14 @@ use Rattle.ll_engine.specs.declared.table.Part.{Part}
 use Rattle.ll_engine.specs.declared.table.Part.TheVariants.{Non}
 use Rattle.ll_engine.specs.Grammar.{IsRowOf}
 use Rattle.ll_engine.specs.Reading.{Nested, Reads, ended, symbol, taken, left_out, empty}
-use Rattle.ll_engine.specs.Texts.{IsText, IsReading}
+use Rattle.ll_engine.specs.Texts.{IsText, IsReading, FailsAt, PassesAt}
+use Rattle.ll_engine.specs.declared.fails.ParseFail.{ParseFail}
+use Rattle.ll_engine.specs.declared.fails.ParseFail.TheVariants.{Memory, NoText, Deep}
 use Rattle.v_tree.specs.Tokens.{Token, tokens}
 use Rattle.v_tree.specs.Tokens as T
 use Rattle.v_tree.specs.Symbols as Y
+use Rattle.v_tree.specs.Reading.{nesting_limit}
+use Rattle.v_tree.specs.declared.items.VDesign.{VDesign}
 use Rattle.v_tree.specs.Table.{table}
 use Rattle.v_tree.specs.Meaning.{token_part, node_part, part_of}
 use Rattle.v_tree.specs.Parts.{all_of, as_module}
@@ -26,7 +30,7 @@ use Rattle.v_lexer.specs.Seen.{seen, says, tokens_of}
 use Rattle.v_lexer.proofs.Tokens.{placed-tokens}
 use Rattle.v_rows.specs.Rows.{meaning_of}
 use Rattle.v_parse.specs.Walking.{said, kept, kept_step, kept_part}
-use Rattle.v_parse.specs.Parsing.{symbols}
+use Rattle.v_parse.specs.Parsing.{symbols, TokensGive, TextGives}
 use Rattle.v_parse.proofs.Walking.{kept-node}
 
 -- no row but the first is one of the head of texts
@@ -136,3 +140,17 @@ placed-length at zero (c ∷ text) = by (T.first_cut c text) (λ n. placed-lengt
 
 pub text-length : (bytes : List ℕ) → length (tokens_of bytes) ≤ length bytes
 text-length bytes = rw (length-map (placed bytes) seen) (placed-length 0 0 bytes)
+
+of-text : (bytes : List ℕ) (r : Result VDesign ParseFail) → TokensGive (tokens_of bytes) r → TextGives bytes r
+of-text bytes (Ok e) m = record {
+  tree = m.tree;
+  reading = subst (λ s. IsReading table s nesting_limit m.tree) (text-symbols bytes) m.reading;
+  means = sym (text-part bytes m.tree) ∙ m.means;
+}
+of-text bytes (Err Memory) m = tt
+of-text bytes (Err (NoText at)) f = subst (λ s. FailsAt table s nesting_limit at) (text-symbols bytes) f
+of-text bytes (Err (Deep at)) p = subst (λ s. PassesAt table s nesting_limit at) (text-symbols bytes) p
+
+-- what the kept tokens of a text give is what the text gives
+pub text-gives : (bytes : List ℕ) (ts : List VToken) (r : Result VDesign ParseFail) → ts ≡ tokens_of bytes → TokensGive ts r → TextGives bytes r
+text-gives bytes ts r is gives = of-text bytes r (subst (λ x. TokensGive x r) is gives)

@@ -129,3 +129,9 @@ steps-on ts old new left tree left_is means smaller =
     let counted : total (map nodes old.top.left) ≡ total (map nodes left) + nodes tree =
         ap (λ (ls : List Tree). total (map nodes ls)) left_is ∙ total-map-push nodes left tree in
     record { means = means ∙ sym (ap (around ts old.around) one); smaller = omega (arith, smaller, counted) }
+
+-- no part of a node is read yet
+pub begins : (ts : List VToken) (row : ℕ) (kids : List Tree) (top : Open) (fs : List Open) → top ≡ record { row = row; left = kids; parts = [] } → fs ≡ []
+    → walked ts (record { top = top; around = fs }) ≡ kept_part ts (Node row kids)
+begins ts row kids top fs top_is fs_is =
+    ap (λ (gs : List Open). around ts gs (closed ts top)) fs_is ∙ ap (closed ts) top_is ∙ none-read ts row kids

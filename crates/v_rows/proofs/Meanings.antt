@@ -1,12 +1,14 @@
 -- What each row of the target grammar means, by its number.
-use Rattle.std.proofs.Common.{◌≡◌, List, true, false, refl}
+use Rattle.std.proofs.Common.{◌≡◌, ◌≤◌, ℕ, List, true, false, refl, ap}
+use Rattle.std.proofs.lemmas.Option.{slice_get_past}
 use Rattle.v_tree.specs.declared.expressions.VExtent.TheVariants.{Down, Up}
 use Rattle.v_tree.specs.declared.items.VSignal.TheVariants.{Input, Output, Wire}
 use Rattle.v_tree.specs.declared.operators.VBinaryOp.TheVariants as B
 use Rattle.v_tree.specs.declared.operators.VUnaryOp.TheVariants as U
 use Rattle.v_tree.specs.declared.parts.VPart.{VPart}
+use Rattle.v_tree.specs.declared.parts.VPart.TheVariants as P
 use Rattle.v_tree.specs.declared.statements.VCaseKind.TheVariants.{Plain, Z, X}
-use Rattle.v_tree.specs.Meaning.{always_of, arguments_of, arms_of, assign_of, binary_op_of, block_of, branch_of, case_item_of, case_items_of, case_of, concat_of, connection_of, connections_of, default_of, edge_of, edges_of, else_of, empty_of, expression_of, extent_of, function_of, if_of, initial_of, input_of, instance_of, kind_of, label_of, later_of, local_of, lvalue_of, lvalues_of, memory_of, module_of, name_of, number_of, output_reg_of, paren_of, pieces_of, ports_of, range_of, reg_of, reg_value_of, repeat_of, right_of, same, select_of, selects_of, sign_of, signal_of, signed_of, star_of, store_of, text_of, unary_of, unary_op_of, value_of}
+use Rattle.v_tree.specs.Meaning.{row_meanings, by_row, always_of, arguments_of, arms_of, assign_of, binary_op_of, block_of, branch_of, case_item_of, case_items_of, case_of, concat_of, connection_of, connections_of, default_of, edge_of, edges_of, else_of, empty_of, expression_of, extent_of, function_of, if_of, initial_of, input_of, instance_of, kind_of, label_of, later_of, local_of, lvalue_of, lvalues_of, memory_of, module_of, name_of, number_of, output_reg_of, paren_of, pieces_of, ports_of, range_of, reg_of, reg_value_of, repeat_of, right_of, same, select_of, selects_of, sign_of, signal_of, signed_of, star_of, store_of, text_of, unary_of, unary_op_of, value_of}
 use Rattle.v_rows.specs.Rows.{meaning_of}
 
 pub text-row : (ps : List VPart) → meaning_of 0 ps ≡ text_of ps
@@ -466,3 +468,8 @@ unfolding meaning_of
 logical-or-row ps = refl
 
 pub ruleset binaries = (add-row, sub-row, mul-row, div-row, rem-row, power-row, shift-left-row, shift-right-row, arithmetic-left-row, arithmetic-right-row, less-row, less-equal-row, greater-row, greater-equal-row, equal-row, not-equal-row, case-equal-row, case-not-equal-row, and-row, or-row, xor-row, xnor-row, logical-and-row, logical-or-row)
+
+-- a row that the table doesn't have
+pub past-rows : (row : ℕ) (ps : List VPart) → 111 ≤ row → meaning_of row ps ≡ P.Nothing
+unfolding meaning_of
+past-rows row ps past = ap (λ o. by_row o ps) (slice_get_past row_meanings row past)
