@@ -70,19 +70,19 @@ pub leaves : (ts : List VToken) (old : Walk) (fs : List Open) (outer dest inner 
     → Keeps ts (record { top = read dest parts; around = fs }) (walked ts old) (steps_left old)
 leaves ts old fs outer dest inner parts part left_is around_is dest_is inner_is part_is parts_is =
     let one : closed ts (read dest parts) ≡ with_part ts dest part =
-        ap (λ (ps : List VPart). meaning_of dest.row (map (kept_part ts) dest.left ++ reverse ps)) parts_is ∙ read-one ts dest.row dest.left dest.parts part in
+    ap (λ (ps : List VPart). meaning_of dest.row (map (kept_part ts) dest.left ++ reverse ps)) parts_is ∙ read-one ts dest.row dest.left dest.parts part in
     let two : with_part ts dest part ≡ with_part ts outer part = ap (λ (f : Open). with_part ts f part) dest_is in
     let three : part ≡ closed ts old.top =
-        part_is ∙ ap (λ (f : Open). meaning_of f.row (reverse f.parts)) inner_is
-        ∙ sym (ap (λ (ls : List Tree). meaning_of old.top.row (map (kept_part ts) ls ++ reverse old.top.parts)) left_is) in
+    part_is ∙ ap (λ (f : Open). meaning_of f.row (reverse f.parts)) inner_is
+    ∙ sym (ap (λ (ls : List Tree). meaning_of old.top.row (map (kept_part ts) ls ++ reverse old.top.parts)) left_is) in
     let counted : total (map weight old.around) ≡ total (map weight fs) + weight outer =
-        ap (λ (gs : List Open). total (map weight gs)) around_is ∙ total-map-push weight fs outer in
+    ap (λ (gs : List Open). total (map weight gs)) around_is ∙ total-map-push weight fs outer in
     let same : weight dest ≡ weight outer = ap weight dest_is in
     record {
       means =
-        ap (around ts fs) (one ∙ two ∙ ap (with_part ts outer) three)
-        ∙ sym (around-push ts fs outer (closed ts old.top))
-        ∙ sym (ap (λ (gs : List Open). around ts gs (closed ts old.top)) around_is);
+          ap (around ts fs) (one ∙ two ∙ ap (with_part ts outer) three)
+          ∙ sym (around-push ts fs outer (closed ts old.top))
+          ∙ sym (ap (λ (gs : List Open). around ts gs (closed ts old.top)) around_is);
       smaller = omega (arith, counted, same);
     }
 
@@ -92,7 +92,7 @@ pub enters-leaf : (ts : List VToken) (old : Walk) (tree : Tree) (place : ℕ) (p
     → Keeps ts (record { top = read old.top parts; around = old.around }) (around ts old.around (with_part ts old.top (kept_part ts tree))) (steps_left old + nodes tree)
 enters-leaf ts old tree place parts part tree_is part_is parts_is =
     let one : closed ts (read old.top parts) ≡ with_part ts old.top part =
-        ap (λ (ps : List VPart). meaning_of old.top.row (map (kept_part ts) old.top.left ++ reverse ps)) parts_is ∙ read-one ts old.top.row old.top.left old.top.parts part in
+    ap (λ (ps : List VPart). meaning_of old.top.row (map (kept_part ts) old.top.left ++ reverse ps)) parts_is ∙ read-one ts old.top.row old.top.left old.top.parts part in
     let two : part ≡ kept_part ts tree = part_is ∙ sym (kept-leaf ts place) ∙ sym (ap (kept_part ts) tree_is) in
     let some : nodes tree ≡ 1 = ap nodes tree_is ∙ nodes-leaf place in
     record { means = ap (around ts old.around) (one ∙ ap (with_part ts old.top) two); smaller = omega (arith, some) }
@@ -103,18 +103,18 @@ pub enters-node : (ts : List VToken) (old : Walk) (tree : Tree) (row : ℕ) (kid
     → Keeps ts (record { top = top; around = fs }) (around ts old.around (with_part ts old.top (kept_part ts tree))) (steps_left old + nodes tree)
 enters-node ts old tree row kids outer top fs tree_is outer_is top_is fs_is =
     let one : closed ts top ≡ kept_part ts tree =
-        ap (closed ts) top_is ∙ none-read ts row kids ∙ sym (ap (kept_part ts) tree_is) in
+    ap (closed ts) top_is ∙ none-read ts row kids ∙ sym (ap (kept_part ts) tree_is) in
     let two : weight top ≡ suc (total (map nodes kids)) = ap weight top_is in
     let some : nodes tree ≡ suc (suc (total (map nodes kids))) = ap nodes tree_is ∙ nodes-node row kids in
     let counted : total (map weight fs) ≡ total (map weight old.around) + weight outer =
-        ap (λ (gs : List Open). total (map weight gs)) fs_is ∙ total-map-push weight old.around outer in
+    ap (λ (gs : List Open). total (map weight gs)) fs_is ∙ total-map-push weight old.around outer in
     let same : weight outer ≡ weight old.top = ap weight outer_is in
     record {
       means =
-        ap (λ (gs : List Open). around ts gs (closed ts top)) fs_is
-        ∙ around-push ts old.around outer (closed ts top)
-        ∙ ap (λ (f : Open). around ts old.around (with_part ts f (closed ts top))) outer_is
-        ∙ ap (λ (v : VPart). around ts old.around (with_part ts old.top v)) one;
+          ap (λ (gs : List Open). around ts gs (closed ts top)) fs_is
+          ∙ around-push ts old.around outer (closed ts top)
+          ∙ ap (λ (f : Open). around ts old.around (with_part ts f (closed ts top))) outer_is
+          ∙ ap (λ (v : VPart). around ts old.around (with_part ts old.top v)) one;
       smaller = omega (arith, two, some, counted, same);
     }
 
@@ -124,10 +124,10 @@ pub steps-on : (ts : List VToken) (old new : Walk) (left : List Tree) (tree : Tr
     → Keeps ts new (walked ts old) (steps_left old)
 steps-on ts old new left tree left_is means smaller =
     let one : closed ts old.top ≡ with_part ts (left_with old left).top (kept_part ts tree) =
-        ap (λ (ls : List Tree). meaning_of old.top.row (map (kept_part ts) ls ++ reverse old.top.parts)) left_is
-        ∙ next-one ts old.top.row left tree (reverse old.top.parts) in
+    ap (λ (ls : List Tree). meaning_of old.top.row (map (kept_part ts) ls ++ reverse old.top.parts)) left_is
+    ∙ next-one ts old.top.row left tree (reverse old.top.parts) in
     let counted : total (map nodes old.top.left) ≡ total (map nodes left) + nodes tree =
-        ap (λ (ls : List Tree). total (map nodes ls)) left_is ∙ total-map-push nodes left tree in
+    ap (λ (ls : List Tree). total (map nodes ls)) left_is ∙ total-map-push nodes left tree in
     record { means = means ∙ sym (ap (around ts old.around) one); smaller = omega (arith, smaller, counted) }
 
 -- no part of a node is read yet

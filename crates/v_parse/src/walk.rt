@@ -122,12 +122,7 @@ impl Walk {
 }
 
 /// What a node means with these parts, or want of memory.
-fn parts_part(
-    alloc: Global,
-    tokens: &[VToken],
-    row: u16,
-    kids: Kids,
-) -> Result<VPart, AllocError>
+fn parts_part(alloc: Global, tokens: &[VToken], row: u16, kids: Kids) -> Result<VPart, AllocError>
     ensures { IfOk result (λ part. part ≡ kept_part tokens.now (Node row kids)) }
 {
     let mut walk = Walk {

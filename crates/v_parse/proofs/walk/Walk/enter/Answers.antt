@@ -13,9 +13,9 @@ returns-in_ok-push-in-Leaf-clause-smaller c =
 pub returns-in_ok-push-in-Node-clause-means : goal.returns-in_ok-push-in-Node-clause-means
 returns-in_ok-push-in-Node-clause-means c =
     (enters-node c.args.tokens.now c.args.self.now c.args.tree c.in-Node.row c.in-Node.kids c.replace-outer.result c.replace-outer.new.dest c.push-in-Node.new.self
-        c.in-Node.is c.replace-outer.ensures.value (c.replace-outer.ensures.after ∙ c.started.ensures) c.in_ok-push-in-Node.ensures.ok).means
+    c.in-Node.is c.replace-outer.ensures.value (c.replace-outer.ensures.after ∙ c.started.ensures) c.in_ok-push-in-Node.ensures.ok).means
 
 pub returns-in_ok-push-in-Node-clause-smaller : goal.returns-in_ok-push-in-Node-clause-smaller
 returns-in_ok-push-in-Node-clause-smaller c =
     (enters-node c.args.tokens.now c.args.self.now c.args.tree c.in-Node.row c.in-Node.kids c.replace-outer.result c.replace-outer.new.dest c.push-in-Node.new.self
-        c.in-Node.is c.replace-outer.ensures.value (c.replace-outer.ensures.after ∙ c.started.ensures) c.in_ok-push-in-Node.ensures.ok).smaller
+    c.in-Node.is c.replace-outer.ensures.value (c.replace-outer.ensures.after ∙ c.started.ensures) c.in_ok-push-in-Node.ensures.ok).smaller
