@@ -38,3 +38,12 @@ TextGives bytes (Ok e) = Spells bytes e
 TextGives bytes (Err Memory) = Unit {0}
 TextGives bytes (Err (NoText at)) = FailsAt table (map symbol (tokens bytes)) nesting_limit at
 TextGives bytes (Err (Deep at)) = PassesAt table (map symbol (tokens bytes)) nesting_limit at
+
+-- A text spells one design at most, or has one failing token, or one at which nesting first passes the limit; and no two of these.
+pub record OneReading (bytes : List ℕ) : Type 0 where
+  pub design : (e f : VDesign) → Spells bytes e → Spells bytes f → e ≡ f
+  pub fails : (i j : ℕ) → FailsAt table (map symbol (tokens bytes)) nesting_limit i → FailsAt table (map symbol (tokens bytes)) nesting_limit j → i ≡ j
+  pub nests : (i j : ℕ) → PassesAt table (map symbol (tokens bytes)) nesting_limit i → PassesAt table (map symbol (tokens bytes)) nesting_limit j → i ≡ j
+  pub spells_or_fails : (e : VDesign) (i : ℕ) → Spells bytes e → FailsAt table (map symbol (tokens bytes)) nesting_limit i → ⊥
+  pub spells_or_nests : (e : VDesign) (i : ℕ) → Spells bytes e → PassesAt table (map symbol (tokens bytes)) nesting_limit i → ⊥
+  pub fails_or_nests : (i j : ℕ) → FailsAt table (map symbol (tokens bytes)) nesting_limit i → PassesAt table (map symbol (tokens bytes)) nesting_limit j → ⊥

@@ -6,7 +6,7 @@ ghost use Rattle.v_tree.specs.Table.{table};
 ghost use Rattle.v_tree.specs.Reading.{nesting_limit};
 ghost use Rattle.v_tree.specs.declared.parts.VPart.TheVariants as P;
 ghost use Rattle.v_parse.specs.Walking.{kept_part};
-ghost use Rattle.v_parse.specs.Parsing.{symbols, TokensGive, TextGives};
+ghost use Rattle.v_parse.specs.Parsing.{symbols, TokensGive, TextGives, OneReading};
 
 use crate::walk::tree_part;
 use ll_engine::{ParseFail, Tree};
@@ -69,4 +69,13 @@ pub fn parse_text(alloc: Global, bytes: &[u8]) -> Result<VDesign, ParseFail>
 {
     let tokens = lex(alloc, bytes)?;
     parse_tokens(alloc, tokens.as_slice())
+}
+
+/// The law that a text spells one design at most, or has one failing token, or one token at which nesting first passes the
+/// limit, and no two of these.
+#[tactic(auto, using(crate::proofs::OneReading::one_reading))]
+pub fn has_one_reading(bytes: &[u8])
+    ensures { OneReading bytes.now }
+{
+    let _bytes = bytes;
 }
