@@ -21,6 +21,7 @@ use Rattle.name_events.specs.declared.events.ScopeKind.TheVariants as S
 use Rattle.name_events.specs.declared.events.SelectPath.{SelectPath}
 use Rattle.name_events.specs.declared.events.SelectPath.TheVariants as T
 use Rattle.name_events.specs.Items.{events_of}
+use Rattle.package_scope.specs.declared.breaks.Break.{Break}
 use Rattle.package_scope.specs.declared.table.DeclKind.{DeclKind}
 use Rattle.package_scope.specs.declared.table.DeclKind.TheVariants as K
 use Rattle.package_scope.specs.declared.table.Declaration.{Declaration}
@@ -34,11 +35,7 @@ use Rattle.package_scope.specs.declared.table.WildcardImport.{WildcardImport}
 use Rattle.package_scope.specs.Tables.{word, outer, table_of}
 use Rattle.package_scope.specs.Lookup.{own, in_scope_of, found, is_named, package_found, package_scope, means}
 
--- A break: its token and its rule. Of two the one with the lesser token counts, at one token the one with the lesser rule.
-pub record Break : Type 0 where
-  pub at : ℕ
-  pub rule : ℕ
-
+-- Of two breaks the one with the lesser token counts, at one token the one with the lesser rule.
 abbrev pub breaks_at : ℕ → ℕ → List Break
 breaks_at rule at = record { at = at; rule = rule } ∷ []
 
@@ -249,12 +246,15 @@ abbrev pub names_signal : List Token → Table → Use → Declaration → Bool
 names_signal ts t u d = is_some (routine_around t u.scope) && (is_signal ts t d.how || is_interface_holder ts t d.how)
 
 -- the breaks of a use by what it finds
+abbrev pub fit_breaks : List Token → Table → Use → Declaration → List Break
+fit_breaks ts t u d = breaks_if (not (fits_role u.role ts t u d)) 404 u.at ++ breaks_if (names_signal ts t u d) 610 u.at
+
 abbrev pub found_breaks : List Token → Table → Use → Found → List Break
 found_breaks ts t u Absent = breaks_at 401 u.at
 found_breaks ts t u Twice = breaks_at 403 u.at
 found_breaks ts t u (Decl n) = elim (slice_get t.declared n) [
   | None ↦ []
-  | Some d ↦ breaks_if (not (fits_role u.role ts t u d)) 404 u.at ++ breaks_if (names_signal ts t u d) 610 u.at
+  | Some d ↦ fit_breaks ts t u d
 ]
 
 -- the breaks of a package's name, and of what stands behind it where there are none

@@ -1,0 +1,84 @@
+-- The least break of lists in a row.
+use Rattle.std.proofs.Common.{◌≡◌, ℕ, suc, ◌+◌, ◌⊎◌, inl, inr, Bool, true, false, cond, nat_lt, List, [], ◌∷◌, ◌++◌, Option, Some, None, is_some, refl, sym, ap, ◌∙◌, arith}
+use Rattle.std.specs.Prelude.{flat_map}
+use Rattle.std.proofs.lemmas.Bool.Decides.{nat_tests}
+use Rattle.sv_source.specs.declared.token.Token.{Token}
+use Rattle.package_scope.specs.declared.breaks.Break.{Break}
+use Rattle.package_scope.specs.declared.table.Table.{Table}
+use Rattle.package_scope.specs.Least.{joined, least_over, least_kept, package_or, package_least}
+use Rattle.package_scope.specs.Lookup.{own, package_found}
+use Rattle.package_scope.specs.Tables.{word}
+use Rattle.package_scope.specs.Rules.{breaks_at, breaks_if, package_breaks, is_less, lesser, least, is_kept, kept_breaks}
+
+less-less : (a b c : Break) → is_less c b ≡ true → is_less b a ≡ true → is_less c a ≡ true
+less-less a b c h k = grind (arith, nat_tests, h, k)
+
+not-less : (a b c : Break) → is_less c b ≡ false → is_less b a ≡ false → is_less c a ≡ false
+not-less a b c h k = grind (arith, nat_tests, h, k)
+
+-- the choice between three, by tests of each two
+three : (a b c : Break) (ba cb ca : Bool) → (cb ≡ true → ba ≡ true → ca ≡ true) → (cb ≡ false → ba ≡ false → ca ≡ false)
+    → is_less b a ≡ ba → is_less c b ≡ cb → is_less c a ≡ ca
+    → cond (is_less c (cond ba b a)) c (cond ba b a) ≡ cond (is_less (cond cb c b) a) (cond cb c b) a
+three a b c true true ca less not_less is_ba is_cb is_ca =
+    ap (λ x. cond x c b) is_cb ∙ sym (ap (λ x. cond x c a) (is_ca ∙ less refl refl))
+three a b c true false ca less not_less is_ba is_cb is_ca =
+    ap (λ x. cond x c b) is_cb ∙ sym (ap (λ x. cond x b a) is_ba)
+three a b c false true ca less not_less is_ba is_cb is_ca = refl
+three a b c false false ca less not_less is_ba is_cb is_ca =
+    ap (λ x. cond x c a) (is_ca ∙ not_less refl refl) ∙ sym (ap (λ x. cond x b a) is_ba)
+
+pub joined-joined : (a b c : Option Break) → joined (joined a b) c ≡ joined a (joined b c)
+joined-joined None b c = refl
+joined-joined (Some a) None c = refl
+joined-joined (Some a) (Some b) None = refl
+joined-joined (Some a) (Some b) (Some c) =
+    ap Some (three a b c (is_less b a) (is_less c b) (is_less c a)
+        (λ h k. less-less a b c h k) (λ h k. not-less a b c h k) refl refl refl)
+
+joined-none : (a : Option Break) → joined a None ≡ a
+joined-none None = refl
+joined-none (Some a) = refl
+
+pub least-append : (xs ys : List Break) → least (xs ++ ys) ≡ joined (least xs) (least ys)
+least-append [] ys = refl
+least-append (x ∷ xs) ys = ap (λ o. lesser x o) (least-append xs ys) ∙ sym (joined-joined (Some x) (least xs) (least ys))
+
+over-from : {A : Type 0} (f : A → List Break) (known : Option Break) (xs : List A) → least_over f known xs ≡ joined known (least (flat_map f xs))
+over-from f known [] = sym (joined-none known)
+over-from f known (x ∷ xs) =
+    over-from f (joined known (least (f x))) xs
+    ∙ joined-joined known (least (f x)) (least (flat_map f xs))
+    ∙ ap (λ o. joined known o) (sym (least-append (f x) (flat_map f xs)))
+
+pub over-is : {A : Type 0} (f : A → List Break) (xs : List A) → least_over f None xs ≡ least (flat_map f xs)
+over-is f xs = over-from f None xs
+
+kept-from : (known : Option Break) (at : ℕ) (ks : List Token) → least_kept known at ks ≡ joined known (least (kept_breaks at ks))
+kept-from known at [] = sym (joined-none known)
+kept-from known at (k ∷ ks) =
+    kept-from (joined known (least (breaks_if (is_kept k) 404 at))) (suc at) ks
+    ∙ joined-joined known (least (breaks_if (is_kept k) 404 at)) (least (kept_breaks (suc at) ks))
+    ∙ ap (λ o. joined known o) (sym (least-append (breaks_if (is_kept k) 404 at) (kept_breaks (suc at) ks)))
+
+pub kept-is : (ks : List Token) → least_kept None 0 ks ≡ least (kept_breaks 0 ks)
+kept-is ks = kept-from None 0 ks
+
+-- the break of a package's name, or of what stands behind it
+behind-is : (t : Table) (holder n : ℕ) (bs : List Break) (b : Bool) → cond b (least bs) (least (breaks_at 404 holder)) ≡ least (cond b bs (breaks_at 404 holder))
+behind-is t holder n bs true = refl
+behind-is t holder n bs false = refl
+
+package-or-is : (t : Table) (holder : ℕ) (bs : List Break) (o : Option ℕ) → package_or t holder (least bs) o ≡ least (elim o [
+  | None ↦ breaks_at 401 holder
+  | Some n ↦ cond (is_some (package_found t (Some n))) bs (breaks_at 404 holder)
+])
+package-or-is t holder bs None = refl
+package-or-is t holder bs (Some n) = behind-is t holder n bs (is_some (package_found t (Some n)))
+
+pub package-is : (ts : List Token) (t : Table) (holder : ℕ) (bs : List Break) → package_least ts t holder (least bs) ≡ least (package_breaks ts t holder bs)
+package-is ts t holder bs = package-or-is t holder bs (own t 0 (word ts holder) holder)
+
+pub ruleset joining = (least-append)
+
+pub ruleset packaging = (package-is)
