@@ -1,6 +1,6 @@
 use Rattle.std.proofs.Common.{◌≡◌, length}
 use Rattle.package_scope.specs.Walks as walks
-use Rattle.package_scope.proofs.fitting.Scopes.has_value.Given as goal
+use Rattle.package_scope.proofs.scoped.Scopes.has_value.Given as goal
 
 abbrev pub invariant-loop-left : goal.invariant-loop-left
 invariant-loop-left l = walks.valued (walks.gives_value l.self.tree.tokens l.self.table l.found_by.at l.declaration) l.self.table l.left l.scope
