@@ -6,3 +6,4 @@ pub mod Least
 pub mod Finding
 pub mod Walks
 pub mod Earliest
+pub mod Answers

@@ -43,7 +43,6 @@ fn refusal(alloc: Global, tokens: &[Token], broken: Break) -> Result<Refusal, Al
 }
 
 /// The least break of a rule on names.
-#[tactic(auto, using(crate::proofs::Orders::all_is))]
 fn first_break(
     alloc: Global,
     scopes: &Scopes,

@@ -3,6 +3,8 @@
 
 mod breaks;
 mod building;
+mod call_breaks;
+mod checking;
 mod clashes;
 mod event_breaks;
 mod fitting;
@@ -19,6 +21,7 @@ mod walks;
 mod wildcards;
 
 pub use breaks::Break;
+pub use checking::{lookup, scopes};
 pub use name_table::NameTable;
 pub use scoped::Scopes;
 pub use table::{
