@@ -9,7 +9,7 @@ use Rattle.std.proofs.lemmas.Bool.Decides.{nat_tests}
 use Rattle.sv_source.specs.declared.token.Token.{Token}
 use Rattle.package_scope.specs.declared.breaks.Break.{Break}
 use Rattle.package_scope.specs.declared.table.Table.{Table}
-use Rattle.package_scope.specs.Least.{joined, least_over, least_kept, package_or, package_least}
+use Rattle.package_scope.specs.Least.{joined, least_over, least_kept, package_or, package_least, broken_call}
 use Rattle.package_scope.specs.Lookup.{own, package_found}
 use Rattle.package_scope.specs.Tables.{word}
 use Rattle.package_scope.specs.Rules.{breaks_at, breaks_if, package_breaks, is_less, lesser, least, is_kept, kept_breaks, use_breaks, import_breaks, wildcard_breaks, declaration_breaks, repeated_import_breaks, event_breaks, call_breaks, calls_breaks, calls, needs, all_breaks}
@@ -84,29 +84,34 @@ pub package-is : (ts : List Token) (t : Table) (holder : ℕ) (bs : List Break) 
 package-is ts t holder bs = package-or-is t holder bs (own t 0 (word ts holder) holder)
 
 -- the least break by a call stands at the first call that is broken
-call-first : (cs : List Call) (ns : List Need) (xs : List Call) → least (flat_map (call_breaks cs ns) xs) ≡ option_map (λ at. record { at = at; rule = 609 }) (first_of (is_broken cs ns) xs)
+never-less : (b : Bool) → (b && false) ≡ false
+never-less true = refl
+never-less false = refl
+
+less-call : (a b : ℕ) → is_less (broken_call b) (broken_call a) ≡ nat_lt b a
+less-call a b = by (nat_lt b a)
+  where
+    by : (c : Bool) → (c || (nat_eq b a && false)) ≡ c
+    by true = refl
+    by false = never-less (nat_eq b a)
+
+choose-call : (a b : ℕ) (c : Bool) → Some (cond c (broken_call b) (broken_call a)) ≡ option_map broken_call (Some (cond c b a))
+choose-call a b true = refl
+choose-call a b false = refl
+
+call-one : (a : ℕ) (b : Bool) (o : Option ℕ) → joined (least (breaks_if b 609 a)) (option_map broken_call o) ≡ option_map broken_call (lesser_if b a o)
+call-one a false o = refl
+call-one a true None = refl
+call-one a true (Some n) = ap (λ c. Some (cond c (broken_call n) (broken_call a))) (less-call a n) ∙ choose-call a n (nat_lt n a)
+
+call-first : (cs : List Call) (ns : List Need) (xs : List Call) → least (flat_map (call_breaks cs ns) xs) ≡ option_map broken_call (first_of (is_broken cs ns) xs)
 call-first cs ns [] = refl
 call-first cs ns (x ∷ xs) =
     least-append (call_breaks cs ns x) (flat_map (call_breaks cs ns) xs)
     ∙ ap (λ o. joined (least (call_breaks cs ns x)) o) (call-first cs ns xs)
-    ∙ by (is_broken cs ns x) (first_of (is_broken cs ns) xs)
-  where
-    choose : (a b : ℕ) (c : Bool) → c ≡ nat_lt b a
-        → Some (cond (nat_lt b a || (nat_eq b a && nat_lt 609 609)) (record { at = b; rule = 609 }) (record { at = a; rule = 609 })) ≡ option_map (λ at. record { at = at; rule = 609 }) (Some (cond c b a))
-    choose a b true is = ap (λ t. Some (cond (t || (nat_eq b a && false)) (record { at = b; rule = 609 }) (record { at = a; rule = 609 }))) (sym is)
-    choose a b false is =
-        ap (λ t. Some (cond (t || (nat_eq b a && false)) (record { at = b; rule = 609 }) (record { at = a; rule = 609 }))) (sym is)
-        ∙ ap (λ t. Some (cond t (record { at = b; rule = 609 }) (record { at = a; rule = 609 }))) (never (nat_eq b a))
-      where
-        never : (b : Bool) → (b && false) ≡ false
-        never true = refl
-        never false = refl
-    by : (b : Bool) (o : Option ℕ) → joined (least (breaks_if b 609 x.at)) (option_map (λ at. record { at = at; rule = 609 }) o) ≡ option_map (λ at. record { at = at; rule = 609 }) (lesser_if b x.at o)
-    by false o = refl
-    by true None = refl
-    by true (Some n) = choose x.at n (nat_lt n x.at) refl
+    ∙ call-one x.at (is_broken cs ns x) (first_of (is_broken cs ns) xs)
 
-pub calls-first : (ts : List Token) (t : Table) → least (calls_breaks ts t) ≡ option_map (λ at. record { at = at; rule = 609 }) (first_broken (calls ts t) (needs ts t))
+pub calls-first : (ts : List Token) (t : Table) → least (calls_breaks ts t) ≡ option_map broken_call (first_broken (calls ts t) (needs ts t))
 calls-first ts t = call-first (calls ts t) (needs ts t) (calls ts t)
 
 -- all breaks
@@ -129,7 +134,7 @@ all-is ts t es c is =
                 ∙ ap (λ o. joined (least_over (declaration_breaks t) None t.declared) o)
                     (ap (λ o. joined (least_over (repeated_import_breaks t) None t.named) o)
                         (ap (λ o. joined (least_over (event_breaks ts t) None es) o)
-                            (both (kept-is ts) is
+                            (ap (λ o. joined o c) (kept-is ts) ∙ ap (λ o. joined (least (kept_breaks 0 ts)) o) is
                             ∙ sym (least-append (kept_breaks 0 ts) (calls_breaks ts t)))
                         ∙ over-append (event_breaks ts t) es _)
                     ∙ over-append (repeated_import_breaks t) t.named _)
@@ -137,9 +142,6 @@ all-is ts t es c is =
             ∙ over-append (wildcard_breaks ts t) t.wildcards _)
         ∙ over-append (import_breaks ts t) t.named _)
     ∙ over-append (use_breaks ts t) t.uses _
-  where
-    both : {a b c d : Option Break} → a ≡ b → c ≡ d → joined a c ≡ joined b d
-    both {b = b} {c = c} e f = ap (λ o. joined o c) e ∙ ap (λ o. joined b o) f
 
 pub ruleset joining = (least-append)
 

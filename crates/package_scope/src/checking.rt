@@ -9,6 +9,7 @@ use crate::breaks::{Break, first};
 use crate::building::{number, word};
 use crate::clashes::clashes_break;
 use crate::event_breaks::kept_break;
+use crate::named_text::NamedText;
 use crate::scoped::Scopes;
 use crate::table::Found;
 use name_events::{Event, events_of};
@@ -45,19 +46,19 @@ fn refusal(alloc: Global, tokens: &[Token], broken: Break) -> Result<Refusal, Al
 /// The least break of a rule on names.
 fn first_break(
     alloc: Global,
-    scopes: &Scopes,
+    names: &NamedText,
     events: &[Event],
 ) -> Result<Option<Break>, AllocError>
-    ensures { IfOk result (λ b. b ≡ means.least (means.all_breaks scopes.now.tree.tokens scopes.now.table events.now)) }
+    ensures { IfOk result (λ b. b ≡ means.least (means.all_breaks names.now.tokens names.now.table events.now)) }
 {
-    let _count = number(scopes.tokens().len())?;
-    let uses = scopes.uses_break();
-    let imports = scopes.imports_break();
-    let wildcards = scopes.wildcards_break();
-    let twice = clashes_break(alloc, scopes.table())?;
-    let others = scopes.events_break(events);
-    let kept = kept_break(scopes.tokens());
-    let calls = scopes.calls_break(alloc)?;
+    let _count = number(names.tokens().len())?;
+    let uses = names.uses_break();
+    let imports = names.imports_break();
+    let wildcards = names.wildcards_break();
+    let twice = clashes_break(alloc, names.table())?;
+    let others = names.events_break(events);
+    let kept = kept_break(names.tokens());
+    let calls = names.calls_break(alloc)?;
     let further = first(twice, first(others, first(kept, calls)));
     Ok(first(uses, first(imports, first(wildcards, further))))
 }
@@ -68,9 +69,9 @@ pub fn scopes<'t>(alloc: Global, tree: &'t SourceTree) -> Result<Scopes<'t>, Fai
     ensures { answers.ScopesGive tree.now result }
 {
     let events = events_of(alloc, tree)?;
-    let scopes = Scopes::of_events(alloc, tree, events.as_slice())?;
-    match first_break(alloc, &scopes, events.as_slice())? {
-        None => Ok(scopes),
+    let names = NamedText::of_events(alloc, tree.tokens.as_slice(), events.as_slice())?;
+    match first_break(alloc, &names, events.as_slice())? {
+        None => Ok(Scopes::of_names(tree, names)),
         Some(broken) => Err(Fail::Refused(refusal(
             alloc,
             tree.tokens.as_slice(),
@@ -81,7 +82,7 @@ pub fn scopes<'t>(alloc: Global, tree: &'t SourceTree) -> Result<Scopes<'t>, Fai
 
 /// What a name stands for at a token of a scope (IEEE 1800-2017 clauses 23.9 and 26.3). It takes no memory.
 pub fn lookup(scopes: &Scopes, scope: u32, name: &Text, token: u32) -> Found
-    ensures { result ≡ meaning.means scopes.now.table scope name.now token }
+    ensures { result ≡ meaning.means scopes.now.names.table scope name.now token }
 {
-    scopes.names().lookup(scope, name, token)
+    scopes.table().lookup(scope, name, token)
 }

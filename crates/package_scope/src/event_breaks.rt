@@ -9,7 +9,7 @@ ghost use Rattle.package_scope.specs.Walks as walks;
 
 use crate::breaks::{Break, break_if, first};
 use crate::fitting::is_bits;
-use crate::scoped::Scopes;
+use crate::named_text::NamedText;
 use name_events::{Before, Declared, Event, Packedness};
 use sv_source::{Kind, Token};
 
@@ -42,10 +42,10 @@ pub fn kept_break(tokens: &[Token]) -> Option<Break>
     least
 }
 
-impl<'t> Scopes<'t> {
+impl<'t> NamedText<'t> {
     /// What the declaration of the type at a token says of it.
     fn packedness_at(&self, token: u32) -> Option<Packedness>
-        ensures { result ≡ walks.packedness_in (means.declaration_at self.now.tree.tokens self.now.table token) }
+        ensures { result ≡ walks.packedness_in (means.declaration_at self.now.tokens self.now.table token) }
     {
         match self.declaration_at(token) {
             Some(declaration) => packedness_of(declaration.how),
@@ -55,7 +55,7 @@ impl<'t> Scopes<'t> {
 
     /// Whether the type at a token is unpacked.
     fn is_unpacked(&self, token: u32) -> bool
-        ensures { result ≡ means.is_unpacked self.now.tree.tokens self.now.table token }
+        ensures { result ≡ means.is_unpacked self.now.tokens self.now.table token }
     {
         let mut token = token;
         let mut left = self.table().declared.len();
@@ -73,7 +73,7 @@ impl<'t> Scopes<'t> {
 
     /// Whether a name that may be that of an interface is.
     fn names_interface_if(&self, of: Option<u32>) -> bool
-        ensures { result ≡ means.names_interface_if self.now.tree.tokens self.now.table of }
+        ensures { result ≡ means.names_interface_if self.now.tokens self.now.table of }
     {
         match of {
             Some(of) => self.names_interface(of),
@@ -83,7 +83,7 @@ impl<'t> Scopes<'t> {
 
     /// Whether the port before another one has no direction that it goes on with.
     fn has_no_direction(&self, before: Before) -> bool
-        ensures { result ≡ means.has_no_direction self.now.tree.tokens self.now.table before }
+        ensures { result ≡ means.has_no_direction self.now.tokens self.now.table before }
     {
         match before {
             Before::Nothing => true,
@@ -95,21 +95,21 @@ impl<'t> Scopes<'t> {
 
     /// Whether two tokens have one text.
     fn are_same(&self, one: u32, other: u32) -> bool
-        ensures { result ≡ bytes_eq (word self.now.tree.tokens one) (word self.now.tree.tokens other) }
+        ensures { result ≡ bytes_eq (word self.now.tokens one) (word self.now.tokens other) }
     {
         self.word(one) == self.word(other)
     }
 
     /// Whether a port lacks a direction.
     fn lacks_direction(&self, of: Option<u32>, before: Before) -> bool
-        ensures { result ≡ (not (means.names_interface_if self.now.tree.tokens self.now.table of) && means.has_no_direction self.now.tree.tokens self.now.table before) }
+        ensures { result ≡ (not (means.names_interface_if self.now.tokens self.now.table of) && means.has_no_direction self.now.tokens self.now.table before) }
     {
         !self.names_interface_if(of) && self.has_no_direction(before)
     }
 
     /// The break of an event.
     fn event_break(&self, event: Event) -> Option<Break>
-        ensures { result ≡ means.least (means.event_breaks self.now.tree.tokens self.now.table event) }
+        ensures { result ≡ means.least (means.event_breaks self.now.tokens self.now.table event) }
     {
         match event {
             Event::Repeats { of, name } => break_if(!self.are_same(of, name), 404, name),
@@ -127,7 +127,7 @@ impl<'t> Scopes<'t> {
 
     /// The least break of an event.
     pub(crate) fn events_break(&self, events: &[Event]) -> Option<Break>
-        ensures { result ≡ least_over (means.event_breaks self.now.tree.tokens self.now.table) None events.now }
+        ensures { result ≡ least_over (means.event_breaks self.now.tokens self.now.table) None events.now }
     {
         let mut least = None;
         for event in events {

@@ -8,7 +8,7 @@ ghost use Rattle.package_scope.specs.Rules as means;
 ghost use Rattle.package_scope.specs.Walks as walks;
 
 use crate::building::outer;
-use crate::scoped::Scopes;
+use crate::named_text::NamedText;
 use crate::table::{DeclKind, Declaration, LoopRun, Table, Use};
 use crate::walks::{in_function, routine_around};
 use name_events::{Declared, Role, SelectPath};
@@ -138,10 +138,10 @@ pub fn is_bits(function: &Text) -> bool
     function.as_bytes() == b"$bits".as_slice()
 }
 
-impl<'t> Scopes<'t> {
+impl<'t> NamedText<'t> {
     /// Whether the use at a token finds an interface.
     pub(crate) fn names_interface(&self, token: u32) -> bool
-        ensures { result ≡ means.names_interface self.now.tree.tokens self.now.table token }
+        ensures { result ≡ means.names_interface self.now.tokens self.now.table token }
     {
         match self.declaration_at(token) {
             Some(declaration) => is_interface_kind(declaration.what),
@@ -151,7 +151,7 @@ impl<'t> Scopes<'t> {
 
     /// Whether a declaration is that of an interface's instance or port.
     fn is_interface_holder(&self, how: Declared) -> bool
-        ensures { result ≡ means.is_interface_holder self.now.tree.tokens self.now.table how }
+        ensures { result ≡ means.is_interface_holder self.now.tokens self.now.table how }
     {
         match how {
             Declared::InterfacePort => true,
@@ -163,14 +163,14 @@ impl<'t> Scopes<'t> {
 
     /// Whether a use is of a member of an interface.
     fn is_member_of(&self, found_by: Use, declaration: &Declaration) -> bool
-        ensures { result ≡ means.is_member_of self.now.tree.tokens self.now.table found_by declaration.now }
+        ensures { result ≡ means.is_member_of self.now.tokens self.now.table found_by declaration.now }
     {
         self.is_interface_holder(declaration.how) && is_member_path(found_by.path)
     }
 
     /// Whether a declaration is that of a net, a variable or a port with a type.
     fn is_signal(&self, how: Declared) -> bool
-        ensures { result ≡ means.is_signal self.now.tree.tokens self.now.table how }
+        ensures { result ≡ means.is_signal self.now.tokens self.now.table how }
     {
         match how {
             Declared::Net => true,
@@ -182,7 +182,7 @@ impl<'t> Scopes<'t> {
 
     /// Whether a declaration is that of a variable.
     fn is_variable(&self, how: Declared) -> bool
-        ensures { result ≡ means.is_variable self.now.tree.tokens self.now.table how }
+        ensures { result ≡ means.is_variable self.now.tokens self.now.table how }
     {
         match how {
             Declared::Variable => true,
@@ -193,7 +193,7 @@ impl<'t> Scopes<'t> {
 
     /// Whether the loop name at a token is that of a declaration, or finds it.
     fn is_of(&self, declaration: &Declaration, token: u32) -> bool
-        ensures { result ≡ walks.is_of self.now.tree.tokens self.now.table declaration.now token }
+        ensures { result ≡ walks.is_of self.now.tokens self.now.table declaration.now token }
     {
         if declaration.at == token {
             return true;
@@ -206,14 +206,14 @@ impl<'t> Scopes<'t> {
 
     /// Whether a loop gives a declaration a value at a token.
     fn gives_value(&self, token: u32, declaration: &Declaration, run: LoopRun) -> bool
-        ensures { result ≡ walks.gives_value self.now.tree.tokens self.now.table token declaration.now run }
+        ensures { result ≡ walks.gives_value self.now.tokens self.now.table token declaration.now run }
     {
         run.last < token && self.is_of(declaration, run.name)
     }
 
     /// Whether a loop of a scope gives a declaration a value at a token.
     fn has_value_in(&self, scope: u32, token: u32, declaration: &Declaration) -> bool
-        ensures { result ≡ list_any (walks.gives_value self.now.tree.tokens self.now.table token declaration.now) (filter (is_loop_of scope) self.now.table.loops) }
+        ensures { result ≡ list_any (walks.gives_value self.now.tokens self.now.table token declaration.now) (filter (is_loop_of scope) self.now.table.loops) }
     {
         for run in self.loops_in(scope) {
             if self.gives_value(token, declaration, *run) {
@@ -226,7 +226,7 @@ impl<'t> Scopes<'t> {
     /// Whether a genvar has a value where it is used.
     #[tactic(auto, using(crate::proofs::Around::valuing))]
     fn has_value(&self, found_by: Use, declaration: &Declaration) -> bool
-        ensures { result ≡ walks.valued (walks.gives_value self.now.tree.tokens self.now.table found_by.at declaration.now) self.now.table (length self.now.table.scopes) found_by.scope }
+        ensures { result ≡ walks.valued (walks.gives_value self.now.tokens self.now.table found_by.at declaration.now) self.now.table (length self.now.table.scopes) found_by.scope }
     {
         let table = self.table();
         let mut scope = found_by.scope;
@@ -246,7 +246,7 @@ impl<'t> Scopes<'t> {
 
     /// Whether a use is of a signal or of a member of an interface.
     fn is_signal_or_member(&self, found_by: Use, declaration: &Declaration) -> bool
-        ensures { result ≡ (means.is_signal self.now.tree.tokens self.now.table declaration.now.how || means.is_member_of self.now.tree.tokens self.now.table found_by declaration.now) }
+        ensures { result ≡ (means.is_signal self.now.tokens self.now.table declaration.now.how || means.is_member_of self.now.tokens self.now.table found_by declaration.now) }
     {
         self.is_signal(declaration.how) || self.is_member_of(found_by, declaration)
     }
@@ -261,7 +261,7 @@ impl<'t> Scopes<'t> {
     /// Whether a genvar or a function has a value where it is used.
     #[tactic(auto, using(crate::proofs::Around::valuing))]
     fn has_value_there(&self, found_by: Use, declaration: &Declaration) -> bool
-        ensures { result ≡ ((means.is_genvar declaration.now.how && means.has_value self.now.tree.tokens self.now.table found_by declaration.now)
+        ensures { result ≡ ((means.is_genvar declaration.now.how && means.has_value self.now.tokens self.now.table found_by declaration.now)
             || (means.is_function declaration.now.how && means.in_own_body self.now.table found_by declaration.now)) }
     {
         if is_genvar(declaration.how) && self.has_value(found_by, declaration) {
@@ -272,7 +272,7 @@ impl<'t> Scopes<'t> {
 
     /// Whether a use fits as a value.
     fn is_value(&self, found_by: Use, declaration: &Declaration) -> bool
-        ensures { result ≡ means.is_value self.now.tree.tokens self.now.table found_by declaration.now }
+        ensures { result ≡ means.is_value self.now.tokens self.now.table found_by declaration.now }
     {
         if is_constant(declaration.how) || is_local(declaration.how) {
             return true;
@@ -283,7 +283,7 @@ impl<'t> Scopes<'t> {
 
     /// Whether a statement may assign to what is used.
     fn is_procedural_target(&self, found_by: Use, declaration: &Declaration) -> bool
-        ensures { result ≡ means.is_procedural_target self.now.tree.tokens self.now.table found_by declaration.now }
+        ensures { result ≡ means.is_procedural_target self.now.tokens self.now.table found_by declaration.now }
     {
         if is_local(declaration.how) || self.is_variable(declaration.how) {
             return true;
@@ -293,7 +293,7 @@ impl<'t> Scopes<'t> {
 
     /// Whether a use fits as the argument of a system function.
     fn is_argument(&self, function: u32, found_by: Use, declaration: &Declaration) -> bool
-        ensures { result ≡ means.fits_role (Role.Argument function) self.now.tree.tokens self.now.table found_by declaration.now }
+        ensures { result ≡ means.fits_role (Role.Argument function) self.now.tokens self.now.table found_by declaration.now }
     {
         self.is_value(found_by, declaration)
             || (is_bits(self.word(function)) && is_type(found_by.path, declaration.how))
@@ -301,7 +301,7 @@ impl<'t> Scopes<'t> {
 
     /// Whether a declaration fits a use.
     pub(crate) fn fits_role(&self, found_by: Use, declaration: &Declaration) -> bool
-        ensures { result ≡ means.fits_role found_by.role self.now.tree.tokens self.now.table found_by declaration.now }
+        ensures { result ≡ means.fits_role found_by.role self.now.tokens self.now.table found_by declaration.now }
     {
         let how = declaration.how;
         match found_by.role {
@@ -332,7 +332,7 @@ impl<'t> Scopes<'t> {
 
     /// Whether a function or task names a signal, or a member of an interface, outside itself.
     pub(crate) fn names_signal(&self, found_by: Use, declaration: &Declaration) -> bool
-        ensures { result ≡ means.names_signal self.now.tree.tokens self.now.table found_by declaration.now }
+        ensures { result ≡ means.names_signal self.now.tokens self.now.table found_by declaration.now }
     {
         match routine_around(self.table(), found_by.scope) {
             Some(_) => {
