@@ -7,3 +7,15 @@ pub mod Lists
 pub mod Seen
 pub mod Finding
 pub mod Products
+pub mod Near
+pub mod Valued
+pub mod Selecting
+pub mod Roots
+pub mod Members
+pub mod Logs
+pub mod Streams
+pub mod Given
+pub mod Assigned
+pub mod Streaming
+pub mod Narrower
+pub mod Insides

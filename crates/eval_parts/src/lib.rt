@@ -4,17 +4,25 @@
 #![tactic(auto)]
 
 mod contexts;
+mod fields;
 mod halt;
 mod layouts;
+mod orders;
+mod path_steps;
 mod paths;
+mod powers;
 mod reads;
 mod selects;
 mod vectors;
 
 pub use contexts::{are_signed, own_sign, own_width, wider};
+pub use fields::member_at;
 pub use halt::Halt;
 pub use layouts::{Bounds, bounds_of, converted, is_signed};
+pub use orders::{Stream, from_top, stream_of, streamed_bits};
+pub use path_steps::{Step, can_be_read, step_of};
 pub use paths::{Found, Root, Window, entire, nothing, part_of};
+pub use powers::clog2;
 pub use reads::read;
 pub use selects::{between_at, element_at, index_of, slide_at};
 pub use vectors::{

@@ -5,3 +5,4 @@ pub mod Orders
 pub mod Kept
 pub mod Around
 pub mod Clashing
+pub mod Calls

@@ -1,18 +1,15 @@
 -- The least break of lists in a row.
 use Rattle.std.proofs.Common.{◌≡◌, ℕ, suc, ◌+◌, ◌⊎◌, inl, inr, Bool, true, false, cond, nat_lt, List, [], ◌∷◌, ◌++◌, Option, Some, None, is_some, refl, sym, ap, ◌∙◌, arith}
 use Rattle.std.specs.Prelude.{flat_map, nat_eq, option_map, ◌||◌, ◌&&◌}
-use Rattle.call_circles.specs.Calls.{is_broken, first_of, first_broken, lesser_if}
-use Rattle.call_circles.specs.declared.calls.Call.{Call}
-use Rattle.call_circles.specs.declared.calls.Need.{Need}
 use Rattle.name_events.specs.declared.events.Event.{Event}
 use Rattle.std.proofs.lemmas.Bool.Decides.{nat_tests}
 use Rattle.sv_source.specs.declared.token.Token.{Token}
 use Rattle.package_scope.specs.declared.breaks.Break.{Break}
 use Rattle.package_scope.specs.declared.table.Table.{Table}
-use Rattle.package_scope.specs.Least.{joined, least_over, least_kept, package_or, package_least, broken_call}
+use Rattle.package_scope.specs.Least.{joined, least_over, least_kept, package_or, package_least}
 use Rattle.package_scope.specs.Lookup.{own, package_found}
 use Rattle.package_scope.specs.Tables.{word}
-use Rattle.package_scope.specs.Rules.{breaks_at, breaks_if, package_breaks, is_less, lesser, least, is_kept, kept_breaks, use_breaks, import_breaks, wildcard_breaks, declaration_breaks, repeated_import_breaks, event_breaks, call_breaks, calls_breaks, calls, needs, all_breaks}
+use Rattle.package_scope.specs.Rules.{breaks_at, breaks_if, package_breaks, is_less, lesser, least, is_kept, kept_breaks, use_breaks, import_breaks, wildcard_breaks, declaration_breaks, repeated_import_breaks, event_breaks, calls_breaks, all_breaks}
 
 less-less : (a b c : Break) → is_less c b ≡ true → is_less b a ≡ true → is_less c a ≡ true
 less-less a b c h k = grind (arith, nat_tests, h, k)
@@ -83,37 +80,6 @@ package-or-is t holder bs (Some n) = behind-is t holder n bs (is_some (package_f
 pub package-is : (ts : List Token) (t : Table) (holder : ℕ) (bs : List Break) → package_least ts t holder (least bs) ≡ least (package_breaks ts t holder bs)
 package-is ts t holder bs = package-or-is t holder bs (own t 0 (word ts holder) holder)
 
--- the least break by a call stands at the first call that is broken
-never-less : (b : Bool) → (b && false) ≡ false
-never-less true = refl
-never-less false = refl
-
-less-call : (a b : ℕ) → is_less (broken_call b) (broken_call a) ≡ nat_lt b a
-less-call a b = by (nat_lt b a)
-  where
-    by : (c : Bool) → (c || (nat_eq b a && false)) ≡ c
-    by true = refl
-    by false = never-less (nat_eq b a)
-
-choose-call : (a b : ℕ) (c : Bool) → Some (cond c (broken_call b) (broken_call a)) ≡ option_map broken_call (Some (cond c b a))
-choose-call a b true = refl
-choose-call a b false = refl
-
-call-one : (a : ℕ) (b : Bool) (o : Option ℕ) → joined (least (breaks_if b 609 a)) (option_map broken_call o) ≡ option_map broken_call (lesser_if b a o)
-call-one a false o = refl
-call-one a true None = refl
-call-one a true (Some n) = ap (λ c. Some (cond c (broken_call n) (broken_call a))) (less-call a n) ∙ choose-call a n (nat_lt n a)
-
-call-first : (cs : List Call) (ns : List Need) (xs : List Call) → least (flat_map (call_breaks cs ns) xs) ≡ option_map broken_call (first_of (is_broken cs ns) xs)
-call-first cs ns [] = refl
-call-first cs ns (x ∷ xs) =
-    least-append (call_breaks cs ns x) (flat_map (call_breaks cs ns) xs)
-    ∙ ap (λ o. joined (least (call_breaks cs ns x)) o) (call-first cs ns xs)
-    ∙ call-one x.at (is_broken cs ns x) (first_of (is_broken cs ns) xs)
-
-pub calls-first : (ts : List Token) (t : Table) → least (calls_breaks ts t) ≡ option_map broken_call (first_broken (calls ts t) (needs ts t))
-calls-first ts t = call-first (calls ts t) (needs ts t) (calls ts t)
-
 -- all breaks
 over-append : {A : Type 0} (f : A → List Break) (xs : List A) (ys : List Break) → joined (least_over f None xs) (least ys) ≡ least (flat_map f xs ++ ys)
 over-append f xs ys = ap (λ o. joined o (least ys)) (over-is f xs) ∙ sym (least-append (flat_map f xs) ys)
@@ -146,5 +112,3 @@ all-is ts t es c is =
 pub ruleset joining = (least-append)
 
 pub ruleset packaging = (package-is)
-
-pub ruleset calling = (calls-first)

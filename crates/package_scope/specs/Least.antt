@@ -20,10 +20,6 @@ abbrev pub least_kept : Option Break → ℕ → List Token → Option Break
 least_kept known at [] = known
 least_kept known at (k ∷ ks) = least_kept (joined known (least (breaks_if (is_kept k) 404 at))) (suc at) ks
 
--- a call that is broken
-abbrev pub broken_call : ℕ → Break
-broken_call at = record { at = at; rule = 609 }
-
 -- the break of a package's name, or what stands behind it
 abbrev pub package_or : Table → ℕ → Option Break → Option ℕ → Option Break
 package_or t holder behind None = least (breaks_at 401 holder)

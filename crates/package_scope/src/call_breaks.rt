@@ -121,7 +121,7 @@ impl<'t> NamedText<'t> {
     }
 
     /// The least break by a call.
-    #[tactic(auto, using(crate::proofs::Orders::calling))]
+    #[tactic(auto, using(crate::proofs::Calls::calling))]
     pub(crate) fn calls_break(&self, alloc: Global) -> Result<Option<Break>, AllocError>
         ensures { IfOk result (λ b. b ≡ means.least (means.calls_breaks self.now.tokens self.now.table)) }
     {

@@ -1,0 +1,16 @@
+pub mod Extensions
+pub mod Contexts
+pub mod Operators
+pub mod Lists
+pub mod Constants
+pub mod Assigned
+pub mod Passed
+pub mod Paths
+pub mod PathSteps
+pub mod Numbers
+pub mod Offsets
+pub mod ReadAt
+pub mod Ranks
+pub mod Placements
+pub mod WriteAt
+pub mod Targets

@@ -1,0 +1,4 @@
+pub mod Same
+pub mod Helpers
+pub mod Images
+pub mod Placed
