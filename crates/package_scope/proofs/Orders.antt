@@ -92,6 +92,7 @@ pub all-is : (ts : List Token) (t : Table) (es : List Event) (c : Option Break) 
     (joined (least_over (event_breaks ts t) None es)
     (joined (least_kept None 0 ts) c)))))
     ≡ least (all_breaks ts t es)
+unfolding all_breaks
 all-is ts t es c is =
     ap (λ o. joined (least_over (use_breaks ts t) None t.uses) o)
         (ap (λ o. joined (least_over (import_breaks ts t) None t.named) o)

@@ -215,7 +215,8 @@ impl<'t> NamedText<'t> {
     fn has_value_in(&self, scope: u32, token: u32, declaration: &Declaration) -> bool
         ensures { result ≡ list_any (walks.gives_value self.now.tokens self.now.table token declaration.now) (filter (is_loop_of scope) self.now.table.loops) }
     {
-        for run in self.loops_in(scope) {
+        let runs = self.loops_in(scope);
+        for run in runs {
             if self.gives_value(token, declaration, *run) {
                 return true;
             }
