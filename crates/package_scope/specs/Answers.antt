@@ -24,6 +24,6 @@ names_refusal tree = option_map (refusal_of tree.tokens) (names_break tree)
 
 -- A tree in which no rule on names is broken has its scopes, and any other one its refusal.
 abbrev pub ScopesGive : SourceTree → Result Scopes Fail → Type 0
-ScopesGive tree (Ok s) = (names_refusal tree ≡ None) × (s.tree.now ≡ tree) × (s.names ≡ record { tokens = tree.tokens; table = table_of tree })
+ScopesGive tree (Ok s) = (names_refusal tree ≡ None) × (s.tree.now ≡ tree) × (s.names ≡ table_of tree)
 ScopesGive tree (Err Memory) = Unit {0}
 ScopesGive tree (Err (Refused r)) = names_refusal tree ≡ Some r

@@ -44,11 +44,7 @@ loops_in x = λ s. list_or_none (map.get nat_eq x.lists s)
 abbrev pub with_loop : (ℕ → List LoopRun) → LoopRun → ℕ → List LoopRun
 with_loop lists l = λ s. if nat_eq l.scope s then lists l.scope ++ l ∷ [] else lists s
 
--- The tokens of a text with the table of its scopes.
-pub record NamedTokens : Type 0 where
-  pub tokens : List Token
-  pub table : Table
-
+-- It is that of the table.
 pub record Kept (ts : List Token) (t : Table) (x : FoundUses) (y : Loops) : Type 0 where
   pub found : (at : ℕ) → found_in x at ≡ found_at ts t t.uses at
   pub loops : (s : ℕ) → loops_in y s ≡ filter (is_loop_of s) t.loops

@@ -2,6 +2,7 @@
 
 ghost use Rattle.std.specs.Prelude.{◌≡◌, slice_get, IfOk};
 ghost use Rattle.package_scope.specs.Answers as answers;
+ghost use Rattle.package_scope.specs.Finding.{Kept};
 ghost use Rattle.package_scope.specs.Lookup as meaning;
 ghost use Rattle.package_scope.specs.Rules as means;
 
@@ -9,6 +10,9 @@ use crate::breaks::{Break, first};
 use crate::building::{number, word};
 use crate::clashes::clashes_break;
 use crate::event_breaks::kept_break;
+use crate::found_uses::found_uses;
+use crate::loops::loops_of;
+use crate::name_table::NameTable;
 use crate::named_text::NamedText;
 use crate::scoped::Scopes;
 use crate::table::Found;
@@ -43,13 +47,14 @@ fn refusal(alloc: Global, tokens: &[Token], broken: Break) -> Result<Refusal, Al
     })
 }
 
-/// The least break of a rule on names.
-fn first_break(
+/// The least break of a rule on names, by what is known of the names.
+fn first_known(
     alloc: Global,
     names: &NamedText,
     events: &[Event],
 ) -> Result<Option<Break>, AllocError>
-    ensures { IfOk result (λ b. b ≡ means.least (means.all_breaks names.now.tokens names.now.table events.now)) }
+    requires kept { Kept names.now.tokens.now names.now.names.now names.now.found.now names.now.loops.now }
+    ensures { IfOk result (λ b. b ≡ means.least (means.all_breaks names.now.tokens.now names.now.names.now events.now)) }
 {
     let _count = number(names.tokens().len())?;
     let uses = names.uses_break();
@@ -63,26 +68,29 @@ fn first_break(
     Ok(first(uses, first(imports, first(wildcards, further))))
 }
 
-/// The scopes of a tree, with what its names stand for, if no rule on names is broken that its tokens and declarations show:
-/// E401 to E404, E609 and E610. Otherwise the rule that is broken at the first token, the least one there. It borrows the tree.
-pub fn scopes<'t>(alloc: Global, tree: &'t SourceTree) -> Result<Scopes<'t>, Fail>
-    ensures { answers.ScopesGive tree.now result }
+/// The least break of a rule on names.
+fn first_break(
+    alloc: Global,
+    tokens: &[Token],
+    names: &NameTable,
+    events: &[Event],
+) -> Result<Option<Break>, AllocError>
+    ensures { IfOk result (λ b. b ≡ means.least (means.all_breaks tokens.now names.now events.now)) }
 {
-    let events = events_of(alloc, tree)?;
-    let names = NamedText::of_events(alloc, tree.tokens.as_slice(), events.as_slice())?;
-    match first_break(alloc, &names, events.as_slice())? {
-        None => Ok(Scopes::of_names(tree, names)),
-        Some(broken) => Err(Fail::Refused(refusal(
-            alloc,
-            tree.tokens.as_slice(),
-            broken,
-        )?)),
-    }
+    let found = found_uses(alloc, tokens, names, names.table().uses.as_slice())?;
+    let loops = loops_of(alloc, names.table().loops.as_slice())?;
+    let known = NamedText {
+        tokens,
+        names,
+        found: &found,
+        loops: &loops,
+    };
+    first_known(alloc, &known, events)
 }
 
 /// What a name stands for at a token of a scope (IEEE 1800-2017 clauses 23.9 and 26.3). It takes no memory.
 pub fn lookup(scopes: &Scopes, scope: u32, name: &Text, token: u32) -> Found
-    ensures { result ≡ meaning.means scopes.now.names.table scope name.now token }
+    ensures { result ≡ meaning.means scopes.now.names scope name.now token }
 {
     scopes.table().lookup(scope, name, token)
 }

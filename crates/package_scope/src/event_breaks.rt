@@ -3,6 +3,7 @@
 ghost use Rattle.std.specs.Prelude.{◌≡◌, ◌&&◌, ◌<◌, ◌^◌, None, not, codes, length};
 ghost use Rattle.std.specs.Str.{bytes_eq};
 ghost use Rattle.package_scope.specs.Least.{least_over, least_kept};
+ghost use Rattle.package_scope.specs.Finding.{Kept};
 ghost use Rattle.package_scope.specs.Rules as means;
 ghost use Rattle.package_scope.specs.Tables.{word};
 ghost use Rattle.package_scope.specs.Walks as walks;
@@ -45,7 +46,8 @@ pub fn kept_break(tokens: &[Token]) -> Option<Break>
 impl<'t> NamedText<'t> {
     /// What the declaration of the type at a token says of it.
     fn packedness_at(&self, token: u32) -> Option<Packedness>
-        ensures { result ≡ walks.packedness_in (means.declaration_at self.now.tokens self.now.table token) }
+        requires kept { Kept self.now.tokens.now self.now.names.now self.now.found.now self.now.loops.now }
+        ensures { result ≡ walks.packedness_in (means.declaration_at self.now.tokens.now self.now.names.now token) }
     {
         match self.declaration_at(token) {
             Some(declaration) => packedness_of(declaration.how),
@@ -55,7 +57,8 @@ impl<'t> NamedText<'t> {
 
     /// Whether the type at a token is unpacked.
     fn is_unpacked(&self, token: u32) -> bool
-        ensures { result ≡ means.is_unpacked self.now.tokens self.now.table token }
+        requires kept { Kept self.now.tokens.now self.now.names.now self.now.found.now self.now.loops.now }
+        ensures { result ≡ means.is_unpacked self.now.tokens.now self.now.names.now token }
     {
         let mut token = token;
         let mut left = self.table().declared.len();
@@ -73,7 +76,8 @@ impl<'t> NamedText<'t> {
 
     /// Whether a name that may be that of an interface is.
     fn names_interface_if(&self, of: Option<u32>) -> bool
-        ensures { result ≡ means.names_interface_if self.now.tokens self.now.table of }
+        requires kept { Kept self.now.tokens.now self.now.names.now self.now.found.now self.now.loops.now }
+        ensures { result ≡ means.names_interface_if self.now.tokens.now self.now.names.now of }
     {
         match of {
             Some(of) => self.names_interface(of),
@@ -83,7 +87,8 @@ impl<'t> NamedText<'t> {
 
     /// Whether the port before another one has no direction that it goes on with.
     fn has_no_direction(&self, before: Before) -> bool
-        ensures { result ≡ means.has_no_direction self.now.tokens self.now.table before }
+        requires kept { Kept self.now.tokens.now self.now.names.now self.now.found.now self.now.loops.now }
+        ensures { result ≡ means.has_no_direction self.now.tokens.now self.now.names.now before }
     {
         match before {
             Before::Nothing => true,
@@ -95,21 +100,23 @@ impl<'t> NamedText<'t> {
 
     /// Whether two tokens have one text.
     fn are_same(&self, one: u32, other: u32) -> bool
-        ensures { result ≡ bytes_eq (word self.now.tokens one) (word self.now.tokens other) }
+        ensures { result ≡ bytes_eq (word self.now.tokens.now one) (word self.now.tokens.now other) }
     {
         self.word(one) == self.word(other)
     }
 
     /// Whether a port lacks a direction.
     fn lacks_direction(&self, of: Option<u32>, before: Before) -> bool
-        ensures { result ≡ (not (means.names_interface_if self.now.tokens self.now.table of) && means.has_no_direction self.now.tokens self.now.table before) }
+        requires kept { Kept self.now.tokens.now self.now.names.now self.now.found.now self.now.loops.now }
+        ensures { result ≡ (not (means.names_interface_if self.now.tokens.now self.now.names.now of) && means.has_no_direction self.now.tokens.now self.now.names.now before) }
     {
         !self.names_interface_if(of) && self.has_no_direction(before)
     }
 
     /// The break of an event.
     fn event_break(&self, event: Event) -> Option<Break>
-        ensures { result ≡ means.least (means.event_breaks self.now.tokens self.now.table event) }
+        requires kept { Kept self.now.tokens.now self.now.names.now self.now.found.now self.now.loops.now }
+        ensures { result ≡ means.least (means.event_breaks self.now.tokens.now self.now.names.now event) }
     {
         match event {
             Event::Repeats { of, name } => break_if(!self.are_same(of, name), 404, name),
@@ -127,7 +134,8 @@ impl<'t> NamedText<'t> {
 
     /// The least break of an event.
     pub(crate) fn events_break(&self, events: &[Event]) -> Option<Break>
-        ensures { result ≡ least_over (means.event_breaks self.now.tokens self.now.table) None events.now }
+        requires kept { Kept self.now.tokens.now self.now.names.now self.now.found.now self.now.loops.now }
+        ensures { result ≡ least_over (means.event_breaks self.now.tokens.now self.now.names.now) None events.now }
     {
         let mut least = None;
         for event in events {

@@ -1,102 +1,69 @@
 //! The tokens of a text with its scopes.
 
-ghost use Rattle.std.specs.Prelude.{◌≡◌, ◌-◌, ◌<◌, Some, length, slice_get, filter, IfOk};
-ghost use Rattle.std.specs.List.{list_any};
+ghost use Rattle.std.specs.Prelude.{◌≡◌, slice_get, filter};
 ghost use Rattle.std.specs.Option.{option_copied};
-ghost use Rattle.package_scope.specs.Finding.{is_loop_of};
-ghost use Rattle.package_scope.specs.Lookup as meaning;
+ghost use Rattle.package_scope.specs.Finding.{is_loop_of, Kept};
 ghost use Rattle.package_scope.specs.Rules as rules;
 ghost use Rattle.package_scope.specs.Tables as tables;
-ghost use Rattle.package_scope.specs.Walks as walks;
 
-use crate::building::outer;
-use crate::found_uses::{FoundUses, found_uses};
-use crate::loops::{Loops, loops_of};
+use crate::found_uses::FoundUses;
+use crate::loops::Loops;
 use crate::name_table::NameTable;
 use crate::table::{Declaration, Found, LoopRun, Table, Use};
-use name_events::{Declared, Event, Packedness};
-use std::alloc::{AllocError, Global};
-use std::marker::Model;
 use sv_source::{Text, Token};
 
-/// The tokens of a text with its scopes, and with what its names stand for. Contracts see the tokens and the table.
-#[derive(Drop)]
+/// The tokens of a text with its scopes, and with what its names stand for.
+#[derive(Clone, Copy)]
 pub struct NamedText<'t> {
-    tokens: &'t [Token],
-    names: NameTable,
-    found: FoundUses,
-    loops: Loops,
-}
-
-impl<'t> Model for NamedText<'t> {
-    ghost use Rattle.package_scope.specs.Finding.{NamedTokens, Kept};
-
-    ghost Value = { NamedTokens };
-
-    ghost view = { λ x. record { tokens = x.tokens.now; table = x.names } };
-
-    ghost invariant = { λ x. Kept x.tokens.now x.names x.found x.loops };
+    /// The tokens.
+    pub tokens: &'t [Token],
+    /// The table.
+    pub names: &'t NameTable,
+    /// What the use at each token finds.
+    pub found: &'t FoundUses,
+    /// The loops of each scope.
+    pub loops: &'t Loops,
 }
 
 impl<'t> NamedText<'t> {
-    /// Tokens with the table of their events.
-    pub(crate) fn of_events(
-        alloc: Global,
-        tokens: &'t [Token],
-        events: &[Event],
-    ) -> Result<NamedText<'t>, AllocError>
-        ensures { IfOk result (λ s. s ≡ record { tokens = tokens.now; table = tables.steps tokens.now events.now (tables.start (length tokens.now - 1)) }) }
-    {
-        let names = NameTable::of_events(alloc, tokens, events)?;
-        let uses = names.table().uses.as_slice();
-        let found = found_uses(alloc, tokens, &names, uses)?;
-        let loops = loops_of(alloc, names.table().loops.as_slice())?;
-        Ok(NamedText {
-            tokens,
-            names,
-            found,
-            loops,
-        })
-    }
-
     /// The tokens.
     pub(crate) fn tokens(&self) -> &[Token]
-        ensures { result.now ≡ self.now.tokens }
+        ensures { result.now ≡ self.now.tokens.now }
     {
         self.tokens
     }
 
     /// The table.
     pub(crate) fn table(&self) -> &Table
-        ensures { result.now ≡ self.now.table }
+        ensures { result.now ≡ self.now.names.now }
     {
         self.names.table()
     }
 
     /// The names.
     pub(crate) fn names(&self) -> &NameTable
-        ensures { result.now ≡ self.now.table }
+        ensures { result.now ≡ self.now.names.now }
     {
-        &self.names
+        self.names
     }
 
     /// The declaration with this number, if there is one.
     pub(crate) fn numbered(&self, number: u32) -> Option<&Declaration>
-        ensures { option_copied result ≡ slice_get self.now.table.declared number }
+        ensures { option_copied result ≡ slice_get self.now.names.now.declared number }
     {
         self.names.declaration(number)
     }
 
     /// The text of a token.
     pub(crate) fn word(&self, token: u32) -> &Text
-        ensures { result.now ≡ tables.word self.now.tokens token }
+        ensures { result.now ≡ tables.word self.now.tokens.now token }
     {
         self.names.word(self.tokens, token)
     }
 
     /// What a use finds.
     pub(crate) fn finds(&self, found_by: Use) -> Found
-        ensures { result ≡ rules.finds self.now.tokens self.now.table found_by }
+        ensures { result ≡ rules.finds self.now.tokens.now self.now.names.now found_by }
     {
         self.names.finds(self.tokens, found_by)
     }
@@ -104,7 +71,8 @@ impl<'t> NamedText<'t> {
     /// The declaration that the use at a token finds.
     #[tactic(auto, using(crate::proofs::Kept::finding))]
     pub(crate) fn declaration_at(&self, token: u32) -> Option<&Declaration>
-        ensures { option_copied result ≡ rules.declaration_at self.now.tokens self.now.table token }
+        requires kept { Kept self.now.tokens.now self.now.names.now self.now.found.now self.now.loops.now }
+        ensures { option_copied result ≡ rules.declaration_at self.now.tokens.now self.now.names.now token }
     {
         match self.found.at(token) {
             Some(Found::Decl(number)) => self.names.declaration(number),
@@ -114,7 +82,8 @@ impl<'t> NamedText<'t> {
 
     /// What the generate loops of a scope run over.
     pub(crate) fn loops_in(&self, scope: u32) -> &[LoopRun]
-        ensures { result.now ≡ filter (is_loop_of scope) self.now.table.loops }
+        requires kept { Kept self.now.tokens.now self.now.names.now self.now.found.now self.now.loops.now }
+        ensures { result.now ≡ filter (is_loop_of scope) self.now.names.now.loops }
     {
         self.loops.of(scope)
     }

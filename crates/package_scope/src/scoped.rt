@@ -4,7 +4,6 @@ ghost use Rattle.std.specs.Prelude.{◌≡◌, slice_get};
 ghost use Rattle.std.specs.Option.{option_copied};
 
 use crate::name_table::NameTable;
-use crate::named_text::NamedText;
 use crate::table::Declaration;
 use sv_tree::SourceTree;
 
@@ -12,23 +11,23 @@ use sv_tree::SourceTree;
 #[derive(Drop)]
 pub struct Scopes<'t> {
     tree: &'t SourceTree,
-    names: NamedText<'t>,
+    names: NameTable,
 }
 
 impl<'t> Scopes<'t> {
     /// A tree with the names of its tokens.
-    pub(crate) fn of_names(tree: &'t SourceTree, names: NamedText<'t>) -> Scopes<'t>
+    pub(crate) fn of_names(tree: &'t SourceTree, names: NameTable) -> Scopes<'t>
         ensures tree { result.tree.now ≡ tree.now }
-        ensures names { result.names ≡ names.entry }
+        ensures names { result.names ≡ names }
     {
         Scopes { tree, names }
     }
 
     /// The table.
     pub(crate) fn table(&self) -> &NameTable
-        ensures { result.now ≡ self.now.names.table }
+        ensures { result.now ≡ self.now.names }
     {
-        self.names.names()
+        &self.names
     }
 
     /// The tree.
@@ -40,8 +39,8 @@ impl<'t> Scopes<'t> {
 
     /// The declaration with this number, if there is one.
     pub fn declaration(&self, number: u32) -> Option<&Declaration>
-        ensures { option_copied result ≡ slice_get self.now.names.table.declared number }
+        ensures { option_copied result ≡ slice_get self.now.names.declared number }
     {
-        self.names.numbered(number)
+        self.names.declaration(number)
     }
 }

@@ -4,4 +4,4 @@ use Rattle.package_scope.specs.Rules as rules
 use Rattle.package_scope.proofs.named_text.NamedText.uses_break.Given as goal
 
 abbrev pub invariant-loop-found_by : goal.invariant-loop-found_by
-invariant-loop-found_by l = least_over (rules.use_breaks l.self.tokens l.self.table) l.least (drop l.found_by-index l.uses) ≡ least_over (rules.use_breaks l.self.tokens l.self.table) None l.uses
+invariant-loop-found_by l = least_over (rules.use_breaks l.self.tokens.now l.self.names.now) l.least (drop l.found_by-index l.uses) ≡ least_over (rules.use_breaks l.self.tokens.now l.self.names.now) None l.uses

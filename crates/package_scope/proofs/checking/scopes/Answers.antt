@@ -1,4 +1,0 @@
-use Rattle.package_scope.proofs.checking.scopes.Goals as goal
-
-pub returns : goal.returns
-returns c = ?
