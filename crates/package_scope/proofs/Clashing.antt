@@ -9,7 +9,7 @@ use Rattle.std.proofs.lemmas.List.{drop_more, drop_all}
 use Rattle.std.proofs.lemmas.Slice.Eq.{bytes_eq-Decides}
 use Rattle.name_events.specs.declared.events.Declared.{Declared}
 use Rattle.name_events.specs.declared.events.Declared.TheVariants as W
-use Rattle.package_scope.specs.Earliest.{Entry, construct_of, of_declaration, of_import, shares, is_in, is_earlier, is_before, clash, sooner, earlier, later, with_one, earliest_from, kept_in, keep, kept_number, kept_under, Adds}
+use Rattle.package_scope.specs.Earliest.{Entry, construct_of, of_declaration, of_import, shares, is_in, is_earlier, is_before, clash, sooner, earlier, later, with_one, earliest_from, kept_in, keep, kept_number, kept_under, Adds, AreTaken}
 use Rattle.package_scope.specs.Index.{number_in}
 use Rattle.package_scope.specs.Lookup.{is_named}
 use Rattle.package_scope.specs.Rules.{share_construct, clashes, import_clashes, other_import, declared_before}
@@ -18,7 +18,9 @@ use Rattle.package_scope.specs.declared.clashes.Clashes.{Clashes}
 use Rattle.package_scope.specs.declared.clashes.Earliest.{Earliest}
 use Rattle.package_scope.specs.declared.names.Names.{Names}
 use Rattle.package_scope.specs.declared.table.Declaration.{Declaration}
+use Rattle.package_scope.specs.declared.clashes.Taken.{Taken}
 use Rattle.package_scope.specs.declared.table.NamedImport.{NamedImport}
+use Rattle.package_scope.specs.declared.table.Table.{Table}
 
 true_or_false : (b : Bool) → (b ≡ true) ⊎ (b ≡ false)
 true_or_false true = inl refl
@@ -263,6 +265,33 @@ other-import names i n is has =
             ∙ ap (λ b. (nat_eq j.scope i.scope && bytes_eq j.name i.name) && (nat_lt j.at i.at && not b)) (same-source names i.source j.source n has)) is
     ∙ clash-is (of_import names) i.scope i.name i.at (number_in names i.source) is
 
+-- a declaration or an import of a name that its scope has already
+pub declared-taken : (t : Table) (x : Taken) (d : Declaration) → AreTaken t x
+    → (clash (kept_under x.names x.declared d.scope d.name) d.at (construct_of d.how) || clash (kept_under x.names x.imported d.scope d.name) d.at None)
+    ≡ (list_any (clashes d) t.declared || list_any (import_clashes d.scope d.name d.at) t.named)
+declared-taken t x d taken =
+    ap (λ o. clash o d.at (construct_of d.how) || clash (kept_under x.names x.imported d.scope d.name) d.at None) (taken.declared d.scope d.name)
+    ∙ ap (λ o. clash (earliest_from of_declaration d.scope d.name t.declared) d.at (construct_of d.how) || clash o d.at None) (taken.imported d.scope d.name)
+    ∙ ap (λ b. b || clash (earliest_from (of_import x.names) d.scope d.name t.named) d.at None) (sym (declared-clash d t.declared))
+    ∙ ap (λ b. list_any (clashes d) t.declared || b) (sym (imported-clash x.names d.scope d.name d.at t.named))
+
+or-swap : (a b : Bool) → (a || b) ≡ (b || a)
+or-swap true true = refl
+or-swap true false = refl
+or-swap false true = refl
+or-swap false false = refl
+
+pub import-taken : (t : Table) (x : Taken) (i : NamedImport) (n : ℕ) → AreTaken t x → number_in x.names i.source ≡ Some n
+    → (clash (kept_under x.names x.declared i.scope i.name) i.at None || clash (kept_under x.names x.imported i.scope i.name) i.at (Some n))
+    ≡ (list_any (other_import i) t.named || list_any (declared_before i) t.declared)
+import-taken t x i n taken has =
+    ap (λ o. clash o i.at None || clash (kept_under x.names x.imported i.scope i.name) i.at (Some n)) (taken.declared i.scope i.name)
+    ∙ ap (λ o. clash (earliest_from of_declaration i.scope i.name t.declared) i.at None || clash o i.at (Some n)) (taken.imported i.scope i.name)
+    ∙ ap (λ b. b || clash (earliest_from (of_import x.names) i.scope i.name t.named) i.at (Some n)) (sym (declared-before i t.declared))
+    ∙ ap (λ o. list_any (declared_before i) t.declared || clash (earliest_from (of_import x.names) i.scope i.name t.named) i.at o) (sym has)
+    ∙ ap (λ b. list_any (declared_before i) t.declared || b) (sym (other-import x.names i n t.named has))
+    ∙ or-swap (list_any (declared_before i) t.declared) (list_any (other_import i) t.named)
+
 -- one more thing under a name
 never-kept : (b : Bool) (at : ℕ) (share : Option ℕ) → (if (b && false) then Some (with_one at share None) else None) ≡ None
 never-kept true at share = refl
@@ -331,5 +360,3 @@ kept-none names x none s q = ap (λ f. kept_number f s (number_in names q)) none
 
 pub earliest-none : {A : Type 0} (entry : A → Entry) (ds : List A) (at : ℕ) → length ds ≤ at → (s : ℕ) (q : List ℕ) → earliest_from entry s q (drop at ds) ≡ None
 earliest-none entry ds at past s q = ap (λ xs. earliest_from entry s q xs) (drop_all at ds past)
-
-pub ruleset clashing = (declared-clash, imported-clash, declared-before)

@@ -6,3 +6,4 @@ pub mod Kept
 pub mod Around
 pub mod Clashing
 pub mod Calls
+pub mod Answering

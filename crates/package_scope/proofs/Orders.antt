@@ -1,8 +1,11 @@
 -- The least break of lists in a row.
-use Rattle.std.proofs.Common.{◌≡◌, ℕ, suc, ◌+◌, ◌⊎◌, inl, inr, Bool, true, false, cond, nat_lt, List, [], ◌∷◌, ◌++◌, Option, Some, None, is_some, refl, sym, ap, ◌∙◌, arith}
+use Rattle.std.proofs.Common.{◌≡◌, ℕ, suc, ◌+◌, ◌<◌, ◌⊎◌, inl, inr, Bool, true, false, cond, nat_lt, List, [], ◌∷◌, ◌++◌, Option, Some, None, is_some, refl, sym, ap, ◌∙◌, add-one, length, drop, get_or, arith}
 use Rattle.std.specs.Prelude.{flat_map, nat_eq, option_map, ◌||◌, ◌&&◌}
 use Rattle.name_events.specs.declared.events.Event.{Event}
+use Rattle.std.specs.Str.{bytes_eq}
 use Rattle.std.proofs.lemmas.Bool.Decides.{nat_tests}
+use Rattle.std.proofs.lemmas.List.{drop_more}
+use Rattle.std.proofs.lemmas.Slice.Eq.{bytes_eq-Decides}
 use Rattle.sv_source.specs.declared.token.Token.{Token}
 use Rattle.package_scope.specs.declared.breaks.Break.{Break}
 use Rattle.package_scope.specs.declared.table.Table.{Table}
@@ -10,6 +13,10 @@ use Rattle.package_scope.specs.Least.{joined, least_over, least_kept, package_or
 use Rattle.package_scope.specs.Lookup.{own, package_found}
 use Rattle.package_scope.specs.Tables.{word}
 use Rattle.package_scope.specs.Rules.{breaks_at, breaks_if, package_breaks, is_less, lesser, least, is_kept, kept_breaks, use_breaks, import_breaks, wildcard_breaks, declaration_breaks, repeated_import_breaks, event_breaks, calls_breaks, all_breaks}
+
+true_or_false : (b : Bool) → (b ≡ true) ⊎ (b ≡ false)
+true_or_false true = inl refl
+true_or_false false = inr refl
 
 less-less : (a b c : Break) → is_less c b ≡ true → is_less b a ≡ true → is_less c a ≡ true
 less-less a b c h k = grind (arith, nat_tests, h, k)
@@ -81,6 +88,22 @@ pub package-is : (ts : List Token) (t : Table) (holder : ℕ) (bs : List Break) 
 package-is ts t holder bs = package-or-is t holder bs (own t 0 (word ts holder) holder)
 
 -- all breaks
+pub kept-more : (ks : List Token) (at : ℕ) (k : Token) (known new : Option Break) → at < length ks → k ≡ get_or ks at k → new ≡ joined known (least (breaks_if (is_kept k) 404 at))
+    → least_kept new (at + 1) (drop (at + 1) ks) ≡ least_kept known at (drop at ks)
+kept-more ks at k known new within is joins =
+    ap (λ o. least_kept o (at + 1) (drop (at + 1) ks)) joins
+    ∙ ap (λ n. least_kept (joined known (least (breaks_if (is_kept k) 404 at))) n (drop (at + 1) ks)) (add-one at)
+    ∙ ap (λ xs. least_kept known at xs) (sym (drop_more ks at k within ∙ ap (λ x. x ∷ drop (at + 1) ks) (sym is)))
+
+pub bytes-swap : (a b : List ℕ) → bytes_eq a b ≡ bytes_eq b a
+bytes-swap a b = elim (true_or_false (bytes_eq a b)) [
+  | inl h ↦ h ∙ sym ((bytes_eq-Decides b a).1 (sym ((bytes_eq-Decides a b).0 h)))
+  | inr h ↦ elim (true_or_false (bytes_eq b a)) [
+    | inl k ↦ (bytes_eq-Decides a b).1 (sym ((bytes_eq-Decides b a).0 k)) ∙ sym k
+    | inr k ↦ h ∙ sym k
+  ]
+]
+
 over-append : {A : Type 0} (f : A → List Break) (xs : List A) (ys : List Break) → joined (least_over f None xs) (least ys) ≡ least (flat_map f xs ++ ys)
 over-append f xs ys = ap (λ o. joined o (least ys)) (over-is f xs) ∙ sym (least-append (flat_map f xs) ys)
 

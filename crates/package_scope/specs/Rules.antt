@@ -419,5 +419,5 @@ all_breaks ts t es =
     ++ (kept_breaks 0 ts
     ++ calls_breaks ts t))))))
 
-abbrev pub names_break : SourceTree → Option Break
+unfoldable pub names_break : SourceTree → Option Break
 names_break tree = least (all_breaks tree.tokens (table_of tree) (events_of tree))

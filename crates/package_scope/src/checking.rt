@@ -5,6 +5,7 @@ ghost use Rattle.package_scope.specs.Answers as answers;
 ghost use Rattle.package_scope.specs.Finding.{Kept};
 ghost use Rattle.package_scope.specs.Lookup as meaning;
 ghost use Rattle.package_scope.specs.Rules as means;
+ghost use Rattle.package_scope.specs.Tables.{table_of};
 
 use crate::breaks::{Break, first};
 use crate::building::{number, word};
@@ -86,6 +87,51 @@ fn first_break(
         loops: &loops,
     };
     first_known(alloc, &known, events)
+}
+
+/// The answer for a tree with its names, by the break of a rule on them.
+fn answer<'t>(
+    alloc: Global,
+    tree: &'t SourceTree,
+    names: NameTable,
+    broken: Option<Break>,
+) -> Result<Scopes<'t>, Fail>
+    requires named { names ≡ table_of tree.now }
+    requires broken { broken ≡ means.names_break tree.now }
+    ensures { answers.ScopesGive tree.now result }
+{
+    match broken {
+        None => Ok(Scopes::of_names(tree, names)),
+        Some(broken) => match refusal(alloc, tree.tokens.as_slice(), broken) {
+            Ok(refusal) => Err(Fail::Refused(refusal)),
+            Err(_) => Err(Fail::Memory),
+        },
+    }
+}
+
+/// A tree's names, and the break of a rule on them.
+fn names_and_break(
+    alloc: Global,
+    tree: &SourceTree,
+) -> Result<(NameTable, Option<Break>), AllocError>
+    ensures { IfOk result (λ r. (r.0 ≡ table_of tree.now) × (r.1 ≡ means.names_break tree.now)) }
+{
+    let events = events_of(alloc, tree)?;
+    let tokens = tree.tokens.as_slice();
+    let names = NameTable::of_events(alloc, tokens, events.as_slice())?;
+    let broken = first_break(alloc, tokens, &names, events.as_slice())?;
+    Ok((names, broken))
+}
+
+/// The scopes of a tree, with what its names stand for, if no rule on names is broken that its tokens and declarations show:
+/// E401 to E404, E609 and E610. Otherwise the rule that is broken at the first token, the least one there. It borrows the tree.
+pub fn scopes<'t>(alloc: Global, tree: &'t SourceTree) -> Result<Scopes<'t>, Fail>
+    ensures { answers.ScopesGive tree.now result }
+{
+    match names_and_break(alloc, tree) {
+        Ok((names, broken)) => answer(alloc, tree, names, broken),
+        Err(_) => Err(Fail::Memory),
+    }
 }
 
 /// What a name stands for at a token of a scope (IEEE 1800-2017 clauses 23.9 and 26.3). It takes no memory.

@@ -1,6 +1,6 @@
 //! Breaks that are neither of a declaration nor of an import nor of a use.
 
-ghost use Rattle.std.specs.Prelude.{◌≡◌, ◌&&◌, ◌<◌, ◌^◌, None, not, codes, length};
+ghost use Rattle.std.specs.Prelude.{◌≡◌, ◌&&◌, ◌<◌, ◌^◌, None, not, codes, length, take};
 ghost use Rattle.std.specs.Str.{bytes_eq};
 ghost use Rattle.package_scope.specs.Least.{least_over, least_kept};
 ghost use Rattle.package_scope.specs.Finding.{Kept};
@@ -12,7 +12,7 @@ use crate::breaks::{Break, break_if, first};
 use crate::fitting::is_bits;
 use crate::named_text::NamedText;
 use name_events::{Before, Declared, Event, Packedness};
-use sv_source::{Kind, Token};
+use sv_source::{Kind, Text, Token};
 
 /// What a declaration says of its type, if it is that of a type's name.
 fn packedness_of(how: Declared) -> Option<Packedness>
@@ -24,11 +24,21 @@ fn packedness_of(how: Declared) -> Option<Packedness>
     }
 }
 
+/// Whether a name begins as those that are kept for the translator.
+fn has_kept_front(name: &Text) -> bool
+    ensures { result ≡ bytes_eq (take 5 name.now) (codes "sv2v_") }
+{
+    name.as_bytes().starts_with(b"sv2v_")
+}
+
 /// Whether a token is a name that is kept for the translator.
 fn is_kept(token: &Token) -> bool
     ensures { result ≡ means.is_kept token.now }
 {
-    token.kind == Kind::Name && token.text.as_bytes().starts_with(b"sv2v_")
+    match token.kind {
+        Kind::Name => has_kept_front(&token.text),
+        _ => false,
+    }
 }
 
 /// The least break by a name that is kept for the translator.

@@ -22,7 +22,7 @@ mod walks;
 mod wildcards;
 
 pub use breaks::Break;
-pub use checking::{lookup};
+pub use checking::{lookup, scopes};
 pub use name_table::NameTable;
 pub use scoped::Scopes;
 pub use table::{
