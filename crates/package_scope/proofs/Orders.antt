@@ -133,6 +133,26 @@ all-is ts t es c is =
         ∙ over-append (import_breaks ts t) t.named _)
     ∙ over-append (use_breaks ts t) t.uses _
 
+-- the same by the parts that a search has found
+pub all-from : (ts : List Token) (t : Table) (es : List Event) (u i w d o k c f g h j l r : Option Break)
+    → u ≡ least_over (use_breaks ts t) None t.uses
+    → i ≡ least_over (import_breaks ts t) None t.named
+    → w ≡ least_over (wildcard_breaks ts t) None t.wildcards
+    → d ≡ joined (least_over (declaration_breaks t) None t.declared) (least_over (repeated_import_breaks t) None t.named)
+    → o ≡ least_over (event_breaks ts t) None es
+    → k ≡ least_kept None 0 ts
+    → c ≡ least (calls_breaks ts t)
+    → f ≡ joined k c → g ≡ joined o f → h ≡ joined d g → j ≡ joined w h → l ≡ joined i j → r ≡ joined u l
+    → r ≡ least (all_breaks ts t es)
+all-from ts t es u i w d o k c f g h j l r is_u is_i is_w is_d is_o is_k is_c is_f is_g is_h is_j is_l is_r =
+    let f_is : f ≡ joined (least_kept None 0 ts) c = is_f ∙ ap (λ x. joined x c) is_k in
+    let g_is : g ≡ joined (least_over (event_breaks ts t) None es) (joined (least_kept None 0 ts) c) = is_g ∙ ap (λ x. joined x f) is_o ∙ ap (λ x. joined (least_over (event_breaks ts t) None es) x) f_is in
+    let h_is = is_h ∙ ap (λ x. joined x g) is_d ∙ ap (λ x. joined (joined (least_over (declaration_breaks t) None t.declared) (least_over (repeated_import_breaks t) None t.named)) x) g_is in
+    let j_is = is_j ∙ ap (λ x. joined x h) is_w ∙ ap (λ x. joined (least_over (wildcard_breaks ts t) None t.wildcards) x) h_is in
+    let l_is = is_l ∙ ap (λ x. joined x j) is_i ∙ ap (λ x. joined (least_over (import_breaks ts t) None t.named) x) j_is in
+    is_r ∙ ap (λ x. joined x l) is_u ∙ ap (λ x. joined (least_over (use_breaks ts t) None t.uses) x) l_is
+    ∙ all-is ts t es c is_c
+
 pub ruleset joining = (least-append)
 
 pub ruleset packaging = (package-is)

@@ -10,4 +10,4 @@ returns c =
     let x = c.args.taken.now in
     let has : number_in x.names i.source ≡ Some c.in-Some.source = sym c.number.ensures ∙ c.in-Some.is in
     c.break_if.ensures
-    ∙ ap (λ b. least (breaks_if b 402 i.at)) (c.is_taken.ensures ∙ import-taken c.args.table.now x i c.in-Some.source c.requires has)
+    ∙ ap (λ b. least (breaks_if b 402 i.at)) (c.is_taken-broken.ensures ∙ import-taken c.args.table.now x i c.in-Some.source c.requires has)
