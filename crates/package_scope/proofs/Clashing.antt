@@ -132,13 +132,13 @@ clash-by : (e : ℕ) (s : Option ℕ) (x : Earliest) (at : ℕ) (share : Option 
     → ((nat_lt e at && not (shares share s)) || clash (Some x) at share) ≡ clash (Some (if b then earlier e s x else later e s x)) at share
 clash-by e s x at share true good h =
     soonest (shares share s) (shares share x.share) (shares s x.share) (nat_lt e at) (nat_lt x.at at) (is_before x.other at)
-        (λ p r. share-on share s x.share p r) (λ p q. share-off share s x.share p q)
-        (λ m. lt-lt e x.at at h m) (λ o. before-good x.at at x.other good o)
+    (λ p r. share-on share s x.share p r) (λ p q. share-off share s x.share p q)
+    (λ m. lt-lt e x.at at h m) (λ o. before-good x.at at x.other good o)
     ∙ ap (λ z. cond (shares share s) z (nat_lt e at)) (sym (before-cond (shares s x.share) x.other x.at at))
 clash-by e s x at share false good h =
     not_soonest (shares share s) (shares share x.share) (shares s x.share) (nat_lt e at) (nat_lt x.at at) (is_before x.other at)
-        (λ q r. share-back share s x.share q r) (λ p q. share-off share s x.share p q)
-        (λ l. not-lt e x.at at h l)
+    (λ q r. share-back share s x.share q r) (λ p q. share-off share s x.share p q)
+    (λ l. not-lt e x.at at h l)
     ∙ ap (λ z. cond (shares share x.share) (cond (shares s x.share) (is_before x.other at) z) (nat_lt x.at at)) (sym (sooner-before e at x.other))
     ∙ ap (λ z. cond (shares share x.share) z (nat_lt x.at at)) (sym (before-cond (shares s x.share) x.other (sooner e x.other) at))
 
@@ -230,19 +230,19 @@ and-four false b c d = refl
 pub declared-clash : (d : Declaration) (ds : List Declaration) → list_any (clashes d) ds ≡ clash (earliest_from of_declaration d.scope d.name ds) d.at (construct_of d.how)
 declared-clash d ds =
     any-same (clashes d) (λ e. is_earlier d.scope d.name d.at (construct_of d.how) (of_declaration e))
-        (λ e. ap (λ b. is_named d.scope d.name e && (nat_lt e.at d.at && not b)) (share-is d.how e.how)) ds
+    (λ e. ap (λ b. is_named d.scope d.name e && (nat_lt e.at d.at && not b)) (share-is d.how e.how)) ds
     ∙ clash-is of_declaration d.scope d.name d.at (construct_of d.how) ds
 
 pub imported-clash : (names : Names) (s : ℕ) (name : List ℕ) (at : ℕ) (is : List NamedImport) → list_any (import_clashes s name at) is ≡ clash (earliest_from (of_import names) s name is) at None
 imported-clash names s name at is =
     any-same (import_clashes s name at) (λ i. is_earlier s name at None (of_import names i))
-        (λ i. and-grouped (nat_eq i.scope s) (bytes_eq i.name name) (nat_lt i.at at)) is
+    (λ i. and-grouped (nat_eq i.scope s) (bytes_eq i.name name) (nat_lt i.at at)) is
     ∙ clash-is (of_import names) s name at None is
 
 pub declared-before : (i : NamedImport) (ds : List Declaration) → list_any (declared_before i) ds ≡ clash (earliest_from of_declaration i.scope i.name ds) i.at None
 declared-before i ds =
     any-same (declared_before i) (λ d. is_earlier i.scope i.name i.at None (of_declaration d))
-        (λ d. and-true (is_named i.scope i.name d) (nat_lt d.at i.at)) ds
+    (λ d. and-true (is_named i.scope i.name d) (nat_lt d.at i.at)) ds
     ∙ clash-is of_declaration i.scope i.name i.at None ds
 
 -- imports from one package
@@ -261,8 +261,8 @@ pub other-import : (names : Names) (i : NamedImport) (n : ℕ) (is : List NamedI
     → list_any (other_import i) is ≡ clash (earliest_from (of_import names) i.scope i.name is) i.at (number_in names i.source)
 other-import names i n is has =
     any-same (other_import i) (λ j. is_earlier i.scope i.name i.at (number_in names i.source) (of_import names j))
-        (λ j. and-four (nat_eq j.scope i.scope) (bytes_eq j.name i.name) (nat_lt j.at i.at) (not (bytes_eq i.source j.source))
-            ∙ ap (λ b. (nat_eq j.scope i.scope && bytes_eq j.name i.name) && (nat_lt j.at i.at && not b)) (same-source names i.source j.source n has)) is
+    (λ j. and-four (nat_eq j.scope i.scope) (bytes_eq j.name i.name) (nat_lt j.at i.at) (not (bytes_eq i.source j.source))
+    ∙ ap (λ b. (nat_eq j.scope i.scope && bytes_eq j.name i.name) && (nat_lt j.at i.at && not b)) (same-source names i.source j.source n has)) is
     ∙ clash-is (of_import names) i.scope i.name i.at (number_in names i.source) is
 
 -- a declaration or an import of a name that its scope has already
@@ -326,7 +326,7 @@ kept-number names slots scope s name q at n share None has e = elim (true_or_fal
 kept-number names slots scope s name q at n share (Some m) has e =
     ap (λ b. if (nat_eq scope s && b) then Some (with_one at share (slots (scope, n))) else slots (s, m)) (same-number names.names.keys name q n m has e)
     ∙ kept-test slots scope s n m at share (nat_eq scope s && bytes_eq name q)
-        (λ h. same-place names scope s n m name q (nat_eq scope s) (bytes_eq name q) has e h refl refl)
+    (λ h. same-place names scope s n m name q (nat_eq scope s) (bytes_eq name q) has e h refl refl)
 
 pub kept-add : (names : Names) (before after : Clashes) (scope : ℕ) (name : List ℕ) (at : ℕ) (share : Option ℕ) (n : ℕ) → number_in names name ≡ Some n
     → kept_in after ≡ keep (kept_in before) scope n (with_one at share (kept_in before (scope, n))) → Adds names before after scope name at share

@@ -42,7 +42,7 @@ joined-joined (Some a) None c = refl
 joined-joined (Some a) (Some b) None = refl
 joined-joined (Some a) (Some b) (Some c) =
     ap Some (three a b c (is_less b a) (is_less c b) (is_less c a)
-        (λ h k. less-less a b c h k) (λ h k. not-less a b c h k) refl refl refl)
+    (λ h k. less-less a b c h k) (λ h k. not-less a b c h k) refl refl refl)
 
 joined-none : (a : Option Break) → joined a None ≡ a
 joined-none None = refl
@@ -118,19 +118,19 @@ pub all-is : (ts : List Token) (t : Table) (es : List Event) (c : Option Break) 
 unfolding all_breaks
 all-is ts t es c is =
     ap (λ o. joined (least_over (use_breaks ts t) None t.uses) o)
-        (ap (λ o. joined (least_over (import_breaks ts t) None t.named) o)
-            (ap (λ o. joined (least_over (wildcard_breaks ts t) None t.wildcards) o)
-                (joined-joined (least_over (declaration_breaks t) None t.declared) (least_over (repeated_import_breaks t) None t.named) _
-                ∙ ap (λ o. joined (least_over (declaration_breaks t) None t.declared) o)
-                    (ap (λ o. joined (least_over (repeated_import_breaks t) None t.named) o)
-                        (ap (λ o. joined (least_over (event_breaks ts t) None es) o)
-                            (ap (λ o. joined o c) (kept-is ts) ∙ ap (λ o. joined (least (kept_breaks 0 ts)) o) is
-                            ∙ sym (least-append (kept_breaks 0 ts) (calls_breaks ts t)))
-                        ∙ over-append (event_breaks ts t) es _)
-                    ∙ over-append (repeated_import_breaks t) t.named _)
-                ∙ over-append (declaration_breaks t) t.declared _)
-            ∙ over-append (wildcard_breaks ts t) t.wildcards _)
-        ∙ over-append (import_breaks ts t) t.named _)
+    (ap (λ o. joined (least_over (import_breaks ts t) None t.named) o)
+    (ap (λ o. joined (least_over (wildcard_breaks ts t) None t.wildcards) o)
+    (joined-joined (least_over (declaration_breaks t) None t.declared) (least_over (repeated_import_breaks t) None t.named) _
+    ∙ ap (λ o. joined (least_over (declaration_breaks t) None t.declared) o)
+    (ap (λ o. joined (least_over (repeated_import_breaks t) None t.named) o)
+    (ap (λ o. joined (least_over (event_breaks ts t) None es) o)
+    (ap (λ o. joined o c) (kept-is ts) ∙ ap (λ o. joined (least (kept_breaks 0 ts)) o) is
+    ∙ sym (least-append (kept_breaks 0 ts) (calls_breaks ts t)))
+    ∙ over-append (event_breaks ts t) es _)
+    ∙ over-append (repeated_import_breaks t) t.named _)
+    ∙ over-append (declaration_breaks t) t.declared _)
+    ∙ over-append (wildcard_breaks ts t) t.wildcards _)
+    ∙ over-append (import_breaks ts t) t.named _)
     ∙ over-append (use_breaks ts t) t.uses _
 
 -- the same by the parts that a search has found

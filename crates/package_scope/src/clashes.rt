@@ -290,14 +290,7 @@ fn declaration_break(taken: &Taken, table: &Table, declaration: &Declaration) ->
 {
     let at = declaration.at;
     let share = construct_of(declaration.how);
-    let broken = is_taken(
-        taken,
-        declaration.scope,
-        &declaration.name,
-        at,
-        share,
-        None,
-    );
+    let broken = is_taken(taken, declaration.scope, &declaration.name, at, share, None);
     break_if(broken, 402, at)
 }
 

@@ -89,9 +89,9 @@ impl<'t> NamedText<'t> {
     fn import_break(&self, import: &NamedImport) -> Option<Break>
         ensures { result ≡ means.least (means.import_breaks self.now.tokens.now self.now.names.now import.now) }
     {
-        let brought =
-            self.names()
-                .in_package(&import.source, import.source_at, &import.name, import.at);
+        let brought = self
+            .names()
+            .in_package(&import.source, import.source_at, &import.name, import.at);
         let absent = break_if(brought.is_none(), 401, import.at);
         self.package_break(import.source_at, absent)
     }

@@ -10,5 +10,5 @@ returns c =
     let x = c.args.taken.now in
     c.break_if.ensures
     ∙ ap (λ b. least (breaks_if b 402 d.at)) (c.is_taken-broken.ensures
-        ∙ ap (λ share. clash (kept_under x.names x.declared d.scope d.name) d.at share || clash (kept_under x.names x.imported d.scope d.name) d.at None) c.construct_of-share.ensures
-        ∙ declared-taken c.args.table.now x d c.requires)
+    ∙ ap (λ share. clash (kept_under x.names x.declared d.scope d.name) d.at share || clash (kept_under x.names x.imported d.scope d.name) d.at None) c.construct_of-share.ensures
+    ∙ declared-taken c.args.table.now x d c.requires)

@@ -9,4 +9,4 @@ returns c =
     let has : number_in c.args.names.now c.args.name.now ≡ Some c.in-Some.number = sym c.number.ensures ∙ c.in-Some.is in
     kept-add c.args.names.now c.args.self.now c.keep.new.self c.args.scope c.args.name.now c.args.token c.args.share c.in-Some.number has
     (c.in_ok-keep.ensures ∙ ap (λ e. keep (kept_in c.args.self.now) c.args.scope c.in-Some.number e)
-        (c.with_one-earliest.ensures ∙ ap (λ o. with_one c.args.token c.args.share o) c.find.ensures))
+    (c.with_one-earliest.ensures ∙ ap (λ o. with_one c.args.token c.args.share o) c.find.ensures))
