@@ -4,7 +4,10 @@ use Rattle.std.proofs.Math.Bool.{and-false, or-false}
 use Rattle.call_circles.specs.declared.calls.Call.{Call}
 use Rattle.call_circles.specs.declared.calls.Need.{Need}
 use Rattle.call_circles.specs.Calls.{is_broken, lesser_if, first_of, first_broken}
-use Rattle.package_scope.specs.Rules.{Break, breaks_if, lesser, least, call_breaks}
+use Rattle.package_scope.specs.declared.breaks.Break.{Break}
+use Rattle.package_scope.specs.declared.table.Table.{Table}
+use Rattle.sv_source.specs.declared.token.Token.{Token}
+use Rattle.package_scope.specs.Rules.{breaks_if, lesser, least, call_breaks, calls, needs, calls_breaks}
 
 abbrev pub call_break : ℕ → Break
 call_break at = record { at = at; rule = 609 }
@@ -30,3 +33,8 @@ least_of test (c ∷ cs) = with_call (test c) c.at (flat_map (λ (c : Call). bre
 
 pub call_breaks-first : (cs : List Call) (ns : List Need) → least (flat_map (call_breaks cs ns) cs) ≡ option_map call_break (first_broken cs ns)
 call_breaks-first cs ns = least_of (is_broken cs ns) cs
+
+pub calls-first : (ts : List Token) (t : Table) → least (calls_breaks ts t) ≡ option_map call_break (first_broken (calls ts t) (needs ts t))
+calls-first ts t = call_breaks-first (calls ts t) (needs ts t)
+
+pub ruleset calling = (calls-first)

@@ -1,4 +1,9 @@
 pub mod Slots
 pub mod Outwards
 pub mod Lists
+pub mod Orders
+pub mod Kept
+pub mod Around
+pub mod Clashing
 pub mod Calls
+pub mod Answering
