@@ -1,0 +1,3 @@
+pub mod Formals
+pub mod Narrowness
+pub mod Turns
