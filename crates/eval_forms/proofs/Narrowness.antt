@@ -1,5 +1,7 @@
 -- Operands are no wider than the whole.
-use Rattle.std.proofs.Common.{◌≡◌, ℕ, suc, ◌+◌, ◌<◌, ◌≤◌, Bool, List, [], ◌∷◌, map, drop, length, get_or, arith, ap, sym, ◌∙◌, subst}
+use Rattle.std.proofs.Common.{◌≡◌, ℕ, suc, ◌+◌, ◌<◌, ◌≤◌, Bool, List, [], ◌∷◌, ◌++◌, map, flat_map, zip, drop, length, get_or, Some, arith, ap, sym, ◌∙◌, subst}
+use Rattle.std.specs.Prelude.{slice_get}
+use Rattle.std.proofs.lemmas.Option.{slice_get_within, get_or_from_slice_get}
 use Rattle.std.proofs.Math.Seq.{drop-cons}
 use Rattle.std.proofs.Math.Numerals.{add-one}
 use Rattle.b4_core.specs.declared.operators.UnOp.{UnOp}
@@ -9,17 +11,24 @@ use Rattle.b4_core.specs.declared.operators.OrdOp.{OrdOp}
 use Rattle.b4_core.specs.declared.operators.EqOp.{EqOp}
 use Rattle.sv_types.specs.declared.expression.Expr.{Expr}
 use Rattle.sv_types.specs.declared.expression.Form.TheVariants as V
-use Rattle.sv_types.specs.Layouts.{Layout, layout}
-use Rattle.sv_types.specs.Meanings.{Meaning, Operand, by_itself, most}
+use Rattle.sv_types.specs.declared.expression.Choice.{Choice}
+use Rattle.sv_types.specs.declared.expression.Choice.TheVariants as C
+use Rattle.sv_types.specs.Layouts.{Layout, Part, layout}
+use Rattle.sv_types.specs.Meanings.{Meaning, Operand, by_itself, at_width, most}
 use Rattle.sv_types.specs.Operators as O
+use Rattle.sv_types.specs.Operators.{Alternative, inside_operands}
+use Rattle.sv_types.proofs.Levels.{only, from-to}
 use Rattle.sv_types.specs.Paths as P
 use Rattle.sv_types.specs.Expressions.{meaning}
+use Rattle.eval_parts.specs.Insides.{alternative}
+use Rattle.eval_parts.specs.Targets.{marks_of_parts, marks_of_formals}
+use Rattle.eval_parts.proofs.Insides as I
 use Rattle.eval_parts.proofs.Steps as S
 use Rattle.eval_parts.proofs.Lists as Q
 use Rattle.eval_parts.proofs.Assigned as A
 use Rattle.eval_parts.proofs.Selecting as F
 use Rattle.eval_parts.proofs.Streaming as T
-use Rattle.eval_forms.specs.Narrow.{AllNarrowOperands}
+use Rattle.eval_forms.specs.Narrow.{AllNarrowOperands, AllNarrowAt, IsNarrowAlternative, ChoiceIsNarrow, AllChoicesNarrow}
 
 abbrev Narrow : Meaning → Type 0
 Narrow m = m.widest ≤ 4194304
@@ -27,8 +36,16 @@ Narrow m = m.widest ≤ 4194304
 at-front : {A : Type 0} (xs : List A) (i : ℕ) (x : A) → i < length xs → x ≡ get_or xs i x → drop i xs ≡ x ∷ drop (i + 1) xs
 at-front xs i x h is = drop-cons xs i x h ∙ ap (λ y. y ∷ drop (suc i) xs) (sym is) ∙ ap (λ k. x ∷ drop k xs) (sym (add-one i))
 
-pub next-narrow : (es : List Expr) (i : ℕ) (e : Expr) → i < length es → e ≡ get_or es i e → AllNarrowOperands (drop i es) → AllNarrowOperands (drop (i + 1) es)
-next-narrow es i e h is f = (subst AllNarrowOperands (at-front es i e h is) f).1
+pub narrow-at : (ps : List (List Bool)) (i : ℕ) (es : List Expr) (e : Expr) (p : List Bool) → i < length es → e ≡ get_or es i e → slice_get ps i ≡ Some p → AllNarrowAt (drop i ps) (drop i es)
+    → ((meaning e).widest ≤ 4194304) × AllNarrowAt (drop (i + 1) ps) (drop (i + 1) es)
+narrow-at ps i es e p h is there f =
+    subst (λ ys. AllNarrowAt (p ∷ drop (i + 1) ps) ys) (at-front es i e h is)
+    (subst (λ qs. AllNarrowAt qs (drop i es)) (at-front ps i p (slice_get_within ps i p there) (sym (get_or_from_slice_get ps i p p there))) f)
+
+pub at-places : (ps : List (List Bool)) (es : List Expr) → AllNarrowOperands es → AllNarrowAt ps es
+at-places [] es f = tt
+at-places (p ∷ ps) [] f = tt
+at-places (p ∷ ps) (e ∷ es) f = (f.0, at-places ps es f.1)
 
 in-Unary-x : (of : Layout) (at : ℕ) (op : UnOp) (mx : Meaning) → Narrow (O.unary of at op mx) → Narrow mx
 unfolding O.unary
@@ -229,3 +246,38 @@ in-Call of at n es h = all-narrow es (omega arith)
 
 pub narrow-Call : (e : Expr) (n : ℕ) (es : List Expr) → e.form ≡ V.Call n es → (meaning e).widest ≤ 4194304 → AllNarrowOperands es
 narrow-Call e n es is h = in-Call (layout e.of) e.spot.at n es (subst Narrow (A.same-Call e n es is) h)
+
+items-narrow : (ps : List Part) (es : List Expr) → most (map (λ (p : Operand). p.of.widest) (map (λ p. at_width (O.assigned_width p.0.two_state p.1) p.1) (zip ps (map meaning es)))) ≤ 4194304 → AllNarrowAt (marks_of_parts ps) es
+items-narrow [] es h = tt
+items-narrow (p ∷ ps) [] h = tt
+items-narrow (p ∷ ps) (e ∷ es) h = (omega arith, items-narrow ps es (omega arith))
+
+in-Pattern : (of : Layout) (at : ℕ) (es : List Expr) → Narrow (O.pattern of at (map meaning es)) → AllNarrowAt (marks_of_parts (O.parts_of of)) es
+unfolding O.pattern
+in-Pattern of at es h = items-narrow (O.parts_of of) es (omega arith)
+
+pub narrow-Pattern : (e : Expr) (es : List Expr) → e.form ≡ V.Pattern es → (meaning e).widest ≤ 4194304 → AllNarrowAt (marks_of_parts (O.parts_of (layout e.of))) es
+narrow-Pattern e es is h = in-Pattern (layout e.of) e.spot.at es (subst Narrow (A.same-Pattern e es is) h)
+
+-- alternatives
+one-narrow : (m : Meaning) (a : Alternative) (rest : List Operand) → most (map (λ (p : Operand). p.of.widest) (inside_operands m a ++ rest)) ≤ 4194304
+    → IsNarrowAlternative a × (most (map (λ (p : Operand). p.of.widest) rest) ≤ 4194304)
+one-narrow m (Alternative.Only v) rest h = (omega arith, omega arith)
+one-narrow m (Alternative.From low high) rest h = ((omega arith, omega arith), omega arith)
+
+choices-narrow : (m : Meaning) (cs : List Choice) → most (map (λ (p : Operand). p.of.widest) (flat_map (inside_operands m) (map alternative cs))) ≤ 4194304 → AllChoicesNarrow cs
+choices-narrow m [] h = tt
+choices-narrow m (c ∷ cs) h = let k = one-narrow m (alternative c) (flat_map (inside_operands m) (map alternative cs)) h in (k.0, choices-narrow m cs k.1)
+
+in-Inside : (of : Layout) (at : ℕ) (m : Meaning) (cs : List Choice) → Narrow (O.inside of at m (map alternative cs)) → Narrow m × AllChoicesNarrow cs
+unfolding O.inside
+in-Inside of at m cs h = (omega arith, choices-narrow m cs (omega arith))
+
+pub narrow-Inside : (e x : Expr) (cs : List Choice) → e.form ≡ V.Inside x cs → (meaning e).widest ≤ 4194304 → ((meaning x).widest ≤ 4194304) × AllChoicesNarrow cs
+narrow-Inside e x cs is h = in-Inside (layout e.of) e.spot.at (meaning x) cs (subst Narrow (I.same-Inside e x cs is) h)
+
+pub narrow-value : (c : Choice) (v : Expr) → c ≡ C.Value v → ChoiceIsNarrow c → (meaning v).widest ≤ 4194304
+narrow-value c v is h = subst IsNarrowAlternative (ap alternative is ∙ only v) h
+
+pub narrow-range : (c : Choice) (low high : Expr) → c ≡ C.Range low high → ChoiceIsNarrow c → ((meaning low).widest ≤ 4194304) × ((meaning high).widest ≤ 4194304)
+narrow-range c low high is h = subst IsNarrowAlternative (ap alternative is ∙ from-to low high) h

@@ -3,9 +3,9 @@
 #![tactic(auto)]
 
 mod asked;
+mod asking;
 mod callees;
-mod operands;
 
 pub use asked::{Ask, Operand};
+pub use asking::operands;
 pub use callees::formals_of;
-pub use operands::operands;

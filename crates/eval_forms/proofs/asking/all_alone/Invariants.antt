@@ -1,7 +1,7 @@
 use Rattle.std.proofs.Common.{◌≡◌, ◌++◌, map, drop}
 use Rattle.eval_forms.specs.Asked.{asked, alone_asked}
 use Rattle.eval_forms.specs.Narrow.{AllNarrowOperands}
-use Rattle.eval_forms.proofs.operands.all_alone.Given as goal
+use Rattle.eval_forms.proofs.asking.all_alone.Given as goal
 
 abbrev pub invariant-loop-e : goal.invariant-loop-e
 invariant-loop-e l = record {

@@ -8,7 +8,7 @@ ghost use Rattle.sv_types.specs.Layouts.{layout, width_of};
 ghost use Rattle.eval_parts.specs.Targets.{marks_of, marks_of_formals, AreNarrow};
 ghost use Rattle.eval_forms.specs.Asked.{asked, alone_asked, bits_asked, compared_asked, assigned_asked, choice_asked, again_compared, form_asked};
 ghost use Rattle.eval_forms.specs.Callees.{formals_in, AllFunctionsFit};
-ghost use Rattle.eval_forms.specs.Narrow.{AllNarrowOperands, ChoiceIsNarrow, AllChoicesNarrow};
+ghost use Rattle.eval_forms.specs.Narrow.{AllNarrowOperands, AllNarrowAt, ChoiceIsNarrow, AllChoicesNarrow};
 
 use crate::asked::{Operand, again, alone, beside, bits, one, place, three, two};
 use crate::callees::formals_of;
@@ -35,7 +35,7 @@ fn all_assigned<'a>(
     es: &'a [Expr],
 ) -> Result<Vec<Operand<'a>>, AllocError>
     requires places { AreNarrow places.now }
-    requires narrow { AllNarrowOperands es.now }
+    requires narrow { AllNarrowAt (marks_of places.now) es.now }
     ensures { IfOk result (λ v. map asked v.items ≡ assigned_asked (marks_of places.now) es.now) }
 {
     let mut all = Vec::with_capacity(alloc, es.len())?;

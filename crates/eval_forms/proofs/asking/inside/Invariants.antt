@@ -2,7 +2,7 @@ use Rattle.std.proofs.Common.{◌≡◌, ◌∷◌, ◌++◌, map, flat_map, dro
 use Rattle.sv_types.specs.declared.expression.Choice.{out-Choice}
 use Rattle.eval_forms.specs.Asked.{asked, alone_asked, choice_asked}
 use Rattle.eval_forms.specs.Narrow.{AllChoicesNarrow}
-use Rattle.eval_forms.proofs.operands.inside.Given as goal
+use Rattle.eval_forms.proofs.asking.inside.Given as goal
 
 abbrev pub invariant-loop-choice : goal.invariant-loop-choice
 invariant-loop-choice l = record {
