@@ -1,3 +1,4 @@
 pub mod Formals
 pub mod Narrowness
+pub mod Strict
 pub mod Turns

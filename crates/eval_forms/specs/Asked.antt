@@ -102,3 +102,13 @@ sign_asked A.Place m = signed m
 -- the operands of an expression of which this is asked
 abbrev pub operands_asked : (ℕ → List Parameter) → Expr → Ask → List Asked
 operands_asked fs e ask = form_asked (layout e.of) fs (width_asked ask (meaning e)) (sign_asked ask (meaning e)) (out-Form e.form)
+
+-- what it takes to value what is asked: nothing where it was valued before, and of a path its indices
+abbrev pub effort_asked : Expr → Ask → Around → Tally → Tally
+effort_asked e (A.Bits w s) a t = (meaning e).values a t
+effort_asked e (A.Again w s) a t = t
+effort_asked e A.Place a t = places_from (meaning e).root (meaning e) a t
+
+abbrev pub values_asked : List Asked → Around → Tally → Tally
+values_asked [] a t = t
+values_asked (q ∷ qs) a t = onward (values_asked qs a) (effort_asked q.of q.ask a t)
