@@ -1,5 +1,5 @@
 -- What an expression asks of its direct operands, in the order in which they are valued.
-use Rattle.std.specs.Prelude.{◌≡◌, ℕ, max, Bool, List, [], ◌∷◌, ◌++◌, map, flat_map, zip, length, Option, Some, None}
+use Rattle.std.specs.Prelude.{⊤, ℕ, max, Bool, List, [], ◌∷◌, ◌++◌, map, flat_map, zip, length, Option, Some, None}
 use Rattle.b4_core.specs.declared.bit.Bit4.{Bit4}
 use Rattle.sv_types.specs.declared.expression.Expr.{Expr}
 use Rattle.sv_types.specs.declared.expression.Form.{Form, Form-F, out-Form}
@@ -10,6 +10,7 @@ use Rattle.sv_types.specs.Meanings.{Meaning, wide, signed}
 use Rattle.sv_types.specs.Operators.{both_wide, both_signed, assigned_width, parts_of}
 use Rattle.sv_types.specs.Paths.{places_from}
 use Rattle.sv_types.specs.Expressions.{meaning}
+use Rattle.eval_parts.specs.Limits.{Fits}
 use Rattle.eval_parts.specs.Targets.{marks_of_parts, marks_of_formals}
 use Rattle.eval_forms.specs.declared.asked.Ask.{Ask}
 use Rattle.eval_forms.specs.declared.asked.Ask.TheVariants as A
@@ -112,3 +113,18 @@ effort_asked e A.Place a t = places_from (meaning e).root (meaning e) a t
 abbrev pub values_asked : List Asked → Around → Tally → Tally
 values_asked [] a t = t
 values_asked (q ∷ qs) a t = onward (values_asked qs a) (effort_asked q.of q.ask a t)
+
+-- the bits that are asked, and how many they are
+abbrev pub bits_of : Asked → Around → List Bit4
+bits_of q a = (meaning q.of).value (width_asked q.ask (meaning q.of)) (sign_asked q.ask (meaning q.of)) a
+
+abbrev pub all_bits : List Asked → Around → List (List Bit4)
+all_bits qs a = map (λ q. bits_of q a) qs
+
+abbrev pub widths_asked : List Asked → List ℕ
+widths_asked qs = map (λ q. width_asked q.ask (meaning q.of)) qs
+
+-- each operand fits at its width
+abbrev pub AllFitAsked : (ℕ → List Parameter) → List Asked → Type 0
+AllFitAsked fs [] = ⊤
+AllFitAsked fs (q ∷ qs) = Fits (meaning q.of) fs (width_asked q.ask (meaning q.of)) × AllFitAsked fs qs
