@@ -1,3 +1,4 @@
+pub mod Combined
 pub mod Formals
 pub mod FormValues
 pub mod Narrowness

@@ -1,5 +1,5 @@
 -- What an expression asks of its direct operands, in the order in which they are valued.
-use Rattle.std.specs.Prelude.{⊤, ℕ, max, Bool, List, [], ◌∷◌, ◌++◌, map, flat_map, zip, length, Option, Some, None}
+use Rattle.std.specs.Prelude.{◌≡◌, ⊤, ℕ, max, Bool, List, [], ◌∷◌, ◌++◌, map, flat_map, zip, length, Option, Some, None}
 use Rattle.b4_core.specs.declared.bit.Bit4.{Bit4}
 use Rattle.sv_types.specs.declared.expression.Expr.{Expr}
 use Rattle.sv_types.specs.declared.expression.Form.{Form, Form-F, out-Form}
@@ -128,3 +128,13 @@ widths_asked qs = map (λ q. width_asked q.ask (meaning q.of)) qs
 abbrev pub AllFitAsked : (ℕ → List Parameter) → List Asked → Type 0
 AllFitAsked fs [] = ⊤
 AllFitAsked fs (q ∷ qs) = Fits (meaning q.of) fs (width_asked q.ask (meaning q.of)) × AllFitAsked fs qs
+
+-- bits of this many places for the operands of an expression that fits at a width
+pub record Operands (e : Expr) (w : ℕ) (s : Bool) (vs : List (List Bit4)) : Type 0 where
+  pub formals : ℕ → List Parameter
+  pub fits : Fits (meaning e) formals w
+  pub lengths : map length vs ≡ widths_asked (form_asked (layout e.of) formals w s (out-Form e.form))
+
+-- the value of an expression, by the values of its operands
+pub record Combines (e : Expr) (w : ℕ) (s : Bool) (vs : List (List Bit4)) (r : List Bit4) : Type 0 where
+  pub value : (fs : ℕ → List Parameter) (a : Around) → vs ≡ all_bits (form_asked (layout e.of) fs w s (out-Form e.form)) a → r ≡ (meaning e).value w s a

@@ -5,7 +5,9 @@
 mod asked;
 mod asking;
 mod callees;
+mod combining;
 
 pub use asked::{Ask, Operand};
 pub use asking::operands;
 pub use callees::formals_of;
+pub use combining::combine;
