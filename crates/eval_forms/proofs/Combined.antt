@@ -1,5 +1,5 @@
 -- Operators are made of the values of their operands.
-use Rattle.std.proofs.Common.{◌≡◌, ℕ, ◌<◌, ◌≤◌, Bool, false, cond, length, List, [], ◌∷◌, map, get_or, refl, arith, ap, sym, ◌∙◌, subst}
+use Rattle.std.proofs.Common.{◌≡◌, ℕ, ◌<◌, ◌≤◌, Bool, false, cond, length, List, [], ◌∷◌, map, get_or, arith, ap, sym, ◌∙◌}
 use Rattle.b4_core.specs.declared.bit.Bit4.{Bit4}
 use Rattle.b4_core.specs.declared.operators.UnOp.{UnOp}
 use Rattle.b4_core.specs.declared.operators.BinOp.{BinOp}
@@ -17,11 +17,9 @@ use Rattle.b4_core.specs.Power.{power_value}
 use Rattle.b4_core.specs.Reduce.{reduction}
 use Rattle.b4_core.specs.Compare.{order_value, equality}
 use Rattle.sv_types.specs.declared.expression.Expr.{Expr}
-use Rattle.sv_types.specs.declared.expression.Form.{Form, Form-F, out-Form}
+use Rattle.sv_types.specs.declared.expression.Form.{Form-F}
 use Rattle.sv_types.specs.declared.expression.Form.TheVariants as V
-use Rattle.sv_types.specs.declared.expression.Choice.{Choice}
 use Rattle.sv_types.specs.Layouts.{layout, width_of, stored, stacked, repeated}
-use Rattle.sv_types.specs.Surroundings.{Around}
 use Rattle.sv_types.specs.Meanings.{wide, signed}
 use Rattle.sv_types.specs.Operators as O
 use Rattle.sv_types.specs.Operators.{both_wide, both_signed}

@@ -17,9 +17,8 @@ use Rattle.b4_core.specs.Power.{power_value}
 use Rattle.b4_core.specs.Reduce.{reduction}
 use Rattle.b4_core.specs.Compare.{order_value, equality}
 use Rattle.sv_types.specs.declared.expression.Expr.{Expr}
-use Rattle.sv_types.specs.declared.expression.Form.{Form, Form-F, out-Form}
+use Rattle.sv_types.specs.declared.expression.Form.{Form-F, out-Form}
 use Rattle.sv_types.specs.declared.expression.Form.TheVariants as V
-use Rattle.sv_types.specs.declared.expression.Choice.{Choice}
 use Rattle.sv_types.specs.Layouts.{Layout, layout, stored, stacked, repeated}
 use Rattle.sv_types.specs.Surroundings.{Around, Parameter}
 use Rattle.sv_types.specs.Meanings.{Meaning, wide, signed}

@@ -6,7 +6,7 @@ use Rattle.sv_types.specs.declared.statement.Function.{Function}
 use Rattle.sv_types.specs.Surroundings.{Callee}
 use Rattle.sv_types.specs.Functions.{parameter, callee_of, callee_or_absent, callees_within, not_run}
 use Rattle.eval_parts.specs.Targets.{AllNarrow}
-use Rattle.eval_forms.specs.Callees.{FunctionFits, AllFunctionsFit, formals_in, formals_or_none}
+use Rattle.eval_forms.specs.Callees.{AllFunctionsFit, formals_in, formals_or_none}
 
 within-zero : (fs : List Function) (n : ℕ) → callees_within zero fs n ≡ callee_or_absent not_run (slice_get fs n)
 unfolding callees_within

@@ -21,7 +21,7 @@ use Rattle.sv_types.proofs.Levels.{only, from-to}
 use Rattle.sv_types.specs.Paths as P
 use Rattle.sv_types.specs.Expressions.{meaning}
 use Rattle.eval_parts.specs.Insides.{alternative}
-use Rattle.eval_parts.specs.Targets.{marks_of_parts, marks_of_formals}
+use Rattle.eval_parts.specs.Targets.{marks_of_parts}
 use Rattle.eval_parts.proofs.Insides as I
 use Rattle.eval_parts.proofs.Steps as S
 use Rattle.eval_parts.proofs.Lists as Q

@@ -1,6 +1,5 @@
 -- Each operand of a form that fits, fits; and has fewer nodes.
-use Rattle.std.proofs.Common.{◌≡◌, ℕ, ◌<◌, ◌≤◌, Bool, List, [], ◌∷◌, map, arith, ap, sym, ◌∙◌, subst}
-use Rattle.b4_core.specs.declared.bit.Bit4.{Bit4}
+use Rattle.std.proofs.Common.{◌≡◌, ℕ, Bool, List, [], ◌∷◌, map, subst}
 use Rattle.b4_core.specs.declared.operators.UnOp.{UnOp}
 use Rattle.b4_core.specs.declared.operators.BinOp.{BinOp}
 use Rattle.b4_core.specs.declared.operators.RedOp.{RedOp}
@@ -8,16 +7,14 @@ use Rattle.b4_core.specs.declared.operators.ShiftOp.{ShiftOp}
 use Rattle.b4_core.specs.declared.operators.OrdOp.{OrdOp}
 use Rattle.b4_core.specs.declared.operators.EqOp.{EqOp}
 use Rattle.sv_types.specs.declared.expression.Expr.{Expr}
-use Rattle.sv_types.specs.declared.expression.Form.{Form, Form-F, out-Form}
+use Rattle.sv_types.specs.declared.expression.Form.{Form-F, out-Form}
 use Rattle.sv_types.specs.declared.expression.Form.TheVariants as V
-use Rattle.sv_types.specs.declared.expression.Choice.{Choice}
 use Rattle.sv_types.specs.Layouts.{layout}
 use Rattle.sv_types.specs.Surroundings.{Parameter}
-use Rattle.sv_types.specs.Meanings.{Meaning, total}
 use Rattle.sv_types.specs.Operators.{parts_of}
 use Rattle.sv_types.specs.Expressions.{meaning}
 use Rattle.eval_parts.specs.Limits.{Fits, AllFit, AllFitAt}
-use Rattle.eval_parts.specs.Targets.{marks_of_parts, marks_of_formals}
+use Rattle.eval_parts.specs.Targets.{marks_of_parts}
 use Rattle.eval_parts.proofs.Steps as S
 use Rattle.eval_parts.proofs.Lists as Q
 use Rattle.eval_parts.proofs.Assigned as A

@@ -1,5 +1,5 @@
 -- What an expression asks of its direct operands, in the order in which they are valued.
-use Rattle.std.specs.Prelude.{◌≡◌, ⊤, ℕ, max, Bool, List, [], ◌∷◌, ◌++◌, map, flat_map, zip, length, Option, Some, None}
+use Rattle.std.specs.Prelude.{◌≡◌, ⊤, ℕ, Bool, List, [], ◌∷◌, ◌++◌, map, flat_map, zip, length}
 use Rattle.b4_core.specs.declared.bit.Bit4.{Bit4}
 use Rattle.sv_types.specs.declared.expression.Expr.{Expr}
 use Rattle.sv_types.specs.declared.expression.Form.{Form, Form-F, out-Form}

@@ -1,4 +1,4 @@
-use Rattle.std.proofs.Common.{◌≡◌, ◌+◌, ◌∷◌, ◌++◌, [], max, map, drop, length, ap, ◌∙◌, arith}
+use Rattle.std.proofs.Common.{◌∷◌, [], max, map, drop, ap, ◌∙◌, arith}
 use Rattle.std.proofs.lemmas.List.{map-append}
 use Rattle.sv_types.specs.Layouts.{layout, width_of}
 use Rattle.sv_types.specs.Meanings.{wide}

@@ -1,4 +1,4 @@
-use Rattle.std.proofs.Common.{◌≡◌, ◌∷◌, [], length, ap, sym, ◌∙◌}
+use Rattle.std.proofs.Common.{◌∷◌, [], length, ap, sym, ◌∙◌}
 use Rattle.b4_core.specs.Bits.{and4, or4, not4}
 use Rattle.b4_core.specs.Bitwise.{truth_of}
 use Rattle.b4_core.specs.Vectors.{ext}
