@@ -1,5 +1,5 @@
 -- Operators are made of the values of their operands.
-use Rattle.std.proofs.Common.{◌≡◌, ℕ, ◌<◌, ◌≤◌, Bool, false, cond, length, List, [], ◌∷◌, map, get_or, arith, ap, sym, ◌∙◌}
+use Rattle.std.proofs.Common.{◌≡◌, ℕ, ◌<◌, ◌≤◌, Bool, false, cond, length, List, [], ◌∷◌, map, get_or, arith, ap, sym, ◌∙◌, ◌||◌, replicate, None}
 use Rattle.b4_core.specs.declared.bit.Bit4.{Bit4}
 use Rattle.b4_core.specs.declared.operators.UnOp.{UnOp}
 use Rattle.b4_core.specs.declared.operators.BinOp.{BinOp}
@@ -16,6 +16,8 @@ use Rattle.b4_core.specs.Shift.{shift_value}
 use Rattle.b4_core.specs.Power.{power_value}
 use Rattle.b4_core.specs.Reduce.{reduction}
 use Rattle.b4_core.specs.Compare.{order_value, equality}
+use Rattle.sv_types.specs.declared.types.Value.{Value}
+use Rattle.sv_types.specs.Values.{bits}
 use Rattle.sv_types.specs.declared.expression.Expr.{Expr}
 use Rattle.sv_types.specs.declared.expression.Form.{Form-F}
 use Rattle.sv_types.specs.declared.expression.Form.TheVariants as V
@@ -26,7 +28,7 @@ use Rattle.sv_types.specs.Operators.{both_wide, both_signed}
 use Rattle.sv_types.specs.Expressions.{meaning}
 use Rattle.sv_types.proofs.Widths.{wide-widest}
 use Rattle.eval_parts.proofs.Steps as T
-use Rattle.eval_parts.proofs.Lists.{own-narrow}
+use Rattle.eval_parts.proofs.Lists.{own-narrow, fill-done, constant-done}
 use Rattle.eval_forms.specs.Asked.{Operands, Combines, widths_asked}
 use Rattle.eval_forms.proofs.FormValues as F
 use Rattle.eval_forms.proofs.Strict as S
@@ -188,3 +190,13 @@ ready-Clog2 e x w s vs v is o is0 =
     let narrow = (T.clog2-fits-x e x o.formals w is o.fits).narrow in
     let wide = wide-widest x in
     omega (arith, length-first vs v (length (meaning x).of.two_state) [] (lens-Clog2 e x w s vs is o) is0)
+
+-- numbers and constants have no operands
+pub combines-Literal : (e : Expr) (v : List Bit4) (goes_on : Bool) (w : ℕ) (s : Bool) (vs : List (List Bit4)) (r : List Bit4) → e.form ≡ V.Literal v goes_on → r ≡ ext w (goes_on || s) v → Combines e w s vs r
+combines-Literal e v goes_on w s vs r is made = record { value = λ fs a h. (T.literal-done e v r goes_on w s a None is made).0 }
+
+pub combines-Fill : (e : Expr) (b : Bit4) (w : ℕ) (s : Bool) (vs : List (List Bit4)) (r : List Bit4) → e.form ≡ V.Fill b → r ≡ replicate w b → Combines e w s vs r
+combines-Fill e b w s vs r is made = record { value = λ fs a h. (fill-done e b r w s a None is made).0 }
+
+pub combines-Constant : (e : Expr) (v : Value) (w : ℕ) (s : Bool) (vs : List (List Bit4)) (r : List Bit4) → e.form ≡ V.Constant v → r ≡ ext w s (bits v) → Combines e w s vs r
+combines-Constant e v w s vs r is made = record { value = λ fs a h. (constant-done e v r w s a None is made).0 }

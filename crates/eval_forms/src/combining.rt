@@ -1,18 +1,18 @@
-//! The value of an operator from the values of its operands.
+//! The value of a form from the values of its operands.
 
 ghost use Rattle.std.specs.Prelude.{IfOk, IfSome};
 ghost use Rattle.eval_forms.specs.Asked.{Operands, Combines};
 
 use b4_core::{Vec4, binary, both, either, negate, order, power, reduce, shift, truth, unary};
 use eval_parts::{
-    are_signed, chosen, clog2, converted, equality_bit, in_context, one_bit, own_sign,
-    repeated_in_context, stream_in_context,
+    are_signed, chosen, clog2, converted, equality_bit, extended, filled, in_context, literal,
+    one_bit, own_sign, repeated_in_context, stream_in_context,
 };
 use std::alloc::{AllocError, Global};
-use sv_types::{Expr, Form};
+use sv_types::{Expr, Form, bits_of};
 
-/// The value of an operator, a concatenation, a stream, a cast or `$clog2` at a width and a sign, from the values of its
-/// operands in order, as they were asked; none of any other form.
+/// The value of a number or a constant, an operator, a concatenation, a stream, a cast or `$clog2` at a width and a sign, from
+/// the values of its operands in order, as they were asked; none of a select path, `inside`, an assignment pattern or a call.
 pub fn combine(
     alloc: Global,
     e: &Expr,
@@ -24,9 +24,14 @@ pub fn combine(
     ensures { IfOk result (λ o. IfSome o (λ r. Combines e.now width signed values.now r)) }
 {
     match &e.form {
-        Form::Literal { .. } => Ok(None),
-        Form::Fill(_) => Ok(None),
-        Form::Constant(_) => Ok(None),
+        Form::Literal { bits, goes_on } => {
+            Ok(Some(literal(alloc, bits, *goes_on, width, signed)?))
+        }
+        Form::Fill(b) => Ok(Some(filled(alloc, width, *b)?)),
+        Form::Constant(v) => {
+            let held = bits_of(alloc, &e.of, v)?;
+            Ok(Some(extended(alloc, &held, width, signed)?))
+        }
         Form::Signal(_) => Ok(None),
         Form::Local(_) => Ok(None),
         Form::Member(_, _) => Ok(None),

@@ -103,3 +103,14 @@ returns-in_ok-clog2-in-Clog2 c = C.combines-Clog2 c.args.e.now _ c.args.width c.
 
 pub returns-in_ok-stream_in_context-in-Stream : goal.returns-in_ok-stream_in_context-in-Stream
 returns-in_ok-stream_in_context-in-Stream c = C.combines-Stream c.args.e.now _ _ _ c.args.width c.args.signed c.args.values.now c.in_ok-stream_in_context-in-Stream.field-0 c.in-Stream.is (c.in_ok-stream_in_context-in-Stream.ensures)
+
+pub returns-in_ok-literal-in-Literal : goal.returns-in_ok-literal-in-Literal
+returns-in_ok-literal-in-Literal c = C.combines-Literal c.args.e.now _ _ c.args.width c.args.signed c.args.values.now c.in_ok-literal-in-Literal.field-0 c.in-Literal.is c.in_ok-literal-in-Literal.ensures
+
+pub returns-in_ok-filled-in-Fill : goal.returns-in_ok-filled-in-Fill
+returns-in_ok-filled-in-Fill c = C.combines-Fill c.args.e.now _ c.args.width c.args.signed c.args.values.now c.in_ok-filled-in-Fill.field-0 c.in-Fill.is c.in_ok-filled-in-Fill.ensures
+
+pub returns-in_ok-extended-in-Constant : goal.returns-in_ok-extended-in-Constant
+returns-in_ok-extended-in-Constant c =
+    C.combines-Constant c.args.e.now _ c.args.width c.args.signed c.args.values.now c.in_ok-extended-in-Constant.field-0 c.in-Constant.is
+    (c.in_ok-extended-in-Constant.ensures ∙ ap (ext c.args.width c.args.signed) c.in_ok-held-in-Constant.ensures)
