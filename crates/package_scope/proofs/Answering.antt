@@ -1,5 +1,5 @@
 -- The least break of a tree, by its tokens, its events and their table.
-use Rattle.std.proofs.Common.{◌≡◌, ℕ, ◌-◌, List, length, Option, refl, sym, ap, ◌∙◌}
+use Rattle.std.proofs.Common.{◌≡◌, ◌-◌, List, length, Option, refl, sym, ap, ◌∙◌}
 use Rattle.sv_source.specs.declared.token.Token.{Token}
 use Rattle.sv_tree.specs.declared.units.SourceTree.{SourceTree}
 use Rattle.name_events.specs.declared.events.Event.{Event}

@@ -1,16 +1,15 @@
 -- One scope further out, and one type further on.
-use Rattle.std.proofs.Common.{◌≡◌, ℕ, zero, suc, ◌+◌, ◌⊎◌, Bool, true, false, ◌||◌, ◌&&◌, nat_eq, nat_lt, cond, List, [], ◌∷◌, Option, Some, None, refl, sym, ap, ◌∙◌, add-one, arith}
-use Rattle.std.specs.Prelude.{filter, ◌==◌, length}
+use Rattle.std.proofs.Common.{◌≡◌, ℕ, zero, suc, ◌+◌, Bool, true, false, ◌||◌, ◌&&◌, nat_eq, cond, List, [], ◌∷◌, Option, Some, None, refl, sym, ap, ◌∙◌, add-one, arith}
+use Rattle.std.specs.Prelude.{filter, length}
 use Rattle.std.specs.List.{list_any}
 use Rattle.std.proofs.lemmas.Bool.Decides.{nat_tests}
 use Rattle.sv_source.specs.declared.token.Token.{Token}
 use Rattle.name_events.specs.declared.events.Declared.{Declared}
 use Rattle.name_events.specs.declared.events.Declared.TheVariants as W
-use Rattle.name_events.specs.declared.events.Packedness.{Packedness}
 use Rattle.name_events.specs.declared.events.Packedness.TheVariants as P
 use Rattle.name_events.specs.declared.events.ScopeKind.{ScopeKind}
 use Rattle.package_scope.specs.Finding.{is_loop_of}
-use Rattle.package_scope.specs.Rules.{holds_at, around, encloses, runs_over, has_value, unpacked, unpacked_how, declaration_at}
+use Rattle.package_scope.specs.Rules.{holds_at, around, encloses, has_value, unpacked, unpacked_how, declaration_at}
 use Rattle.package_scope.specs.Tables.{outer}
 use Rattle.package_scope.specs.Walks.{gives_value, valued, packedness_of, packedness_in, unpacked_as}
 use Rattle.package_scope.specs.declared.table.Declaration.{Declaration}

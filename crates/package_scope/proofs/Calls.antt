@@ -1,5 +1,5 @@
 -- The least break of calls is the first broken call.
-use Rattle.std.proofs.Common.{◌≡◌, ℕ, Bool, true, false, ◌&&◌, ◌||◌, ◌==◌, nat_lt, cond, List, [], ◌∷◌, ◌++◌, flat_map, option_map, Option, Some, None, refl, ap, ◌∙◌}
+use Rattle.std.proofs.Common.{◌≡◌, ℕ, Bool, true, false, ◌||◌, ◌==◌, nat_lt, cond, List, [], ◌∷◌, ◌++◌, flat_map, option_map, Option, Some, None, refl, ap, ◌∙◌}
 use Rattle.std.proofs.Math.Bool.{and-false, or-false}
 use Rattle.call_circles.specs.declared.calls.Call.{Call}
 use Rattle.call_circles.specs.declared.calls.Need.{Need}

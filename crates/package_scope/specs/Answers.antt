@@ -1,5 +1,5 @@
 -- What the search for scopes answers.
-use Rattle.std.specs.Prelude.{◌≡◌, ℕ, List, Option, Some, None, Result, Ok, Err, slice_get, option_map}
+use Rattle.std.specs.Prelude.{◌≡◌, List, Option, Some, None, Result, Ok, Err, slice_get, option_map}
 use Rattle.sv_source.specs.declared.refusal.Fail.{Fail}
 use Rattle.sv_source.specs.declared.refusal.Fail.TheVariants.{Memory, Refused}
 use Rattle.sv_source.specs.declared.refusal.Refusal.{Refusal}

@@ -1,4 +1,4 @@
-use Rattle.std.proofs.Common.{◌-◌, length, ap, ◌∙◌, Option, ℕ, arith}
+use Rattle.std.proofs.Common.{◌-◌, ap, ◌∙◌, Option, ℕ, arith}
 use Rattle.package_scope.specs.Finding.{found_in}
 use Rattle.package_scope.specs.declared.table.Found.{Found}
 use Rattle.package_scope.proofs.Kept.{found-put, found-none}

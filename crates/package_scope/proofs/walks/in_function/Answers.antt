@@ -1,8 +1,8 @@
-use Rattle.std.proofs.Common.{◌≡◌, ◌+◌, ◌-◌, true, false, nat_eq, is_some, Some, None, ap, sym, ◌∙◌, arith}
+use Rattle.std.proofs.Common.{◌≡◌, ◌+◌, ◌-◌, false, nat_eq, is_some, ap, sym, ◌∙◌, arith}
 use Rattle.std.proofs.lemmas.Bool.Decides.{nat_tests}
-use Rattle.package_scope.specs.Rules.{holds_at, is_function_scope}
+use Rattle.package_scope.specs.Rules.{is_function_scope}
 use Rattle.package_scope.specs.Tables.{outer}
-use Rattle.package_scope.proofs.Around.{around-out, around-here, around-last}
+use Rattle.package_scope.proofs.Around.{around-out}
 use Rattle.package_scope.proofs.walks.in_function.Goals as goal
 
 pub loop-left-preserved : goal.loop-left-preserved

@@ -1,4 +1,4 @@
-use Rattle.std.proofs.Common.{◌≡◌, ℕ, ◌+◌, ◌-◌, ◌<◌, List, Option, Some, None, sym, ap, ◌∙◌, arith}
+use Rattle.std.proofs.Common.{◌≡◌, ℕ, ◌+◌, ◌-◌, ◌<◌, List, Option, Some, sym, ap, ◌∙◌, arith}
 use Rattle.sv_source.specs.declared.token.Token.{Token}
 use Rattle.name_events.specs.declared.events.Packedness.{Packedness}
 use Rattle.package_scope.specs.Rules.{declaration_at, unpacked}
