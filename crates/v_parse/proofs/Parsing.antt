@@ -1,16 +1,15 @@
 -- The reading of the tokens that are kept is the reading of the text.
-use Rattle.std.proofs.Common.{◌≡◌, ◌≤◌, ◌<◌, ◌^◌, ◌-◌, ◌==◌, ◌&&◌, not, ℕ, zero, suc, Bool, true, false, List, [], ◌∷◌, map, length, Option, Some, None, slice_get, refl, sym, ap, subst, ◌∙◌, arith, eq-eqb, drop, option_map, Result, Ok, Err}
+use Rattle.std.proofs.Common.{◌≡◌, ◌≤◌, ◌==◌, ◌&&◌, not, ℕ, zero, suc, Bool, true, false, List, [], ◌∷◌, map, length, Option, Some, None, slice_get, refl, sym, ap, subst, ◌∙◌, arith, eq-eqb, drop, option_map, Result, Ok, Err}
 use Rattle.std.proofs.lemmas.Bool.{false≢true}
 use Rattle.std.proofs.lemmas.List.{length-map}
 use Rattle.std.proofs.lemmas.Option.{slice_get-map, none-some, same_Some}
 use Rattle.ll_engine.specs.declared.table.Row.{Row}
 use Rattle.ll_engine.specs.declared.tree.Tree.{Tree, Tree-F, fold-Tree}
 use Rattle.ll_engine.specs.declared.tree.Tree.TheVariants.{Node}
-use Rattle.ll_engine.specs.declared.table.Part.{Part}
 use Rattle.ll_engine.specs.declared.table.Part.TheVariants.{Non}
 use Rattle.ll_engine.specs.Grammar.{IsRowOf}
-use Rattle.ll_engine.specs.Reading.{Nested, Reads, ended, symbol, taken, left_out, empty}
-use Rattle.ll_engine.specs.Texts.{IsText, IsReading, FailsAt, PassesAt}
+use Rattle.ll_engine.specs.Reading.{Nested, Reads, symbol, taken, left_out, empty}
+use Rattle.ll_engine.specs.Texts.{IsReading, FailsAt, PassesAt}
 use Rattle.ll_engine.specs.declared.fails.ParseFail.{ParseFail}
 use Rattle.ll_engine.specs.declared.fails.ParseFail.TheVariants.{Memory, NoText, Deep}
 use Rattle.v_tree.specs.Tokens.{Token, tokens}

@@ -1,11 +1,10 @@
 -- What the reading of a target text gives.
-use Rattle.std.specs.Prelude.{ℕ, ◌≡◌, List, map, Option, Some, None, Result, Ok, Err, slice_get}
+use Rattle.std.specs.Prelude.{ℕ, ◌≡◌, List, map, Result, Ok, Err}
 use Rattle.ll_engine.specs.declared.fails.ParseFail.{ParseFail}
 use Rattle.ll_engine.specs.declared.fails.ParseFail.TheVariants.{Memory, NoText, Deep}
 use Rattle.ll_engine.specs.declared.tree.Tree.{Tree}
 use Rattle.ll_engine.specs.Texts.{IsReading, FailsAt, PassesAt}
 use Rattle.v_lexer.specs.declared.token.VToken.{VToken}
-use Rattle.v_lexer.specs.Seen.{tokens_of}
 use Rattle.v_tree.specs.declared.items.VDesign.{VDesign}
 use Rattle.v_tree.specs.declared.parts.VPart.TheVariants as P
 use Rattle.v_tree.specs.Table.{table}
