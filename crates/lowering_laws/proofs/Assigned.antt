@@ -81,7 +81,7 @@ helper-alone two_state helper m x sc v helps given long =
     let f = sc.callee helper in
     ap (λ is. ext f.width false (f.run v (T.arguments is (m ∷ []) sc v))) helps.inputs
     ∙ ap (λ y. ext f.width false (f.run v (y ∷ []))) given
-    ∙ ap (ext f.width false) (helps.run v x)
+    ∙ ap (ext f.width false) (helps.run v x long)
     ∙ ext-at f.width false (stored two_state x) (length-stored two_state x long ∙ sym helps.width)
 
 pub call-width : (helper : Name) (ms : List T.Meaning) (sc : Scope) → (T.call helper ms).width sc ≡ (sc.callee helper).width

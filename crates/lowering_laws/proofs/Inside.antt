@@ -125,9 +125,9 @@ order-bit op e f a m n sc v h g = record {
 
 -- a value, compared by a helper
 pub wild-bit : (helper : Name) (m n : T.Meaning) (w : ℕ) (x y : List Bit4) (sc : Scope) (v : Valuation) → Matches w (sc.callee helper)
-    → T.given m w sc v ≡ x → T.given n w sc v ≡ y → IsBit (T.call helper (m ∷ n ∷ [])) (equality Wild x y) sc v
+    → length x ≡ w → length y ≡ w → T.given m w sc v ≡ x → T.given n w sc v ≡ y → IsBit (T.call helper (m ∷ n ∷ [])) (equality Wild x y) sc v
 unfolding T.call
-wild-bit helper m n w x y sc v helps first second =
+wild-bit helper m n w x y sc v helps left_long right_long first second =
     let f = sc.callee helper in
     record {
       width = helps.width;
@@ -135,7 +135,7 @@ wild-bit helper m n w x y sc v helps first second =
       value = λ c s.
           ap (λ is. ext c s (f.run v (T.arguments is (m ∷ n ∷ []) sc v))) helps.inputs
           ∙ (λ i. ext c s (f.run v (first i ∷ second i ∷ [])))
-          ∙ ap (ext c s) (helps.run v x y);
+          ∙ ap (ext c s) (helps.run v x y left_long right_long);
       steady = wild-steady x y;
     }
 

@@ -12,7 +12,7 @@ use Rattle.v_tree.specs.Names.{Name}
 use Rattle.v_meaning.specs.Scopes.{Scope}
 use Rattle.v_meaning.specs.Values as T
 use Rattle.lowering_laws.specs.Same.{Same}
-use Rattle.lowering_laws.specs.Helpers.{StandsFor, widths}
+use Rattle.lowering_laws.specs.Helpers.{AreArguments, StandsFor, widths}
 use Rattle.lowering_laws.proofs.Extensions.{ext-at}
 use Rattle.lowering_laws.proofs.Constants.{IsItself, resigned-same}
 
@@ -62,18 +62,18 @@ unfolding T.call
 call-width name ms sc = refl
 
 pub call-same : (of : Layout) (at f : ℕ) (es : List S.Meaning) (w : ℕ) (s : Bool) (a : Around) (name : Name) (ms : List T.Meaning) (sc : Scope) (v : Valuation)
-    → StandsFor (a.callee f) (length of.two_state) (sc.callee name) → AllPassed (a.callee f).formals es a ms sc v
+    → StandsFor (a.callee f) (length of.two_state) (sc.callee name) → AreArguments (a.callee f).formals (O.passed (a.callee f).formals es a) → AllPassed (a.callee f).formals es a ms sc v
     → Same (O.call of at f es) w s a (T.signing of.signed (T.call name ms)) sc v
-call-same of at f es w s a name ms sc v stands h =
+call-same of at f es w s a name ms sc v stands are h =
     let n = length of.two_state in
     let g = sc.callee name in
     let args = O.passed (a.callee f).formals es a in
-    let long = stands.long args in
+    let long = stands.long args are in
     subst (λ b. Same (O.call of at f es) w s a (T.signing b (T.call name ms)) sc v) (call-shape of at f es).1
     (resigned-same (O.call of at f es) w s a (T.call name ms) sc v (call-itself of at f es a long)
     (call-width name ms sc ∙ stands.width ∙ sym (call-shape of at f es).0)
     (target-call (a.callee f).formals name es a ms sc v stands.inputs h
-    ∙ ap (ext g.width false) (stands.run v args)
+    ∙ ap (ext g.width false) (stands.run v args are)
     ∙ ext-at g.width false (result-of f es a) (long ∙ sym stands.width)
     ∙ sym (call-alone of at f es a long)))
 

@@ -1,5 +1,5 @@
 -- What functions of the target text have to give for what lowering calls them for.
-use Rattle.std.specs.Prelude.{◌≡◌, ℕ, Bool, cond, List, [], ◌∷◌, length, map, Some, None}
+use Rattle.std.specs.Prelude.{◌≡◌, ⊤, ℕ, Bool, cond, List, [], ◌∷◌, length, map, Some, None}
 use Rattle.b4_core.specs.declared.bit.Bit4.{Bit4}
 use Rattle.b4_core.specs.declared.operators.EqOp.TheVariants.{Wild}
 use Rattle.b4_core.specs.Vectors.{known, snum}
@@ -15,7 +15,7 @@ use Rattle.v_meaning.specs.Scopes as T
 pub record Stores (two_state : List Bool) (f : T.Callee) : Type 0 where
   pub width : f.width ≡ length two_state
   pub inputs : f.inputs ≡ length two_state ∷ []
-  pub run : (v : Valuation) (x : List Bit4) → f.run v (x ∷ []) ≡ stored two_state x
+  pub run : (v : Valuation) (x : List Bit4) → length x ≡ length two_state → f.run v (x ∷ []) ≡ stored two_state x
 
 -- the bits from an offset on, if it is known, which are x where they are out of range
 abbrev pub from_offset : ℕ → ℕ → List Bit4 → List Bit4 → List Bit4
@@ -25,21 +25,28 @@ from_offset n w x o = seen x (elim (cond (known o) (Some (snum o)) None) [ None 
 pub record Slices (n w k : ℕ) (f : T.Callee) : Type 0 where
   pub width : f.width ≡ n
   pub inputs : f.inputs ≡ w ∷ k ∷ []
-  pub run : (v : Valuation) (x o : List Bit4) → f.run v (x ∷ o ∷ []) ≡ from_offset n w x o
+  pub run : (v : Valuation) (x o : List Bit4) → length x ≡ w → length o ≡ k → f.run v (x ∷ o ∷ []) ≡ from_offset n w x o
 
 -- a helper that compares two vectors of w bits by ==?
 pub record Matches (w : ℕ) (f : T.Callee) : Type 0 where
   pub width : f.width ≡ 1
   pub inputs : f.inputs ≡ w ∷ w ∷ []
-  pub run : (v : Valuation) (x y : List Bit4) → f.run v (x ∷ y ∷ []) ≡ equality Wild x y ∷ []
+  pub run : (v : Valuation) (x y : List Bit4) → length x ≡ w → length y ≡ w → f.run v (x ∷ y ∷ []) ≡ equality Wild x y ∷ []
 
 -- the widths of formals
 abbrev pub widths : List Parameter → List ℕ
 widths ps = map (λ (p : Parameter). length p.two_state) ps
 
+-- what is passed to formals: as many bits as each has, as its type stores them
+abbrev pub AreArguments : List Parameter → List (List Bit4) → Type 0
+AreArguments [] [] = ⊤
+AreArguments [] (x ∷ xs) = ⊥
+AreArguments (p ∷ ps) [] = ⊥
+AreArguments (p ∷ ps) (x ∷ xs) = ((length x ≡ length p.two_state) × (stored p.two_state x ≡ x)) × AreArguments ps xs
+
 -- a function of the target that stands for one of the source, whose result has so many bits
 pub record StandsFor (f : S.Callee) (wide : ℕ) (g : T.Callee) : Type 0 where
   pub width : g.width ≡ wide
   pub inputs : g.inputs ≡ widths f.formals
-  pub run : (v : Valuation) (xs : List (List Bit4)) → g.run v xs ≡ (f.run xs).result
-  pub long : (xs : List (List Bit4)) → length (f.run xs).result ≡ wide
+  pub run : (v : Valuation) (xs : List (List Bit4)) → AreArguments f.formals xs → g.run v xs ≡ (f.run xs).result
+  pub long : (xs : List (List Bit4)) → AreArguments f.formals xs → length (f.run xs).result ≡ wide
