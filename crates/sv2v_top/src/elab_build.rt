@@ -15,9 +15,10 @@ ghost use Rattle.lower_design.specs.Translatable.{is_helper_name};
 ghost use Rattle.sv_core.specs.declared.design.Signal.{Signal as DesignSignal};
 
 use crate::design::processes;
-use crate::package_scope::Names;
+use crate::name_table::Names;
 use built_forms::{Module, built};
 use names::signal_table;
+use package_scope::scopes;
 use rules::{Tables, comb_table, items_are_built, items_fit, process_break};
 use signals::{fits_in_bits, input_table, module_ranges_are_plain, signals};
 use std::alloc::{AllocError, Global};
@@ -136,11 +137,12 @@ fn absent(alloc: Global, top: &[u8]) -> Result<Refusal, AllocError>
     })
 }
 
-/// The design of a source text, by the top's name. A form that isn't built is refused with E999, and a text without a module
-/// with E408.
+/// The design of a source text, by the top's name. Its first break of the rules on names is refused, then a form that isn't
+/// built with E999, and a text without a module with E408.
 pub fn elaborate(alloc: Global, tree: &SourceTree, top: &[u8]) -> Result<Design, Fail>
     ensures { TreeGives tree.now top.now result }
 {
+    scopes(alloc, tree)?;
     let Some(found) = built(alloc, tree)? else {
         return Err(Fail::Refused(not_built(alloc)?));
     };
