@@ -1,7 +1,7 @@
 -- A refusal of tokens stands where a token does, at their end, or at the head of the first file.
 use Rattle.std.proofs.Common.{◌≡◌, ◌⊎◌, ℕ, ◌<◌, ◌≤◌, Bool, true, false, cond, List, [], ◌∷◌, ◌++◌, map, slice_get, Option, Some, None, if◌then◌else◌, refl, sym, subst, inl, inr, arith}
 use Rattle.std.specs.List.{All, AllByRecursion, find}
-use Rattle.std.specs.Option.{IfSome, option_or}
+use Rattle.std.specs.Option.{IfSome, option_or, option_map}
 use Rattle.sv_source.specs.declared.token.Place.{Place}
 use Rattle.sv_source.specs.declared.token.Token.{Token}
 use Rattle.sv_source.specs.declared.token.Spot.{Spot}
@@ -16,7 +16,8 @@ use Rattle.sv2v_top.specs.source.Statements.{if_target, targets_in, targets, ite
 use Rattle.sv2v_top.specs.source.Names.{undeclared, undeclared_in, first_undeclared, name_of, declared_by, port_names}
 use Rattle.sv2v_top.specs.source.Rules.{refused_at, write_break, writes_break, always_written, target_words, processes_break, first_process_break, is_top, elaborates, is_built}
 use Rattle.package_scope.specs.Answers.{names_refusal, place_in, refusal_of as name_refusal}
-use Rattle.package_scope.specs.Rules.{Break, names_break}
+use Rattle.package_scope.specs.declared.breaks.Break.{Break}
+use Rattle.package_scope.specs.Rules.{names_break}
 use Rattle.sv2v_top.specs.source.Answers.{stage_refusal, unless_built, refusal_if_elaborates, refusal_if_top, refusal_or, refusal_of, refusal_by, tree_refusal}
 use Rattle.sv_tree.specs.declared.units.SourceTree.{SourceTree}
 use Rattle.sv_tree.specs.declared.units.Unit as U
