@@ -1,7 +1,10 @@
 -- The rules on names: E401 to E404 as far as the tokens and the declarations show them, E609 and E610.
-use Rattle.std.specs.Prelude.{ℕ, zero, suc, Bool, true, false, ◌&&◌, ◌||◌, ◌==◌, nat_lt, nat_le, not, cond, codes, List, [], ◌∷◌, ◌++◌, length, take, flat_map, Option, Some, None, is_some, slice_get}
+use Rattle.std.specs.Prelude.{ℕ, zero, suc, Bool, true, false, ◌&&◌, ◌||◌, ◌==◌, nat_lt, not, cond, codes, List, [], ◌∷◌, ◌++◌, length, take, flat_map, Option, Some, None, is_some, slice_get}
 use Rattle.std.specs.List.{list_any}
 use Rattle.std.specs.Str.{bytes_eq}
+use Rattle.call_circles.specs.Calls.{is_broken}
+use Rattle.call_circles.specs.declared.calls.Call.{Call}
+use Rattle.call_circles.specs.declared.calls.Need.{Need}
 use Rattle.sv_source.specs.declared.token.Kind.{Kind}
 use Rattle.sv_source.specs.declared.token.Kind.TheVariants.{Name}
 use Rattle.sv_source.specs.declared.token.Token.{Token}
@@ -21,6 +24,7 @@ use Rattle.name_events.specs.declared.events.ScopeKind.TheVariants as S
 use Rattle.name_events.specs.declared.events.SelectPath.{SelectPath}
 use Rattle.name_events.specs.declared.events.SelectPath.TheVariants as T
 use Rattle.name_events.specs.Items.{events_of}
+use Rattle.package_scope.specs.declared.breaks.Break.{Break}
 use Rattle.package_scope.specs.declared.table.DeclKind.{DeclKind}
 use Rattle.package_scope.specs.declared.table.DeclKind.TheVariants as K
 use Rattle.package_scope.specs.declared.table.Declaration.{Declaration}
@@ -34,11 +38,7 @@ use Rattle.package_scope.specs.declared.table.WildcardImport.{WildcardImport}
 use Rattle.package_scope.specs.Tables.{word, outer, table_of}
 use Rattle.package_scope.specs.Lookup.{own, in_scope_of, found, is_named, package_found, package_scope, means}
 
--- A break: its token and its rule. Of two the one with the lesser token counts, at one token the one with the lesser rule.
-pub record Break : Type 0 where
-  pub at : ℕ
-  pub rule : ℕ
-
+-- Of two breaks the one with the lesser token counts, at one token the one with the lesser rule.
 abbrev pub breaks_at : ℕ → ℕ → List Break
 breaks_at rule at = record { at = at; rule = rule } ∷ []
 
@@ -249,12 +249,15 @@ abbrev pub names_signal : List Token → Table → Use → Declaration → Bool
 names_signal ts t u d = is_some (routine_around t u.scope) && (is_signal ts t d.how || is_interface_holder ts t d.how)
 
 -- the breaks of a use by what it finds
+abbrev pub fit_breaks : List Token → Table → Use → Declaration → List Break
+fit_breaks ts t u d = breaks_if (not (fits_role u.role ts t u d)) 404 u.at ++ breaks_if (names_signal ts t u d) 610 u.at
+
 abbrev pub found_breaks : List Token → Table → Use → Found → List Break
 found_breaks ts t u Absent = breaks_at 401 u.at
 found_breaks ts t u Twice = breaks_at 403 u.at
 found_breaks ts t u (Decl n) = elim (slice_get t.declared n) [
   | None ↦ []
-  | Some d ↦ breaks_if (not (fits_role u.role ts t u d)) 404 u.at ++ breaks_if (names_signal ts t u d) 610 u.at
+  | Some d ↦ fit_breaks ts t u d
 ]
 
 -- the breaks of a package's name, and of what stands behind it where there are none
@@ -354,11 +357,6 @@ kept_breaks at [] = []
 kept_breaks at (k ∷ ks) = breaks_if (is_kept k) 404 at ++ kept_breaks (suc at) ks
 
 -- Calls, by the scopes of the functions and tasks that call and are called.
-pub record CallOf : Type 0 where
-  pub from : Option ℕ
-  pub to : ℕ
-  pub at : ℕ
-
 abbrev pub is_call_role : Role → Bool
 is_call_role R.Call = true
 is_call_role R.CallStatement = true
@@ -368,20 +366,15 @@ abbrev pub is_routine : DeclKind → Bool
 is_routine K.Function = true
 is_routine _ = false
 
-abbrev pub call_to : Table → Use → Option Declaration → List CallOf
+abbrev pub call_to : Table → Use → Option Declaration → List Call
 call_to t u None = []
 call_to t u (Some d) = cond (is_call_role u.role && is_routine d.what) (record { from = routine_around t u.scope; to = d.inner; at = u.at } ∷ []) []
 
-abbrev pub calls : List Token → Table → List CallOf
-calls ts t = flat_map (λ (u : Use). call_to t u (declared_by t (finds ts t u))) t.uses
+abbrev pub call_by : List Token → Table → Use → List Call
+call_by ts t u = call_to t u (declared_by t (finds ts t u))
 
--- whether one routine is another or reaches it by at most so many calls
-abbrev pub goes_to : (ℕ → Bool) → ℕ → CallOf → Bool
-goes_to reached r c = is_scope c.from r && reached c.to
-
-abbrev pub reaches : List CallOf → ℕ → ℕ → ℕ → Bool
-reaches cs zero r goal = r == goal
-reaches cs (suc more) r goal = (r == goal) || list_any (goes_to (λ next. reaches cs more next goal) r) cs
+abbrev pub calls : List Token → Table → List Call
+calls ts t = flat_map (call_by ts t) t.uses
 
 -- a constant, type or enum name that a routine names and that is declared outside functions
 abbrev pub is_constant_kind : DeclKind → Bool
@@ -390,28 +383,29 @@ is_constant_kind K.TypeName = true
 is_constant_kind K.EnumName = true
 is_constant_kind _ = false
 
-pub record Needs : Type 0 where
-  pub routine : ℕ
-  pub last : ℕ
+abbrev pub is_needed : Table → Declaration → Bool
+is_needed t d = is_constant_kind d.what && not (is_some (routine_around t d.scope))
 
-abbrev pub needs_of : Table → Option ℕ → Option Declaration → List Needs
-needs_of t None d = []
-needs_of t (Some r) None = []
-needs_of t (Some r) (Some d) =
-    cond (is_constant_kind d.what && not (is_some (routine_around t d.scope))) (record { routine = r; last = d.last } ∷ []) []
+abbrev pub need_in : Table → ℕ → Option Declaration → List Need
+need_in t r None = []
+need_in t r (Some d) = cond (is_needed t d) (record { routine = r; last = d.last } ∷ []) []
 
-abbrev pub needs : List Token → Table → List Needs
-needs ts t = flat_map (λ (u : Use). needs_of t (routine_around t u.scope) (declared_by t (finds ts t u))) t.uses
+abbrev pub need_of : Table → Option ℕ → Option Declaration → List Need
+need_of t None d = []
+need_of t (Some r) d = need_in t r d
+
+abbrev pub need_by : List Token → Table → Use → List Need
+need_by ts t u = need_of t (routine_around t u.scope) (declared_by t (finds ts t u))
+
+abbrev pub needs : List Token → Table → List Need
+needs ts t = flat_map (need_by ts t) t.uses
 
 -- E609: a call in a routine that leads back to it, or an early call
-abbrev pub is_early : List CallOf → ℕ → ℕ → ℕ → Needs → Bool
-is_early cs more r at n = nat_le at n.last && reaches cs more r n.routine
+abbrev pub call_breaks : List Call → List Need → Call → List Break
+call_breaks cs ns c = breaks_if (is_broken cs ns c) 609 c.at
 
-abbrev pub call_breaks : List CallOf → List Needs → ℕ → CallOf → List Break
-call_breaks cs ns more c = elim c.from [
-  | None ↦ breaks_if (list_any (is_early cs more c.to c.at) ns) 609 c.at
-  | Some r ↦ breaks_if (reaches cs more c.to r) 609 c.at
-]
+abbrev pub calls_breaks : List Token → Table → List Break
+calls_breaks ts t = flat_map (call_breaks (calls ts t) (needs ts t)) (calls ts t)
 
 -- All breaks of a text, and the one that is answered.
 abbrev pub all_breaks : List Token → Table → List Event → List Break
@@ -423,7 +417,7 @@ all_breaks ts t es =
     ++ (flat_map (repeated_import_breaks t) t.named
     ++ (flat_map (event_breaks ts t) es
     ++ (kept_breaks 0 ts
-    ++ flat_map (call_breaks (calls ts t) (needs ts t) (length t.scopes)) (calls ts t)))))))
+    ++ calls_breaks ts t))))))
 
 abbrev pub names_break : SourceTree → Option Break
 names_break tree = least (all_breaks tree.tokens (table_of tree) (events_of tree))

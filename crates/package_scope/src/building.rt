@@ -12,7 +12,7 @@ use sv_source::{Items, Text, Token, at};
 use sv_tree::SourceTree;
 
 /// The text of a token.
-fn word(alloc: Global, tokens: &[Token], index: u32) -> Result<Text, AllocError>
+pub fn word(alloc: Global, tokens: &[Token], index: u32) -> Result<Text, AllocError>
     ensures { IfOk result (λ w. w ≡ means.word tokens.now index) }
 {
     match at(tokens, index as usize) {

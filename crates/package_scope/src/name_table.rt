@@ -1,18 +1,19 @@
 //! The table of a text with its index.
 
-ghost use Rattle.std.specs.Prelude.{◌≡◌, ◌<◌, length, slice_get, IfOk, Some};
+ghost use Rattle.std.specs.Prelude.{◌≡◌, ◌-◌, ◌<◌, length, slice_get, IfOk, Some};
 ghost use Rattle.std.specs.Option.{option_copied};
 ghost use Rattle.package_scope.specs.Lookup as means;
+ghost use Rattle.package_scope.specs.Rules as rules;
 ghost use Rattle.package_scope.specs.Tables as tables;
 
 use crate::building::{number, table_of};
 use crate::index::{Index, index_of};
-use crate::lookup::means;
-use crate::table::{Declaration, Found, Scope, Table};
-use name_events::events_of;
+use crate::meaning::{found, in_package, means, own};
+use crate::table::{Declaration, Found, Scope, Table, Use};
+use name_events::{Event, events_of};
 use std::alloc::{AllocError, Global};
 use std::marker::Model;
-use sv_source::{Text, at};
+use sv_source::{Text, Token, at};
 use sv_tree::SourceTree;
 
 /// The scopes of a source text with their declarations and imports, in which names are looked up. Contracts see the table.
@@ -20,9 +21,11 @@ use sv_tree::SourceTree;
 pub struct NameTable {
     table: Table,
     index: Index,
+    nothing: Text,
 }
 
 impl Model for NameTable {
+    ghost use Rattle.std.specs.Prelude.{◌≡◌, []};
     ghost use Rattle.package_scope.specs.declared.table.Table.{Table};
     ghost use Rattle.package_scope.specs.Index.{Indexed};
 
@@ -30,7 +33,7 @@ impl Model for NameTable {
 
     ghost view = { λ x. x.table };
 
-    ghost invariant = { λ x. Indexed x.table x.index };
+    ghost invariant = { λ x. Indexed x.table x.index × (x.nothing ≡ []) };
 }
 
 impl NameTable {
@@ -38,11 +41,33 @@ impl NameTable {
     pub fn new(alloc: Global, tree: &SourceTree) -> Result<NameTable, AllocError>
         ensures { IfOk result (λ t. t ≡ tables.table_of tree.now) }
     {
-        let last = number(tree.tokens.len().saturating_sub(1))?;
         let events = events_of(alloc, tree)?;
-        let table = table_of(alloc, tree.tokens.as_slice(), events.as_slice(), last)?;
+        NameTable::of_events(alloc, tree.tokens.as_slice(), events.as_slice())
+    }
+
+    /// The table of events of a text with these tokens.
+    pub fn of_events(
+        alloc: Global,
+        tokens: &[Token],
+        events: &[Event],
+    ) -> Result<NameTable, AllocError>
+        ensures { IfOk result (λ t. t ≡ tables.steps tokens.now events.now (tables.start (length tokens.now - 1))) }
+    {
+        let last = number(tokens.len().saturating_sub(1))?;
+        let table = table_of(alloc, tokens, events, last)?;
         let index = index_of(alloc, &table)?;
-        Ok(NameTable { table, index })
+        Ok(NameTable {
+            table,
+            index,
+            nothing: Text::new(alloc),
+        })
+    }
+
+    /// The table.
+    pub fn table(&self) -> &Table
+        ensures { result.now ≡ self.now }
+    {
+        &self.table
     }
 
     /// The declaration with this number, if there is one.
@@ -64,5 +89,53 @@ impl NameTable {
         ensures { result ≡ means.means self.now scope name.now token }
     {
         means(&self.table, &self.index, scope, name, token)
+    }
+
+    /// The declaration of a name in a scope that is visible at a token.
+    pub fn own(&self, scope: u32, name: &Text, token: u32) -> Option<u32>
+        ensures { result ≡ means.own self.now scope name.now token }
+    {
+        let number = self.index.names.number(name);
+        own(&self.table, &self.index, scope, name, number, token)
+    }
+
+    /// What a package that is named at a token declares under a name.
+    pub fn in_package(&self, source: &Text, source_at: u32, name: &Text, token: u32) -> Option<u32>
+        ensures { result ≡ means.in_package self.now source.now source_at name.now token }
+    {
+        let number = self.index.names.number(name);
+        in_package(
+            &self.table,
+            &self.index,
+            source,
+            source_at,
+            name,
+            number,
+            token,
+        )
+    }
+
+    /// The text of a token.
+    pub fn word<'a>(&'a self, tokens: &'a [Token], token: u32) -> &'a Text
+        ensures { result.now ≡ tables.word tokens.now token }
+    {
+        match at(tokens, token as usize) {
+            Some(token) => &token.text,
+            None => &self.nothing,
+        }
+    }
+
+    /// What a use finds.
+    pub fn finds(&self, tokens: &[Token], found_by: Use) -> Found
+        ensures { result ≡ rules.finds tokens.now self.now found_by }
+    {
+        let name = self.word(tokens, found_by.at);
+        match found_by.source {
+            None => self.lookup(found_by.scope, name, found_by.at),
+            Some(holder) => {
+                let source = self.word(tokens, holder);
+                found(self.in_package(source, holder, name, found_by.at))
+            }
+        }
     }
 }

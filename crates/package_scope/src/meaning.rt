@@ -61,7 +61,7 @@ fn or_everywhere(
 }
 
 /// The declaration of a name in a scope that is visible at a token.
-fn own(
+pub fn own(
     table: &Table,
     index: &Index,
     scope: u32,
@@ -89,7 +89,7 @@ fn scope_if_package(what: DeclKind, inner: u32) -> Option<u32>
 }
 
 /// The scope of the package with this number of a declaration.
-fn package_found(table: &Table, declaration: Option<u32>) -> Option<u32>
+pub fn package_found(table: &Table, declaration: Option<u32>) -> Option<u32>
     ensures { result ≡ means.package_found table.now declaration }
 {
     match declaration {
@@ -102,7 +102,7 @@ fn package_found(table: &Table, declaration: Option<u32>) -> Option<u32>
 }
 
 /// The scope of a package that is named at a token.
-fn package_scope(table: &Table, index: &Index, source: &Text, token: u32) -> Option<u32>
+pub fn package_scope(table: &Table, index: &Index, source: &Text, token: u32) -> Option<u32>
     requires indexed { Indexed table.now index.now }
     ensures { result ≡ means.package_scope table.now source.now token }
 {
@@ -111,7 +111,7 @@ fn package_scope(table: &Table, index: &Index, source: &Text, token: u32) -> Opt
 }
 
 /// What a package that is named at a token declares.
-fn in_package(
+pub fn in_package(
     table: &Table,
     index: &Index,
     source: &Text,
@@ -189,7 +189,7 @@ fn both(one: Found, other: Found) -> Found
 }
 
 /// A declaration as what is found, if there is one.
-fn found(declaration: Option<u32>) -> Found
+pub fn found(declaration: Option<u32>) -> Found
     ensures { result ≡ means.found declaration }
 {
     match declaration {

@@ -4,7 +4,7 @@ use Rattle.package_scope.specs.Lookup.{in_scope}
 use Rattle.package_scope.specs.Tables.{outer}
 use Rattle.package_scope.specs.declared.table.Found.TheVariants.{Absent}
 use Rattle.package_scope.proofs.Outwards.{one-out}
-use Rattle.package_scope.proofs.lookup.means.Goals as goal
+use Rattle.package_scope.proofs.meaning.means.Goals as goal
 
 pub loop-left-preserved : goal.loop-left-preserved
 loop-left-preserved c =

@@ -1,0 +1,4 @@
+pub mod Calls
+pub mod Ways
+pub mod Known
+pub mod Rounds

@@ -1,0 +1,5 @@
+//! Tests of broken calls.
+#![tactic(auto)]
+
+#[cfg(test)]
+mod cases;

@@ -1,0 +1,148 @@
+-- The least break of lists in a row.
+use Rattle.std.proofs.Common.{◌≡◌, ℕ, suc, ◌+◌, ◌⊎◌, inl, inr, Bool, true, false, cond, nat_lt, List, [], ◌∷◌, ◌++◌, Option, Some, None, is_some, refl, sym, ap, ◌∙◌, arith}
+use Rattle.std.specs.Prelude.{flat_map, nat_eq, option_map, ◌||◌, ◌&&◌}
+use Rattle.call_circles.specs.Calls.{is_broken, first_of, first_broken, lesser_if}
+use Rattle.call_circles.specs.declared.calls.Call.{Call}
+use Rattle.call_circles.specs.declared.calls.Need.{Need}
+use Rattle.name_events.specs.declared.events.Event.{Event}
+use Rattle.std.proofs.lemmas.Bool.Decides.{nat_tests}
+use Rattle.sv_source.specs.declared.token.Token.{Token}
+use Rattle.package_scope.specs.declared.breaks.Break.{Break}
+use Rattle.package_scope.specs.declared.table.Table.{Table}
+use Rattle.package_scope.specs.Least.{joined, least_over, least_kept, package_or, package_least}
+use Rattle.package_scope.specs.Lookup.{own, package_found}
+use Rattle.package_scope.specs.Tables.{word}
+use Rattle.package_scope.specs.Rules.{breaks_at, breaks_if, package_breaks, is_less, lesser, least, is_kept, kept_breaks, use_breaks, import_breaks, wildcard_breaks, declaration_breaks, repeated_import_breaks, event_breaks, call_breaks, calls_breaks, calls, needs, all_breaks}
+
+less-less : (a b c : Break) → is_less c b ≡ true → is_less b a ≡ true → is_less c a ≡ true
+less-less a b c h k = grind (arith, nat_tests, h, k)
+
+not-less : (a b c : Break) → is_less c b ≡ false → is_less b a ≡ false → is_less c a ≡ false
+not-less a b c h k = grind (arith, nat_tests, h, k)
+
+-- the choice between three, by tests of each two
+three : (a b c : Break) (ba cb ca : Bool) → (cb ≡ true → ba ≡ true → ca ≡ true) → (cb ≡ false → ba ≡ false → ca ≡ false)
+    → is_less b a ≡ ba → is_less c b ≡ cb → is_less c a ≡ ca
+    → cond (is_less c (cond ba b a)) c (cond ba b a) ≡ cond (is_less (cond cb c b) a) (cond cb c b) a
+three a b c true true ca less not_less is_ba is_cb is_ca =
+    ap (λ x. cond x c b) is_cb ∙ sym (ap (λ x. cond x c a) (is_ca ∙ less refl refl))
+three a b c true false ca less not_less is_ba is_cb is_ca =
+    ap (λ x. cond x c b) is_cb ∙ sym (ap (λ x. cond x b a) is_ba)
+three a b c false true ca less not_less is_ba is_cb is_ca = refl
+three a b c false false ca less not_less is_ba is_cb is_ca =
+    ap (λ x. cond x c a) (is_ca ∙ not_less refl refl) ∙ sym (ap (λ x. cond x b a) is_ba)
+
+pub joined-joined : (a b c : Option Break) → joined (joined a b) c ≡ joined a (joined b c)
+joined-joined None b c = refl
+joined-joined (Some a) None c = refl
+joined-joined (Some a) (Some b) None = refl
+joined-joined (Some a) (Some b) (Some c) =
+    ap Some (three a b c (is_less b a) (is_less c b) (is_less c a)
+        (λ h k. less-less a b c h k) (λ h k. not-less a b c h k) refl refl refl)
+
+joined-none : (a : Option Break) → joined a None ≡ a
+joined-none None = refl
+joined-none (Some a) = refl
+
+pub least-append : (xs ys : List Break) → least (xs ++ ys) ≡ joined (least xs) (least ys)
+least-append [] ys = refl
+least-append (x ∷ xs) ys = ap (λ o. lesser x o) (least-append xs ys) ∙ sym (joined-joined (Some x) (least xs) (least ys))
+
+over-from : {A : Type 0} (f : A → List Break) (known : Option Break) (xs : List A) → least_over f known xs ≡ joined known (least (flat_map f xs))
+over-from f known [] = sym (joined-none known)
+over-from f known (x ∷ xs) =
+    over-from f (joined known (least (f x))) xs
+    ∙ joined-joined known (least (f x)) (least (flat_map f xs))
+    ∙ ap (λ o. joined known o) (sym (least-append (f x) (flat_map f xs)))
+
+pub over-is : {A : Type 0} (f : A → List Break) (xs : List A) → least_over f None xs ≡ least (flat_map f xs)
+over-is f xs = over-from f None xs
+
+kept-from : (known : Option Break) (at : ℕ) (ks : List Token) → least_kept known at ks ≡ joined known (least (kept_breaks at ks))
+kept-from known at [] = sym (joined-none known)
+kept-from known at (k ∷ ks) =
+    kept-from (joined known (least (breaks_if (is_kept k) 404 at))) (suc at) ks
+    ∙ joined-joined known (least (breaks_if (is_kept k) 404 at)) (least (kept_breaks (suc at) ks))
+    ∙ ap (λ o. joined known o) (sym (least-append (breaks_if (is_kept k) 404 at) (kept_breaks (suc at) ks)))
+
+pub kept-is : (ks : List Token) → least_kept None 0 ks ≡ least (kept_breaks 0 ks)
+kept-is ks = kept-from None 0 ks
+
+-- the break of a package's name, or of what stands behind it
+behind-is : (t : Table) (holder n : ℕ) (bs : List Break) (b : Bool) → cond b (least bs) (least (breaks_at 404 holder)) ≡ least (cond b bs (breaks_at 404 holder))
+behind-is t holder n bs true = refl
+behind-is t holder n bs false = refl
+
+package-or-is : (t : Table) (holder : ℕ) (bs : List Break) (o : Option ℕ) → package_or t holder (least bs) o ≡ least (elim o [
+  | None ↦ breaks_at 401 holder
+  | Some n ↦ cond (is_some (package_found t (Some n))) bs (breaks_at 404 holder)
+])
+package-or-is t holder bs None = refl
+package-or-is t holder bs (Some n) = behind-is t holder n bs (is_some (package_found t (Some n)))
+
+pub package-is : (ts : List Token) (t : Table) (holder : ℕ) (bs : List Break) → package_least ts t holder (least bs) ≡ least (package_breaks ts t holder bs)
+package-is ts t holder bs = package-or-is t holder bs (own t 0 (word ts holder) holder)
+
+-- the least break by a call stands at the first call that is broken
+call-first : (cs : List Call) (ns : List Need) (xs : List Call) → least (flat_map (call_breaks cs ns) xs) ≡ option_map (λ at. record { at = at; rule = 609 }) (first_of (is_broken cs ns) xs)
+call-first cs ns [] = refl
+call-first cs ns (x ∷ xs) =
+    least-append (call_breaks cs ns x) (flat_map (call_breaks cs ns) xs)
+    ∙ ap (λ o. joined (least (call_breaks cs ns x)) o) (call-first cs ns xs)
+    ∙ by (is_broken cs ns x) (first_of (is_broken cs ns) xs)
+  where
+    choose : (a b : ℕ) (c : Bool) → c ≡ nat_lt b a
+        → Some (cond (nat_lt b a || (nat_eq b a && nat_lt 609 609)) (record { at = b; rule = 609 }) (record { at = a; rule = 609 })) ≡ option_map (λ at. record { at = at; rule = 609 }) (Some (cond c b a))
+    choose a b true is = ap (λ t. Some (cond (t || (nat_eq b a && false)) (record { at = b; rule = 609 }) (record { at = a; rule = 609 }))) (sym is)
+    choose a b false is =
+        ap (λ t. Some (cond (t || (nat_eq b a && false)) (record { at = b; rule = 609 }) (record { at = a; rule = 609 }))) (sym is)
+        ∙ ap (λ t. Some (cond t (record { at = b; rule = 609 }) (record { at = a; rule = 609 }))) (never (nat_eq b a))
+      where
+        never : (b : Bool) → (b && false) ≡ false
+        never true = refl
+        never false = refl
+    by : (b : Bool) (o : Option ℕ) → joined (least (breaks_if b 609 x.at)) (option_map (λ at. record { at = at; rule = 609 }) o) ≡ option_map (λ at. record { at = at; rule = 609 }) (lesser_if b x.at o)
+    by false o = refl
+    by true None = refl
+    by true (Some n) = choose x.at n (nat_lt n x.at) refl
+
+pub calls-first : (ts : List Token) (t : Table) → least (calls_breaks ts t) ≡ option_map (λ at. record { at = at; rule = 609 }) (first_broken (calls ts t) (needs ts t))
+calls-first ts t = call-first (calls ts t) (needs ts t) (calls ts t)
+
+-- all breaks
+over-append : {A : Type 0} (f : A → List Break) (xs : List A) (ys : List Break) → joined (least_over f None xs) (least ys) ≡ least (flat_map f xs ++ ys)
+over-append f xs ys = ap (λ o. joined o (least ys)) (over-is f xs) ∙ sym (least-append (flat_map f xs) ys)
+
+pub all-is : (ts : List Token) (t : Table) (es : List Event) (c : Option Break) → c ≡ least (calls_breaks ts t) →
+    joined (least_over (use_breaks ts t) None t.uses)
+    (joined (least_over (import_breaks ts t) None t.named)
+    (joined (least_over (wildcard_breaks ts t) None t.wildcards)
+    (joined (joined (least_over (declaration_breaks t) None t.declared) (least_over (repeated_import_breaks t) None t.named))
+    (joined (least_over (event_breaks ts t) None es)
+    (joined (least_kept None 0 ts) c)))))
+    ≡ least (all_breaks ts t es)
+all-is ts t es c is =
+    ap (λ o. joined (least_over (use_breaks ts t) None t.uses) o)
+        (ap (λ o. joined (least_over (import_breaks ts t) None t.named) o)
+            (ap (λ o. joined (least_over (wildcard_breaks ts t) None t.wildcards) o)
+                (joined-joined (least_over (declaration_breaks t) None t.declared) (least_over (repeated_import_breaks t) None t.named) _
+                ∙ ap (λ o. joined (least_over (declaration_breaks t) None t.declared) o)
+                    (ap (λ o. joined (least_over (repeated_import_breaks t) None t.named) o)
+                        (ap (λ o. joined (least_over (event_breaks ts t) None es) o)
+                            (both (kept-is ts) is
+                            ∙ sym (least-append (kept_breaks 0 ts) (calls_breaks ts t)))
+                        ∙ over-append (event_breaks ts t) es _)
+                    ∙ over-append (repeated_import_breaks t) t.named _)
+                ∙ over-append (declaration_breaks t) t.declared _)
+            ∙ over-append (wildcard_breaks ts t) t.wildcards _)
+        ∙ over-append (import_breaks ts t) t.named _)
+    ∙ over-append (use_breaks ts t) t.uses _
+  where
+    both : {a b c d : Option Break} → a ≡ b → c ≡ d → joined a c ≡ joined b d
+    both {b = b} {c = c} e f = ap (λ o. joined o c) e ∙ ap (λ o. joined b o) f
+
+pub ruleset joining = (least-append)
+
+pub ruleset packaging = (package-is)
+
+pub ruleset calling = (calls-first)

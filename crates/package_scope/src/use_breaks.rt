@@ -1,0 +1,138 @@
+//! Breaks of uses and imports of names.
+
+ghost use Rattle.std.specs.Prelude.{◌≡◌, Some, None, is_some};
+ghost use Rattle.package_scope.specs.Least.{package_least, least_over};
+ghost use Rattle.package_scope.specs.Lookup as meaning;
+ghost use Rattle.package_scope.specs.Rules as means;
+
+use crate::breaks::{Break, break_if, first};
+use crate::meaning::package_found;
+use crate::scoped::Scopes;
+use crate::table::{Declaration, Found, NamedImport, Table, Use, WildcardImport};
+
+/// Whether the declaration with this number is that of a package.
+fn is_package(table: &Table, number: u32) -> bool
+    ensures { result ≡ is_some (meaning.package_found table.now (Some number)) }
+{
+    package_found(table, Some(number)).is_some()
+}
+
+impl<'t> Scopes<'t> {
+    /// The break of a use by the declaration that it finds.
+    #[tactic(auto, using(crate::proofs::Orders::joining))]
+    fn misfit(&self, found_by: Use, declaration: &Declaration) -> Option<Break>
+        ensures { result ≡ means.least (means.fit_breaks self.now.tree.tokens self.now.table found_by declaration.now) }
+    {
+        let fits = self.fits_role(found_by, declaration);
+        let names_signal = self.names_signal(found_by, declaration);
+        first(
+            break_if(!fits, 404, found_by.at),
+            break_if(names_signal, 610, found_by.at),
+        )
+    }
+
+    /// The break of a use by what it finds.
+    fn found_break(&self, found_by: Use, found: Found) -> Option<Break>
+        ensures { result ≡ means.least (means.found_breaks self.now.tree.tokens self.now.table found_by found) }
+    {
+        let at = found_by.at;
+        match found {
+            Found::Absent => Some(Break { at, rule: 401 }),
+            Found::Twice => Some(Break { at, rule: 403 }),
+            Found::Decl(number) => match self.numbered(number) {
+                Some(declaration) => self.misfit(found_by, declaration),
+                None => None,
+            },
+        }
+    }
+
+    /// The break of a package's name, or what stands behind it.
+    fn package_break(&self, holder: u32, behind: Option<Break>) -> Option<Break>
+        ensures { result ≡ package_least self.now.tree.tokens self.now.table holder behind }
+    {
+        match self.names().own(0, self.word(holder), holder) {
+            None => Some(Break {
+                at: holder,
+                rule: 401,
+            }),
+            Some(number) => {
+                if is_package(self.table(), number) {
+                    behind
+                } else {
+                    Some(Break {
+                        at: holder,
+                        rule: 404,
+                    })
+                }
+            }
+        }
+    }
+
+    /// The break of a use.
+    #[tactic(auto, using(crate::proofs::Orders::packaging))]
+    fn use_break(&self, found_by: Use) -> Option<Break>
+        ensures { result ≡ means.least (means.use_breaks self.now.tree.tokens self.now.table found_by) }
+    {
+        let found = self.found_break(found_by, self.finds(found_by));
+        match found_by.source {
+            None => found,
+            Some(holder) => self.package_break(holder, found),
+        }
+    }
+
+    /// The break of an import of a name.
+    #[tactic(auto, using(crate::proofs::Orders::packaging))]
+    fn import_break(&self, import: &NamedImport) -> Option<Break>
+        ensures { result ≡ means.least (means.import_breaks self.now.tree.tokens self.now.table import.now) }
+    {
+        let brought =
+            self.names()
+                .in_package(&import.source, import.source_at, &import.name, import.at);
+        let absent = break_if(brought.is_none(), 401, import.at);
+        self.package_break(import.source_at, absent)
+    }
+
+    /// The break of an import of all names.
+    #[tactic(auto, using(crate::proofs::Orders::packaging))]
+    fn wildcard_break(&self, import: &WildcardImport) -> Option<Break>
+        ensures { result ≡ means.least (means.wildcard_breaks self.now.tree.tokens self.now.table import.now) }
+    {
+        self.package_break(import.source_at, None)
+    }
+
+    /// The least break of a use.
+    pub(crate) fn uses_break(&self) -> Option<Break>
+        ensures { result ≡ least_over (means.use_breaks self.now.tree.tokens self.now.table) None self.now.table.uses }
+    {
+        let uses = self.table().uses.as_slice();
+        let mut least = None;
+        for found_by in uses {
+            least = first(least, self.use_break(*found_by));
+        }
+        least
+    }
+
+    /// The least break of an import of a name.
+    pub(crate) fn imports_break(&self) -> Option<Break>
+        ensures { result ≡ least_over (means.import_breaks self.now.tree.tokens self.now.table) None self.now.table.named }
+    {
+        let imports = self.table().named.as_slice();
+        let mut least = None;
+        for import in imports {
+            least = first(least, self.import_break(import));
+        }
+        least
+    }
+
+    /// The least break of an import of all names.
+    pub(crate) fn wildcards_break(&self) -> Option<Break>
+        ensures { result ≡ least_over (means.wildcard_breaks self.now.tree.tokens self.now.table) None self.now.table.wildcards }
+    {
+        let imports = self.table().wildcards.as_slice();
+        let mut least = None;
+        for import in imports {
+            least = first(least, self.wildcard_break(import));
+        }
+        least
+    }
+}

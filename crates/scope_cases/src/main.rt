@@ -1,0 +1,98 @@
+//! Prints the scopes of the texts of cases, with what their names stand for, or the refusal.
+#![tactic(auto)]
+
+ghost use Rattle.std.specs.Prelude.{IfOk};
+ghost use Rattle.sv_build.specs.Reading.{Ends};
+
+use case_files::{Case, escaped, load_cases};
+use package_scope::{Scopes, scopes};
+use std::alloc::{AllocError, Global};
+use std::{env, io};
+use sv_build::read_source;
+use sv_lexer::lex;
+use sv_source::{Fail, Items, Kind, Place, Refusal, Text, Token, Tokens};
+
+/// The longest text that is read, in bytes.
+const LONGEST: usize = 1 << 20;
+
+/// The tokens of a text, without its newlines.
+fn tokens_of(alloc: Global, text: &[u8]) -> Result<Tokens, AllocError> {
+    let mut tokens = Items::new(alloc);
+    if text.len() < LONGEST {
+        for token in lex(alloc, 0, text)?.as_slice() {
+            if token.kind != Kind::Line {
+                tokens.push(Token {
+                    kind: token.kind,
+                    text: token.text.copy(alloc)?,
+                    place: token.place,
+                })?;
+            }
+        }
+    }
+    Ok(tokens)
+}
+
+/// The same tokens with the end token behind them.
+fn ended(alloc: Global, tokens: Tokens) -> Result<Tokens, AllocError>
+    ensures { IfOk result (λ ts. Ends ts) }
+{
+    let mut tokens = tokens;
+    tokens.push(Token {
+        kind: Kind::End,
+        text: Text::new(alloc),
+        place: Place {
+            file: 0,
+            line: 0,
+            col: 0,
+        },
+    })?;
+    Ok(tokens)
+}
+
+/// Prints a refusal.
+fn print_refusal(rt: &HostRuntime, refusal: &Refusal) -> io::Result<()> {
+    let place = refusal.place;
+    let word = escaped(rt.alloc(), refusal.word.as_bytes())?;
+    println!(rt; "{}:{} E{} {word}", place.line, place.col, refusal.rule)
+}
+
+/// Prints the scopes of the files of one case, without what they declare.
+fn print_text(rt: &HostRuntime, text: &[u8]) -> io::Result<()> {
+    let tokens = ended(rt.alloc(), tokens_of(rt.alloc(), text)?)?;
+    if tokens.len() > LONGEST {
+        return println!(rt; "too long");
+    }
+    let tree = match read_source(rt.alloc(), tokens) {
+        Ok(tree) => tree,
+        Err(Fail::Memory) => return println!(rt; "out of memory"),
+        Err(Fail::Refused(refusal)) => return print_refusal(rt, &refusal),
+    };
+    match scopes(rt.alloc(), &tree) {
+        Ok(scopes) => print_scopes(rt, &scopes),
+        Err(Fail::Memory) => println!(rt; "out of memory"),
+        Err(Fail::Refused(refusal)) => print_refusal(rt, &refusal),
+    }
+}
+
+/// Prints what names stand for at the end of a text.
+fn print_scopes(rt: &HostRuntime, scopes: &Scopes) -> io::Result<()> {
+    println!(rt; "accepted")
+}
+
+/// Prints what is found in the files of one case.
+fn run(rt: &HostRuntime, case: Case) -> io::Result<()> {
+    println!(rt; "== {}", case.name)?;
+    for file in case.files {
+        print_text(rt, file.bytes.as_bytes())?;
+    }
+    Ok(())
+}
+
+fn main(rt: HostRuntime) -> io::Result<()> {
+    for path in env::args(&rt)?.skip(1) {
+        for case in load_cases(&rt, path.as_str())? {
+            run(&rt, case)?;
+        }
+    }
+    Ok(())
+}
