@@ -142,7 +142,7 @@ fn absent(alloc: Global, top: &[u8]) -> Result<Refusal, AllocError>
 pub fn elaborate(alloc: Global, tree: &SourceTree, top: &[u8]) -> Result<Design, Fail>
     ensures { TreeGives tree.now top.now result }
 {
-    scopes(alloc, tree)?;
+    let _scopes = scopes(alloc, tree)?;
     let Some(found) = built(alloc, tree)? else {
         return Err(Fail::Refused(not_built(alloc)?));
     };
