@@ -1,0 +1,4 @@
+pub mod Reaching
+pub mod Leading
+pub mod Fitting
+pub mod Finding

@@ -64,6 +64,16 @@ fn last_if(routine: u32, needs: &[Need], number: u32) -> Option<u32>
     }
 }
 
+// Whether a way leads to a goal.
+fn leads_back(goal: u32, way: Option<Way>) -> bool
+    ensures { result ≡ means.leads_back goal way }
+{
+    match way {
+        None => false,
+        Some(way) => way.goal == goal,
+    }
+}
+
 impl Known {
     // The end of the latest need that a way leads to.
     fn last_by(&self, needs: &[Need], way: Option<Way>) -> Option<u32>
@@ -71,11 +81,7 @@ impl Known {
     {
         match way {
             None => None,
-            Some(way) => last_if(
-                way.goal,
-                needs,
-                number_of(self.latest.as_slice(), way.goal),
-            ),
+            Some(way) => last_if(way.goal, needs, number_of(self.latest.as_slice(), way.goal)),
         }
     }
 
@@ -86,16 +92,6 @@ impl Known {
         self.last_by(needs, way_from(self.late.as_slice(), routine))
     }
 
-    // Whether a way leads to where the way up ends.
-    fn leads_back(&self, goal: u32, way: Option<Way>) -> bool
-        ensures { result ≡ means.leads_back goal way }
-    {
-        match way {
-            None => false,
-            Some(way) => way.goal == goal,
-        }
-    }
-
     // Whether the ways up of a routine and of one that it calls fit.
     fn is_placed(&self, routine: u32, a: Option<Way>, b: Option<Way>) -> bool
         ensures { result ≡ means.is_placed self.now routine a b }
@@ -104,7 +100,7 @@ impl Known {
             return false;
         };
         if a.goal == b.goal {
-            self.leads_back(a.goal, way_from(self.down.as_slice(), routine))
+            leads_back(a.goal, way_from(self.down.as_slice(), routine))
         } else {
             number_of(self.ranks.as_slice(), a.goal) < number_of(self.ranks.as_slice(), b.goal)
         }
@@ -136,24 +132,14 @@ impl Known {
     fn fits_calls(&self, calls: &[Call], needs: &[Need]) -> bool
         ensures { result ≡ list_all (means.fits_call needs.now self.now) calls.now }
     {
-        for call in calls {
-            if !self.fits_call(needs, *call) {
-                return false;
-            }
-        }
-        true
+        calls.iter().all(|call| self.fits_call(needs, *call))
     }
 
     // Whether all needs fit.
     fn fits_needs(&self, needs: &[Need]) -> bool
         ensures { result ≡ list_all (means.fits_need needs.now self.now) needs.now }
     {
-        for need in needs {
-            if !self.fits_need(needs, *need) {
-                return false;
-            }
-        }
-        true
+        needs.iter().all(|need| self.fits_need(needs, *need))
     }
 
     /// Whether it fits the calls and needs.
@@ -161,11 +147,13 @@ impl Known {
         ensures { IfOk result (λ b. b ≡ true → means.Fits calls.now needs.now self.now) }
     {
         let turned = all_turned(alloc, calls)?;
-        Ok(are_ways(calls, self.up.as_slice())
-            && are_ways(turned.as_slice(), self.down.as_slice())
-            && are_ways(calls, self.late.as_slice())
-            && self.fits_calls(calls, needs)
-            && self.fits_needs(needs))
+        Ok(
+            are_ways(calls, self.up.as_slice())
+                && are_ways(turned.as_slice(), self.down.as_slice())
+                && are_ways(calls, self.late.as_slice())
+                && self.fits_calls(calls, needs)
+                && self.fits_needs(needs),
+        )
     }
 
     // Whether a call is broken, by what is known.

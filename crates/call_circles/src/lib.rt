@@ -13,10 +13,9 @@ mod ways;
 ghost use Rattle.std.specs.Prelude.{◌≡◌, IfOk};
 ghost use Rattle.call_circles.specs.Calls as means;
 
+pub use calls::{Call, Need};
 use search::known_of;
 use std::alloc::{AllocError, Global};
-
-pub use calls::{Call, Need};
 
 /// The least token of a broken call, if there is one: of a call that leads back to the routine that it stands in, or of one
 /// outside routines that leads to a need whose declaration doesn't end before it. An error where memory runs out. Where

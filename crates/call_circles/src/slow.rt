@@ -13,12 +13,7 @@ use std::alloc::{AllocError, Global};
 fn any_in(calls: &[Call], routine: u32) -> bool
     ensures { result ≡ list_any (rounds.stands_in routine) calls.now }
 {
-    for call in calls {
-        if is_from(call.from, routine) {
-            return true;
-        }
-    }
-    false
+    calls.iter().any(|call| is_from(call.from, routine))
 }
 
 // The calls that lead to a routine, if those that lead to it in one call less are found.
@@ -30,38 +25,28 @@ fn round(
 ) -> Result<Items<Call>, AllocError>
     ensures { IfOk result (λ cs. cs ≡ rounds.round calls.now found.now goal) }
 {
-    let mut all = Items::new(alloc);
-    for call in calls {
-        if call.to == goal || any_in(found, call.to) {
-            all.push(*call)?;
-        }
-    }
-    Ok(all)
+    let all = calls
+        .iter()
+        .copied()
+        .filter(|call| call.to == goal || any_in(found, call.to))
+        .collect(alloc)?;
+    Ok(Items::from_vec(all))
 }
 
 // Whether one routine is another or leads to it.
-fn leads_to(
-    alloc: Global,
-    calls: &[Call],
-    routine: u32,
-    goal: u32,
-) -> Result<bool, AllocError>
+fn leads_to(alloc: Global, calls: &[Call], routine: u32, goal: u32) -> Result<bool, AllocError>
     ensures { IfOk result (λ b. b ≡ means.leads_to calls.now routine goal) }
 {
     let mut found = Items::new(alloc);
-    for _turn in 0..2 * calls.len() {
+    for turn in 0..2 * calls.len() {
         found = round(alloc, calls, found.as_slice(), goal)?;
     }
-    Ok(routine == goal || any_in(found.as_slice(), routine))
+    let reached = any_in(found.as_slice(), routine);
+    Ok(routine == goal || reached)
 }
 
 // Whether a call outside routines is early.
-fn is_early(
-    alloc: Global,
-    calls: &[Call],
-    needs: &[Need],
-    call: Call,
-) -> Result<bool, AllocError>
+fn is_early(alloc: Global, calls: &[Call], needs: &[Need], call: Call) -> Result<bool, AllocError>
     ensures { IfOk result (λ b. b ≡ list_any (means.is_early calls.now call) needs.now) }
 {
     for need in needs {
@@ -73,12 +58,7 @@ fn is_early(
 }
 
 // Whether a call is broken.
-fn is_broken(
-    alloc: Global,
-    calls: &[Call],
-    needs: &[Need],
-    call: Call,
-) -> Result<bool, AllocError>
+fn is_broken(alloc: Global, calls: &[Call], needs: &[Need], call: Call) -> Result<bool, AllocError>
     ensures { IfOk result (λ b. b ≡ means.is_broken calls.now needs.now call) }
 {
     match call.from {

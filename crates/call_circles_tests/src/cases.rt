@@ -88,7 +88,11 @@ fn cases(rt: HostRuntime) -> Result<(), Fail> {
         assert_eq!(rt; found, *first, "{calls_text} and {needs_text}");
         // numbers of routines that are too high are looked at by the definition
         let found = first_broken(alloc, 0, calls.as_slice(), needs.as_slice())?;
-        assert_eq!(rt; found, *first, "{calls_text} and {needs_text} by the definition");
+        assert_eq!(rt;
+            found,
+            *first,
+            "{calls_text} and {needs_text} by the definition"
+        );
     }
     Ok(())
 }
@@ -163,7 +167,13 @@ fn early_calls_through_long_chains(rt: HostRuntime) -> Result<(), Fail> {
     }
     let found = first_broken(alloc, 3 * MANY, calls.as_slice(), needs.as_slice())?;
     assert_eq!(rt; found, Some(4_000_000));
-    let found = first_broken(alloc, 3 * MANY, calls.as_slice(), &needs.as_slice()[501..])?;
+    let mut needs_behind = Vec::new(alloc);
+    for need in needs.as_slice() {
+        if need.last < 4_000_000 {
+            needs_behind.push(*need)?;
+        }
+    }
+    let found = first_broken(alloc, 3 * MANY, calls.as_slice(), needs_behind.as_slice())?;
     assert_eq!(rt; found, None);
     Ok(())
 }
@@ -173,9 +183,13 @@ fn mixed(alloc: Global, routines: u32, count: u32) -> Result<Vec<Call>, AllocErr
     let mut all = Vec::new(alloc);
     let mut seed: u64 = 12345 + count as u64;
     for at in 0..count {
-        seed = seed.wrapping_mul(6364136223846793005).wrapping_add(1442695040888963407);
+        seed = seed
+            .wrapping_mul(6364136223846793005)
+            .wrapping_add(1442695040888963407);
         let from = (seed >> 33) as u32 % routines.max(1);
-        seed = seed.wrapping_mul(6364136223846793005).wrapping_add(1442695040888963407);
+        seed = seed
+            .wrapping_mul(6364136223846793005)
+            .wrapping_add(1442695040888963407);
         let to = (seed >> 33) as u32 % routines.max(1);
         all.push(Call {
             from: Some(from),

@@ -1,5 +1,5 @@
 -- How many nodes an expression has: the measure of its evaluation.
-use Rattle.std.proofs.Common.{◌≡◌, ℕ, suc, ◌+◌, Bool, List, map, rules, ap, ◌∙◌}
+use Rattle.std.proofs.Common.{◌≡◌, ℕ, suc, ◌+◌, Bool, ℤ, List, map, rules, ap, ◌∙◌}
 use Rattle.b4_core.specs.declared.operators.UnOp.{UnOp}
 use Rattle.b4_core.specs.declared.operators.BinOp.{BinOp}
 use Rattle.b4_core.specs.declared.operators.RedOp.{RedOp}
@@ -10,6 +10,7 @@ use Rattle.sv_types.specs.declared.expression.Expr.{Expr, Expr-F, fold-Expr}
 use Rattle.sv_types.specs.declared.expression.Form.{Form, Form-F, fold-Form, the_lemmas}
 use Rattle.sv_types.specs.declared.expression.Form.TheVariants as V
 use Rattle.sv_types.specs.declared.expression.Choice.{Choice, Choice-F, fold-Choice}
+use Rattle.sv_types.specs.declared.expression.Choice.TheVariants as C
 use Rattle.sv_types.specs.Meanings.{total}
 
 abbrev choice_step : Choice-F ℕ ℕ ℕ → ℕ
@@ -153,3 +154,57 @@ form-Repeat n es = search (rules, the_lemmas)
 
 pub nodes-Repeat : (e : Expr) (n : ℕ) (es : List Expr) → e.form ≡ V.Repeat n es → nodes e ≡ suc (total (map nodes es))
 nodes-Repeat e n es is = nodes-at e (V.Repeat n es) (total (map nodes es)) is (form-Repeat n es)
+
+form-Member : (x : Expr) (k : ℕ) → form_nodes (V.Member x k) ≡ nodes x
+form-Member x k = search (rules, the_lemmas)
+
+pub nodes-Member : (e : Expr) (x : Expr) (k : ℕ) → e.form ≡ V.Member x k → nodes e ≡ suc (nodes x)
+nodes-Member e x k is = nodes-at e (V.Member x k) (nodes x) is (form-Member x k)
+
+form-Index : (x : Expr) (y : Expr) → form_nodes (V.Index x y) ≡ nodes x + nodes y
+form-Index x y = search (rules, the_lemmas)
+
+pub nodes-Index : (e : Expr) (x : Expr) (y : Expr) → e.form ≡ V.Index x y → nodes e ≡ suc (nodes x + nodes y)
+nodes-Index e x y is = nodes-at e (V.Index x y) (nodes x + nodes y) is (form-Index x y)
+
+form-Part : (x : Expr) (left : ℤ) (right : ℤ) → form_nodes (V.Part x left right) ≡ nodes x
+form-Part x left right = search (rules, the_lemmas)
+
+pub nodes-Part : (e : Expr) (x : Expr) (left : ℤ) (right : ℤ) → e.form ≡ V.Part x left right → nodes e ≡ suc (nodes x)
+nodes-Part e x left right is = nodes-at e (V.Part x left right) (nodes x) is (form-Part x left right)
+
+form-Slide : (x : Expr) (y : Expr) (n : ℕ) (up : Bool) → form_nodes (V.Slide x y n up) ≡ nodes x + nodes y
+form-Slide x y n up = search (rules, the_lemmas)
+
+pub nodes-Slide : (e : Expr) (x : Expr) (y : Expr) (n : ℕ) (up : Bool) → e.form ≡ V.Slide x y n up → nodes e ≡ suc (nodes x + nodes y)
+nodes-Slide e x y n up is = nodes-at e (V.Slide x y n up) (nodes x + nodes y) is (form-Slide x y n up)
+
+form-Inside : (x : Expr) (cs : List Choice) → form_nodes (V.Inside x cs) ≡ nodes x + total (map choice_nodes cs)
+form-Inside x cs = search (rules, the_lemmas)
+
+pub nodes-Inside : (e : Expr) (x : Expr) (cs : List Choice) → e.form ≡ V.Inside x cs → nodes e ≡ suc (nodes x + total (map choice_nodes cs))
+nodes-Inside e x cs is = nodes-at e (V.Inside x cs) (nodes x + total (map choice_nodes cs)) is (form-Inside x cs)
+
+form-Pattern : (es : List Expr) → form_nodes (V.Pattern es) ≡ total (map nodes es)
+form-Pattern es = search (rules, the_lemmas)
+
+pub nodes-Pattern : (e : Expr) (es : List Expr) → e.form ≡ V.Pattern es → nodes e ≡ suc (total (map nodes es))
+nodes-Pattern e es is = nodes-at e (V.Pattern es) (total (map nodes es)) is (form-Pattern es)
+
+form-Call : (f : ℕ) (es : List Expr) → form_nodes (V.Call f es) ≡ total (map nodes es)
+form-Call f es = search (rules, the_lemmas)
+
+pub nodes-Call : (e : Expr) (f : ℕ) (es : List Expr) → e.form ≡ V.Call f es → nodes e ≡ suc (total (map nodes es))
+nodes-Call e f es is = nodes-at e (V.Call f es) (total (map nodes es)) is (form-Call f es)
+
+form-Stream : (reversed : Bool) (n : ℕ) (es : List Expr) → form_nodes (V.Stream reversed n es) ≡ total (map nodes es)
+form-Stream reversed n es = search (rules, the_lemmas)
+
+pub nodes-Stream : (e : Expr) (reversed : Bool) (n : ℕ) (es : List Expr) → e.form ≡ V.Stream reversed n es → nodes e ≡ suc (total (map nodes es))
+nodes-Stream e reversed n es is = nodes-at e (V.Stream reversed n es) (total (map nodes es)) is (form-Stream reversed n es)
+
+pub nodes-value : (e : Expr) → choice_nodes (C.Value e) ≡ nodes e
+nodes-value e = search (rules, the_lemmas)
+
+pub nodes-range : (a b : Expr) → choice_nodes (C.Range a b) ≡ nodes a + nodes b
+nodes-range a b = search (rules, the_lemmas)

@@ -1,9 +1,10 @@
 -- What valuing an expression answers.
-use Rattle.std.specs.Prelude.{◌≡◌, ⊤, Vec, ℕ, Bool, List, map, Option, Some, Result, Ok, Err}
+use Rattle.std.specs.Prelude.{◌≡◌, ⊤, Vec, ℕ, Bool, List, map, zip, Option, Some, Result, Ok, Err}
 use Rattle.std.specs.Global.{Global}
 use Rattle.b4_core.specs.declared.bit.Bit4.{Bit4}
-use Rattle.sv_types.specs.Surroundings.{Around, Tally, Stop}
+use Rattle.sv_types.specs.Surroundings.{Around, Tally, Stop, Callee}
 use Rattle.sv_types.specs.Meanings.{Meaning, alone, by_itself, values_all}
+use Rattle.sv_types.specs.Operators.{assigned_to}
 use Rattle.eval_parts.specs.declared.halt.Halt.{Halt}
 use Rattle.eval_parts.specs.declared.halt.Halt.TheVariants as H
 use Rattle.eval_parts.specs.Surroundings.{running}
@@ -26,3 +27,42 @@ alones ms a = map (λ (m : Meaning). alone m a) ms
 abbrev pub AllGive : Result (Vec (List Bit4) Global) Halt → List Meaning → Around → Option ℕ → Option ℕ → Type 0
 AllGive (Ok vs) ms a old new = (vs.items ≡ alones ms a) × (values_all (map by_itself ms) a (running old) ≡ running new)
 AllGive (Err halt) ms a old new = Halts halt (values_all (map by_itself ms) a (running old))
+
+-- what is given to a target of so many bits
+abbrev pub GivesTo : Result (List Bit4) Halt → Meaning → ℕ → Around → Option ℕ → Option ℕ → Type 0
+GivesTo (Ok v) m n a old new = (v ≡ m.given n a) × (m.values a (running old) ≡ running new)
+GivesTo (Err halt) m n a old new = Halts halt (m.values a (running old))
+
+-- what is assigned to places with these marks, as far as there are both places and values
+abbrev pub assigned : List (List Bool) → List Meaning → Around → List (List Bit4)
+assigned places ms a = map (λ p. assigned_to p.0 p.1 a) (zip places ms)
+
+abbrev pub values_assigned : List (List Bool) → List Meaning → Around → Tally → Tally
+values_assigned places ms = values_all (map (λ p. by_itself p.1) (zip places ms))
+
+abbrev pub AllAssigned : Result (Vec (List Bit4) Global) Halt → List (List Bool) → List Meaning → Around → Option ℕ → Option ℕ → Type 0
+AllAssigned (Ok vs) places ms a old new = (vs.items ≡ assigned places ms a) × (values_assigned places ms a (running old) ≡ running new)
+AllAssigned (Err halt) places ms a old new = Halts halt (values_assigned places ms a (running old))
+
+-- what a call gives
+abbrev pub CallGives : Result (List Bit4) Halt → Callee → List (List Bit4) → Option ℕ → Option ℕ → Type 0
+CallGives (Ok v) c vs old new = (v ≡ (c.run vs).result) × (c.effort vs (running old) ≡ running new)
+CallGives (Err halt) c vs old new = Halts halt (c.effort vs (running old))
+
+-- what can only want memory, which stops a run
+abbrev pub Stops : {E : Type 0} → Result (List Bit4) E → Result (List Bit4) Halt → Type 0
+Stops (Ok v) r = r ≡ Ok v
+Stops (Err x) r = r ≡ Err H.Memory
+
+-- what is made of an operand: it stops where the operand stopped, or wants memory
+abbrev pub Makes : Result (List Bit4) Halt → List Bit4 → Type 0
+Makes (Ok r) x = r ≡ x
+Makes (Err halt) x = halt ≡ H.Memory
+
+abbrev pub Follows : Result (List Bit4) Halt → (List Bit4 → List Bit4) → Result (List Bit4) Halt → Type 0
+Follows (Ok v) f r = Makes r (f v)
+Follows (Err halt) f r = r ≡ Err halt
+
+abbrev pub FollowsAll : Result (Vec (List Bit4) Global) Halt → (List (List Bit4) → List Bit4) → Result (List Bit4) Halt → Type 0
+FollowsAll (Ok vs) f r = Makes r (f vs.items)
+FollowsAll (Err halt) f r = r ≡ Err halt

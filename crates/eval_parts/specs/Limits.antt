@@ -1,11 +1,12 @@
 -- What a tree keeps that is valued.
-use Rattle.std.specs.Prelude.{◌≡◌, ◌<◌, ◌≤◌, ⊤, ℕ, List, [], ◌∷◌}
+use Rattle.std.specs.Prelude.{◌≡◌, ◌<◌, ◌≤◌, ⊤, ℕ, Bool, List, [], ◌∷◌}
 use Rattle.sv_types.specs.declared.expression.Expr.{Expr}
 use Rattle.sv_types.specs.Expressions.{meaning}
 use Rattle.sv_types.specs.declared.statement.Function.{Function}
 use Rattle.sv_types.specs.Surroundings.{Parameter}
 use Rattle.sv_types.specs.Functions.{callees}
 use Rattle.sv_types.specs.Meanings.{Meaning, wide}
+use Rattle.sv_types.specs.Operators.{assigned_width}
 
 -- the formals of each function
 abbrev pub formals_of : List Function → ℕ → List Parameter
@@ -28,3 +29,9 @@ FitsAlone m fs = Fits m fs (wide m)
 abbrev pub AllFit : List Expr → (ℕ → List Parameter) → Type 0
 AllFit [] fs = ⊤
 AllFit (e ∷ es) fs = FitsAlone (meaning e) fs × AllFit es fs
+
+-- what is assigned to places with these marks
+abbrev pub AllFitAt : List (List Bool) → List Expr → (ℕ → List Parameter) → Type 0
+AllFitAt [] es fs = ⊤
+AllFitAt (p ∷ ps) [] fs = ⊤
+AllFitAt (p ∷ ps) (e ∷ es) fs = Fits (meaning e) fs (assigned_width p (meaning e)) × AllFitAt ps es fs

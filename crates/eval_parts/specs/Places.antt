@@ -6,6 +6,7 @@ use Rattle.picks.specs.Windows as P
 use Rattle.row_machine.specs.Valuation.{Valuation}
 use Rattle.sv_types.specs.Surroundings.{Around, local_number}
 use Rattle.sv_types.specs.Meanings.{Meaning}
+use Rattle.sv_types.specs.Paths.{places_from}
 use Rattle.eval_parts.specs.declared.halt.Halt.{Halt}
 use Rattle.eval_parts.specs.declared.paths.Window.{Window}
 use Rattle.eval_parts.specs.declared.paths.Root.{Root}
@@ -45,9 +46,10 @@ pub record IsFound (f : Found) (m : Meaning) (a : Around) : Type 0 where
   pub bits : (k : ℕ) → k < f.window.high → slice_index_or (m.base a) k X ≡ bit_of f.root a.now k
   pub near : IsNear f.window.shift
 
+-- finding a path values its indices, and finding anything else values it
 abbrev pub FindGives : Result Found Halt → Meaning → Around → Option ℕ → Option ℕ → Type 0
-FindGives (Ok f) m a old new = IsFound f m a × (m.places a (running old) ≡ running new)
-FindGives (Err halt) m a old new = Halts halt (m.places a (running old))
+FindGives (Ok f) m a old new = IsFound f m a × (places_from m.root m a (running old) ≡ running new)
+FindGives (Err halt) m a old new = Halts halt (places_from m.root m a (running old))
 
 -- what a path stands on is held, if it is a signal
 abbrev pub IsHeld : Root → Around → Type 0

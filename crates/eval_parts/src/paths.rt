@@ -112,11 +112,13 @@ fn trim(shift: i128, low: u128, high: u32) -> Window
 }
 
 /// So many bits of a path from its bit number `from` on; some of them may be out of range.
+#[tactic(auto, using(crate::proofs::Near::parts))]
 pub fn part_of(path: Window, from: i128, width: u128) -> Window
     requires path { IsNear path.shift }
     requires from { IsNear from }
     requires width { width ≤ 2 ^ 100 }
-    ensures { window_of result ≡ part from width (window_of path) }
+    ensures window { window_of result ≡ part from width (window_of path) }
+    ensures near { IsNear result.shift }
 {
     let shift = sum(path.shift, from);
     let low = lower_end(path.low, shift);

@@ -62,7 +62,8 @@ fn elements_at(t: &SvType, lowest: i128, n: u128, path: Window) -> Window
     requires lowest { unsigned_abs lowest ≤ 2 ^ 70 }
     requires n { n ≤ 2 ^ 70 }
     requires path { IsNear path.shift }
-    ensures { window_of result ≡ elements (layout t.now) lowest n (window_of path) }
+    ensures window { window_of result ≡ elements (layout t.now) lowest n (window_of path) }
+    ensures near { IsNear result.shift }
 {
     let element = bounds_of(t).element;
     part_of(path, scaled(lowest, element), width_of_elements(n, element))
@@ -91,7 +92,8 @@ pub fn element_at(t: &SvType, index: Option<i128>, path: Window) -> Window
     requires narrow { width_of t.now ≤ 4194304 }
     requires index { IfSome index (λ k. unsigned_abs k ≤ 2 ^ 65) }
     requires path { IsNear path.shift }
-    ensures { window_of result ≡ element_of (layout t.now) index (window_of path) }
+    ensures window { window_of result ≡ element_of (layout t.now) index (window_of path) }
+    ensures near { IsNear result.shift }
 {
     match index {
         None => nothing(),
@@ -110,7 +112,8 @@ pub fn element_at(t: &SvType, index: Option<i128>, path: Window) -> Window
 pub fn between_at(t: &SvType, left: i64, right: i64, path: Window) -> Window
     requires narrow { width_of t.now ≤ 4194304 }
     requires path { IsNear path.shift }
-    ensures { window_of result ≡ between (layout t.now) left right (window_of path) }
+    ensures window { window_of result ≡ between (layout t.now) left right (window_of path) }
+    ensures near { IsNear result.shift }
 {
     let n = count(Bounds {
         left,
@@ -143,7 +146,8 @@ pub fn slide_at(t: &SvType, up: bool, n: u32, index: Option<i128>, path: Window)
     requires narrow { width_of t.now ≤ 4194304 }
     requires index { IfSome index (λ k. unsigned_abs k ≤ 2 ^ 64) }
     requires path { IsNear path.shift }
-    ensures { window_of result ≡ slide (layout t.now) up n index (window_of path) }
+    ensures window { window_of result ≡ slide (layout t.now) up n index (window_of path) }
+    ensures near { IsNear result.shift }
 {
     match index {
         None => nothing(),

@@ -1,6 +1,6 @@
 -- What is kept beside a table, one more thing at a time.
 use Rattle.std.proofs.Common.{◌≡◌, ℕ, suc, ◌+◌, ◌<◌, ◌≤◌, ◌⊎◌, inl, inr, Bool, true, false, nat_eq, if◌then◌else◌, List, [], ◌∷◌, ◌++◌, length, drop, get_or, Option, Some, None, refl, sym, ap, ◌∙◌, append_assoc, arith}
-use Rattle.std.specs.Prelude.{filter}
+use Rattle.std.specs.Prelude.{filter, flat_map}
 use Rattle.std.proofs.lemmas.Bool.Decides.{nat_tests}
 use Rattle.std.proofs.lemmas.List.{drop_more, drop_all}
 use Rattle.sv_source.specs.declared.token.Token.{Token}
@@ -22,14 +22,14 @@ put-one : (ts : List Token) (t : Table) (o : Option Use) (u : Use) (b : Bool)
 put-one ts t o u true = refl
 put-one ts t o u false = refl
 
-pub found-put : (ts : List Token) (t : Table) (before after : ℕ → Option Found) (us : List Use) (at k : ℕ) (u : Use) (f : Found) → k + 1 ≡ at → k < length us → u ≡ get_or us k u
-    → f ≡ finds ts t u → after ≡ put_found before u.at f → ((q : ℕ) → before q ≡ found_at ts t (drop at us) q) → (q : ℕ) → after q ≡ found_at ts t (drop k us) q
-found-put ts t before after us at k u f next within is finds_it put so_far q =
-    let rest : drop k us ≡ u ∷ drop (k + 1) us = drop_more us k u within ∙ ap (λ x. x ∷ drop (k + 1) us) (sym is) in
+pub found-put : (ts : List Token) (t : Table) (before after : ℕ → Option Found) (us : List Use) (at k : ℕ) (d : Use) (f : Found) → k + 1 ≡ at → k < length us
+    → f ≡ finds ts t (get_or us k d) → after ≡ put_found before (get_or us k d).at f → ((q : ℕ) → before q ≡ found_at ts t (drop at us) q) → (q : ℕ) → after q ≡ found_at ts t (drop k us) q
+found-put ts t before after us at k d f next within finds_it put so_far q =
+    let rest : drop k us ≡ get_or us k d ∷ drop (k + 1) us = drop_more us k d within in
     ap (λ (g : ℕ → Option Found). g q) put
-    ∙ ap (λ x. if nat_eq u.at q then Some x else before q) finds_it
-    ∙ ap (λ o. if nat_eq u.at q then Some (finds ts t u) else o) (so_far q ∙ ap (λ n. found_at ts t (drop n us) q) (sym next))
-    ∙ put-one ts t (use_at q (drop (k + 1) us)) u (nat_eq u.at q)
+    ∙ ap (λ x. if nat_eq (get_or us k d).at q then Some x else before q) finds_it
+    ∙ ap (λ o. if nat_eq (get_or us k d).at q then Some (finds ts t (get_or us k d)) else o) (so_far q ∙ ap (λ n. found_at ts t (drop n us) q) (sym next))
+    ∙ put-one ts t (use_at q (drop (k + 1) us)) (get_or us k d) (nat_eq (get_or us k d).at q)
     ∙ ap (λ xs. found_at ts t xs q) (sym rest)
 
 pub found-none : (ts : List Token) (t : Table) (us : List Use) (q : ℕ) → None ≡ found_at ts t (drop (length us) us) q
@@ -41,25 +41,32 @@ declared-found ts t None = refl
 declared-found ts t (Some u) = refl
 
 -- one more loop behind those of its scope
-pub loop-push : (before after : ℕ → List LoopRun) (ls : List LoopRun) (k : ℕ) (l : LoopRun) → k < length ls → l ≡ get_or ls k l → after ≡ with_loop before l
+loop-by : (before : ℕ → List LoopRun) (rest : List LoopRun) (l : LoopRun) (s : ℕ) → (nat_eq l.scope s ≡ true) ⊎ (nat_eq l.scope s ≡ false)
+    → with_loop before l s ++ filter (is_loop_of s) rest ≡ before s ++ filter (is_loop_of s) (l ∷ rest)
+loop-by before rest l s (inl h) =
+    let same : l.scope ≡ s = grind (arith, nat_tests, h) in
+    ap (λ b. (if b then before l.scope ++ l ∷ [] else before s) ++ filter (is_loop_of s) rest) h
+    ∙ ap (λ n. (before n ++ l ∷ []) ++ filter (is_loop_of s) rest) same
+    ∙ append_assoc (before s) (l ∷ []) (filter (is_loop_of s) rest)
+    ∙ sym (ap (λ b. before s ++ (if b then l ∷ filter (is_loop_of s) rest else filter (is_loop_of s) rest)) h)
+loop-by before rest l s (inr h) =
+    ap (λ b. (if b then before l.scope ++ l ∷ [] else before s) ++ filter (is_loop_of s) rest) h
+    ∙ sym (ap (λ b. before s ++ (if b then l ∷ filter (is_loop_of s) rest else filter (is_loop_of s) rest)) h)
+
+pub loop-push : (before after : ℕ → List LoopRun) (ls : List LoopRun) (k : ℕ) (d : LoopRun) → k < length ls → after ≡ with_loop before (get_or ls k d)
     → ((s : ℕ) → before s ++ filter (is_loop_of s) (drop k ls) ≡ filter (is_loop_of s) ls) → (s : ℕ) → after s ++ filter (is_loop_of s) (drop (k + 1) ls) ≡ filter (is_loop_of s) ls
-loop-push before after ls k l within at_k put so_far s =
-    let rest : drop k ls ≡ l ∷ drop (k + 1) ls = drop_more ls k l within ∙ ap (λ x. x ∷ drop (k + 1) ls) (sym at_k) in
+loop-push before after ls k d within put so_far s =
     ap (λ (f : ℕ → List LoopRun). f s ++ filter (is_loop_of s) (drop (k + 1) ls)) put
-    ∙ by_scope (true_or_false (nat_eq l.scope s))
-    ∙ ap (λ xs. before s ++ filter (is_loop_of s) xs) (sym rest)
+    ∙ loop-by before (drop (k + 1) ls) (get_or ls k d) s (true_or_false (nat_eq (get_or ls k d).scope s))
+    ∙ ap (λ xs. before s ++ filter (is_loop_of s) xs) (sym (drop_more ls k d within))
     ∙ so_far s
-  where
-    by_scope : (nat_eq l.scope s ≡ true) ⊎ (nat_eq l.scope s ≡ false)
-        → with_loop before l s ++ filter (is_loop_of s) (drop (k + 1) ls) ≡ before s ++ filter (is_loop_of s) (l ∷ drop (k + 1) ls)
-    by_scope (inl h) =
-        let same : l.scope ≡ s = grind (arith, nat_tests, h) in
-        ap (λ b. (if b then before l.scope ++ l ∷ [] else before s) ++ filter (is_loop_of s) (drop (k + 1) ls)) h
-        ∙ ap (λ n. (before n ++ l ∷ []) ++ filter (is_loop_of s) (drop (k + 1) ls)) same
-        ∙ append_assoc (before s) (l ∷ []) (filter (is_loop_of s) (drop (k + 1) ls))
-        ∙ sym (ap (λ b. before s ++ (if b then l ∷ filter (is_loop_of s) (drop (k + 1) ls) else filter (is_loop_of s) (drop (k + 1) ls))) h)
-    by_scope (inr h) =
-        ap (λ b. (if b then before l.scope ++ l ∷ [] else before s) ++ filter (is_loop_of s) (drop (k + 1) ls)) h
-        ∙ sym (ap (λ b. before s ++ (if b then l ∷ filter (is_loop_of s) (drop (k + 1) ls) else filter (is_loop_of s) (drop (k + 1) ls))) h)
+
+-- one more thing of each use
+pub add-more : {A B : Type 0} (f : A → List B) (xs : List A) (k : ℕ) (d : A) (before after : List B) → k < length xs → after ≡ before ++ f (get_or xs k d)
+    → after ++ flat_map f (drop (k + 1) xs) ≡ before ++ flat_map f (drop k xs)
+add-more f xs k d before after within added =
+    ap (λ ys. ys ++ flat_map f (drop (k + 1) xs)) added
+    ∙ append_assoc before (f (get_or xs k d)) (flat_map f (drop (k + 1) xs))
+    ∙ ap (λ ys. before ++ flat_map f ys) (sym (drop_more xs k d within))
 
 pub ruleset finding = (declared-found)

@@ -5,3 +5,5 @@ pub mod Orders
 pub mod Kept
 pub mod Around
 pub mod Clashing
+pub mod Calls
+pub mod Answering

@@ -1,18 +1,22 @@
 -- The least break of lists in a row.
-use Rattle.std.proofs.Common.{◌≡◌, ℕ, suc, ◌+◌, ◌⊎◌, inl, inr, Bool, true, false, cond, nat_lt, List, [], ◌∷◌, ◌++◌, Option, Some, None, is_some, refl, sym, ap, ◌∙◌, arith}
+use Rattle.std.proofs.Common.{◌≡◌, ℕ, suc, ◌+◌, ◌<◌, ◌⊎◌, inl, inr, Bool, true, false, cond, nat_lt, List, [], ◌∷◌, ◌++◌, Option, Some, None, is_some, refl, sym, ap, ◌∙◌, add-one, length, drop, get_or, arith}
 use Rattle.std.specs.Prelude.{flat_map, nat_eq, option_map, ◌||◌, ◌&&◌}
-use Rattle.call_circles.specs.Calls.{is_broken, first_of, first_broken, lesser_if}
-use Rattle.call_circles.specs.declared.calls.Call.{Call}
-use Rattle.call_circles.specs.declared.calls.Need.{Need}
 use Rattle.name_events.specs.declared.events.Event.{Event}
+use Rattle.std.specs.Str.{bytes_eq}
 use Rattle.std.proofs.lemmas.Bool.Decides.{nat_tests}
+use Rattle.std.proofs.lemmas.List.{drop_more}
+use Rattle.std.proofs.lemmas.Slice.Eq.{bytes_eq-Decides}
 use Rattle.sv_source.specs.declared.token.Token.{Token}
 use Rattle.package_scope.specs.declared.breaks.Break.{Break}
 use Rattle.package_scope.specs.declared.table.Table.{Table}
 use Rattle.package_scope.specs.Least.{joined, least_over, least_kept, package_or, package_least}
 use Rattle.package_scope.specs.Lookup.{own, package_found}
 use Rattle.package_scope.specs.Tables.{word}
-use Rattle.package_scope.specs.Rules.{breaks_at, breaks_if, package_breaks, is_less, lesser, least, is_kept, kept_breaks, use_breaks, import_breaks, wildcard_breaks, declaration_breaks, repeated_import_breaks, event_breaks, call_breaks, calls_breaks, calls, needs, all_breaks}
+use Rattle.package_scope.specs.Rules.{breaks_at, breaks_if, package_breaks, is_less, lesser, least, is_kept, kept_breaks, use_breaks, import_breaks, wildcard_breaks, declaration_breaks, repeated_import_breaks, event_breaks, calls_breaks, all_breaks}
+
+true_or_false : (b : Bool) → (b ≡ true) ⊎ (b ≡ false)
+true_or_false true = inl refl
+true_or_false false = inr refl
 
 less-less : (a b c : Break) → is_less c b ≡ true → is_less b a ≡ true → is_less c a ≡ true
 less-less a b c h k = grind (arith, nat_tests, h, k)
@@ -38,7 +42,7 @@ joined-joined (Some a) None c = refl
 joined-joined (Some a) (Some b) None = refl
 joined-joined (Some a) (Some b) (Some c) =
     ap Some (three a b c (is_less b a) (is_less c b) (is_less c a)
-        (λ h k. less-less a b c h k) (λ h k. not-less a b c h k) refl refl refl)
+    (λ h k. less-less a b c h k) (λ h k. not-less a b c h k) refl refl refl)
 
 joined-none : (a : Option Break) → joined a None ≡ a
 joined-none None = refl
@@ -83,33 +87,23 @@ package-or-is t holder bs (Some n) = behind-is t holder n bs (is_some (package_f
 pub package-is : (ts : List Token) (t : Table) (holder : ℕ) (bs : List Break) → package_least ts t holder (least bs) ≡ least (package_breaks ts t holder bs)
 package-is ts t holder bs = package-or-is t holder bs (own t 0 (word ts holder) holder)
 
--- the least break by a call stands at the first call that is broken
-call-first : (cs : List Call) (ns : List Need) (xs : List Call) → least (flat_map (call_breaks cs ns) xs) ≡ option_map (λ at. record { at = at; rule = 609 }) (first_of (is_broken cs ns) xs)
-call-first cs ns [] = refl
-call-first cs ns (x ∷ xs) =
-    least-append (call_breaks cs ns x) (flat_map (call_breaks cs ns) xs)
-    ∙ ap (λ o. joined (least (call_breaks cs ns x)) o) (call-first cs ns xs)
-    ∙ by (is_broken cs ns x) (first_of (is_broken cs ns) xs)
-  where
-    choose : (a b : ℕ) (c : Bool) → c ≡ nat_lt b a
-        → Some (cond (nat_lt b a || (nat_eq b a && nat_lt 609 609)) (record { at = b; rule = 609 }) (record { at = a; rule = 609 })) ≡ option_map (λ at. record { at = at; rule = 609 }) (Some (cond c b a))
-    choose a b true is = ap (λ t. Some (cond (t || (nat_eq b a && false)) (record { at = b; rule = 609 }) (record { at = a; rule = 609 }))) (sym is)
-    choose a b false is =
-        ap (λ t. Some (cond (t || (nat_eq b a && false)) (record { at = b; rule = 609 }) (record { at = a; rule = 609 }))) (sym is)
-        ∙ ap (λ t. Some (cond t (record { at = b; rule = 609 }) (record { at = a; rule = 609 }))) (never (nat_eq b a))
-      where
-        never : (b : Bool) → (b && false) ≡ false
-        never true = refl
-        never false = refl
-    by : (b : Bool) (o : Option ℕ) → joined (least (breaks_if b 609 x.at)) (option_map (λ at. record { at = at; rule = 609 }) o) ≡ option_map (λ at. record { at = at; rule = 609 }) (lesser_if b x.at o)
-    by false o = refl
-    by true None = refl
-    by true (Some n) = choose x.at n (nat_lt n x.at) refl
-
-pub calls-first : (ts : List Token) (t : Table) → least (calls_breaks ts t) ≡ option_map (λ at. record { at = at; rule = 609 }) (first_broken (calls ts t) (needs ts t))
-calls-first ts t = call-first (calls ts t) (needs ts t) (calls ts t)
-
 -- all breaks
+pub kept-more : (ks : List Token) (at : ℕ) (k : Token) (known new : Option Break) → at < length ks → k ≡ get_or ks at k → new ≡ joined known (least (breaks_if (is_kept k) 404 at))
+    → least_kept new (at + 1) (drop (at + 1) ks) ≡ least_kept known at (drop at ks)
+kept-more ks at k known new within is joins =
+    ap (λ o. least_kept o (at + 1) (drop (at + 1) ks)) joins
+    ∙ ap (λ n. least_kept (joined known (least (breaks_if (is_kept k) 404 at))) n (drop (at + 1) ks)) (add-one at)
+    ∙ ap (λ xs. least_kept known at xs) (sym (drop_more ks at k within ∙ ap (λ x. x ∷ drop (at + 1) ks) (sym is)))
+
+pub bytes-swap : (a b : List ℕ) → bytes_eq a b ≡ bytes_eq b a
+bytes-swap a b = elim (true_or_false (bytes_eq a b)) [
+  | inl h ↦ h ∙ sym ((bytes_eq-Decides b a).1 (sym ((bytes_eq-Decides a b).0 h)))
+  | inr h ↦ elim (true_or_false (bytes_eq b a)) [
+    | inl k ↦ (bytes_eq-Decides a b).1 (sym ((bytes_eq-Decides b a).0 k)) ∙ sym k
+    | inr k ↦ h ∙ sym k
+  ]
+]
+
 over-append : {A : Type 0} (f : A → List Break) (xs : List A) (ys : List Break) → joined (least_over f None xs) (least ys) ≡ least (flat_map f xs ++ ys)
 over-append f xs ys = ap (λ o. joined o (least ys)) (over-is f xs) ∙ sym (least-append (flat_map f xs) ys)
 
@@ -121,28 +115,44 @@ pub all-is : (ts : List Token) (t : Table) (es : List Event) (c : Option Break) 
     (joined (least_over (event_breaks ts t) None es)
     (joined (least_kept None 0 ts) c)))))
     ≡ least (all_breaks ts t es)
+unfolding all_breaks
 all-is ts t es c is =
     ap (λ o. joined (least_over (use_breaks ts t) None t.uses) o)
-        (ap (λ o. joined (least_over (import_breaks ts t) None t.named) o)
-            (ap (λ o. joined (least_over (wildcard_breaks ts t) None t.wildcards) o)
-                (joined-joined (least_over (declaration_breaks t) None t.declared) (least_over (repeated_import_breaks t) None t.named) _
-                ∙ ap (λ o. joined (least_over (declaration_breaks t) None t.declared) o)
-                    (ap (λ o. joined (least_over (repeated_import_breaks t) None t.named) o)
-                        (ap (λ o. joined (least_over (event_breaks ts t) None es) o)
-                            (both (kept-is ts) is
-                            ∙ sym (least-append (kept_breaks 0 ts) (calls_breaks ts t)))
-                        ∙ over-append (event_breaks ts t) es _)
-                    ∙ over-append (repeated_import_breaks t) t.named _)
-                ∙ over-append (declaration_breaks t) t.declared _)
-            ∙ over-append (wildcard_breaks ts t) t.wildcards _)
-        ∙ over-append (import_breaks ts t) t.named _)
+    (ap (λ o. joined (least_over (import_breaks ts t) None t.named) o)
+    (ap (λ o. joined (least_over (wildcard_breaks ts t) None t.wildcards) o)
+    (joined-joined (least_over (declaration_breaks t) None t.declared) (least_over (repeated_import_breaks t) None t.named) _
+    ∙ ap (λ o. joined (least_over (declaration_breaks t) None t.declared) o)
+    (ap (λ o. joined (least_over (repeated_import_breaks t) None t.named) o)
+    (ap (λ o. joined (least_over (event_breaks ts t) None es) o)
+    (ap (λ o. joined o c) (kept-is ts) ∙ ap (λ o. joined (least (kept_breaks 0 ts)) o) is
+    ∙ sym (least-append (kept_breaks 0 ts) (calls_breaks ts t)))
+    ∙ over-append (event_breaks ts t) es _)
+    ∙ over-append (repeated_import_breaks t) t.named _)
+    ∙ over-append (declaration_breaks t) t.declared _)
+    ∙ over-append (wildcard_breaks ts t) t.wildcards _)
+    ∙ over-append (import_breaks ts t) t.named _)
     ∙ over-append (use_breaks ts t) t.uses _
-  where
-    both : {a b c d : Option Break} → a ≡ b → c ≡ d → joined a c ≡ joined b d
-    both {b = b} {c = c} e f = ap (λ o. joined o c) e ∙ ap (λ o. joined b o) f
+
+-- the same by the parts that a search has found
+pub all-from : (ts : List Token) (t : Table) (es : List Event) (u i w d o k c f g h j l r : Option Break)
+    → u ≡ least_over (use_breaks ts t) None t.uses
+    → i ≡ least_over (import_breaks ts t) None t.named
+    → w ≡ least_over (wildcard_breaks ts t) None t.wildcards
+    → d ≡ joined (least_over (declaration_breaks t) None t.declared) (least_over (repeated_import_breaks t) None t.named)
+    → o ≡ least_over (event_breaks ts t) None es
+    → k ≡ least_kept None 0 ts
+    → c ≡ least (calls_breaks ts t)
+    → f ≡ joined k c → g ≡ joined o f → h ≡ joined d g → j ≡ joined w h → l ≡ joined i j → r ≡ joined u l
+    → r ≡ least (all_breaks ts t es)
+all-from ts t es u i w d o k c f g h j l r is_u is_i is_w is_d is_o is_k is_c is_f is_g is_h is_j is_l is_r =
+    let f_is : f ≡ joined (least_kept None 0 ts) c = is_f ∙ ap (λ x. joined x c) is_k in
+    let g_is : g ≡ joined (least_over (event_breaks ts t) None es) (joined (least_kept None 0 ts) c) = is_g ∙ ap (λ x. joined x f) is_o ∙ ap (λ x. joined (least_over (event_breaks ts t) None es) x) f_is in
+    let h_is = is_h ∙ ap (λ x. joined x g) is_d ∙ ap (λ x. joined (joined (least_over (declaration_breaks t) None t.declared) (least_over (repeated_import_breaks t) None t.named)) x) g_is in
+    let j_is = is_j ∙ ap (λ x. joined x h) is_w ∙ ap (λ x. joined (least_over (wildcard_breaks ts t) None t.wildcards) x) h_is in
+    let l_is = is_l ∙ ap (λ x. joined x j) is_i ∙ ap (λ x. joined (least_over (import_breaks ts t) None t.named) x) j_is in
+    is_r ∙ ap (λ x. joined x l) is_u ∙ ap (λ x. joined (least_over (use_breaks ts t) None t.uses) x) l_is
+    ∙ all-is ts t es c is_c
 
 pub ruleset joining = (least-append)
 
 pub ruleset packaging = (package-is)
-
-pub ruleset calling = (calls-first)

@@ -7,7 +7,7 @@ use Rattle.sv_source.specs.declared.token.Place.{Place}
 use Rattle.sv_source.specs.declared.token.Token.{Token}
 use Rattle.sv_tree.specs.declared.units.SourceTree.{SourceTree}
 use Rattle.package_scope.specs.declared.breaks.Break.{Break}
-use Rattle.package_scope.specs.Finding.{ScopedTree}
+use Rattle.package_scope.specs.declared.scoped.Scopes.{Scopes}
 use Rattle.package_scope.specs.Rules.{names_break}
 use Rattle.package_scope.specs.Tables.{word, table_of}
 
@@ -23,7 +23,7 @@ abbrev pub names_refusal : SourceTree → Option Refusal
 names_refusal tree = option_map (refusal_of tree.tokens) (names_break tree)
 
 -- A tree in which no rule on names is broken has its scopes, and any other one its refusal.
-abbrev pub ScopesGive : SourceTree → Result ScopedTree Fail → Type 0
-ScopesGive tree (Ok s) = (names_refusal tree ≡ None) × (s ≡ record { tree = tree; table = table_of tree })
+abbrev pub ScopesGive : SourceTree → Result Scopes Fail → Type 0
+ScopesGive tree (Ok s) = (names_refusal tree ≡ None) × (s.tree.now ≡ tree) × (s.names ≡ table_of tree)
 ScopesGive tree (Err Memory) = Unit {0}
 ScopesGive tree (Err (Refused r)) = names_refusal tree ≡ Some r

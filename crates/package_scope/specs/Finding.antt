@@ -2,7 +2,6 @@
 use Rattle.std.specs.Prelude.{◌≡◌, ℕ, Bool, nat_eq, List, [], ◌∷◌, ◌++◌, filter, Option, Some, None, if◌then◌else◌}
 use Rattle.indexmap.specs.IndexMap as map
 use Rattle.sv_source.specs.declared.token.Token.{Token}
-use Rattle.sv_tree.specs.declared.units.SourceTree.{SourceTree}
 use Rattle.package_scope.specs.declared.found_uses.FoundUses.{FoundUses}
 use Rattle.package_scope.specs.declared.loops.Loops.{Loops}
 use Rattle.package_scope.specs.declared.table.Declaration.{Declaration}
@@ -45,11 +44,7 @@ loops_in x = λ s. list_or_none (map.get nat_eq x.lists s)
 abbrev pub with_loop : (ℕ → List LoopRun) → LoopRun → ℕ → List LoopRun
 with_loop lists l = λ s. if nat_eq l.scope s then lists l.scope ++ l ∷ [] else lists s
 
--- A tree with the table of its scopes.
-pub record ScopedTree : Type 0 where
-  pub tree : SourceTree
-  pub table : Table
-
+-- It is that of the table.
 pub record Kept (ts : List Token) (t : Table) (x : FoundUses) (y : Loops) : Type 0 where
   pub found : (at : ℕ) → found_in x at ≡ found_at ts t t.uses at
   pub loops : (s : ℕ) → loops_in y s ≡ filter (is_loop_of s) t.loops

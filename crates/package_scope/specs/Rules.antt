@@ -408,7 +408,7 @@ abbrev pub calls_breaks : List Token → Table → List Break
 calls_breaks ts t = flat_map (call_breaks (calls ts t) (needs ts t)) (calls ts t)
 
 -- All breaks of a text, and the one that is answered.
-abbrev pub all_breaks : List Token → Table → List Event → List Break
+unfoldable pub all_breaks : List Token → Table → List Event → List Break
 all_breaks ts t es =
     flat_map (use_breaks ts t) t.uses
     ++ (flat_map (import_breaks ts t) t.named
@@ -419,5 +419,5 @@ all_breaks ts t es =
     ++ (kept_breaks 0 ts
     ++ calls_breaks ts t))))))
 
-abbrev pub names_break : SourceTree → Option Break
+unfoldable pub names_break : SourceTree → Option Break
 names_break tree = least (all_breaks tree.tokens (table_of tree) (events_of tree))

@@ -132,5 +132,5 @@ start last = record { current = 0; scopes = unit_scope last ∷ []; declared = [
 
 -- The table of a text. Scopes are numbered from 0 in the order of their first tokens, the compilation unit first, and
 -- declarations in the order of their tokens.
-abbrev pub table_of : SourceTree → Table
+unfoldable pub table_of : SourceTree → Table
 table_of tree = steps tree.tokens (events_of tree) (start (length tree.tokens - 1))

@@ -5,7 +5,7 @@ ghost use Rattle.package_scope.specs.Rules as means;
 
 use crate::breaks::Break;
 use crate::building::number;
-use crate::scoped::Scopes;
+use crate::named_text::NamedText;
 use crate::table::{DeclKind, Declaration, Found, Table, Use};
 use crate::walks::routine_around;
 use call_circles::{Call, Need, first_broken};
@@ -53,10 +53,10 @@ fn is_needed(table: &Table, declaration: &Declaration) -> bool
     is_constant_kind(declaration.what) && routine_around(table, declaration.scope).is_none()
 }
 
-impl<'t> Scopes<'t> {
+impl<'t> NamedText<'t> {
     /// Adds the call that a use is, if it is one.
     fn add_call(&self, found_by: Use, calls: &mut Items<Call>) -> Result<(), AllocError>
-        ensures { OnOk result (calls.new ≡ calls.old ++ means.call_by self.now.tree.tokens self.now.table found_by) }
+        ensures { OnOk result (calls.new ≡ calls.old ++ means.call_by self.now.tokens.now self.now.names.now found_by) }
     {
         let Found::Decl(number) = self.finds(found_by) else {
             return Ok(());
@@ -76,7 +76,7 @@ impl<'t> Scopes<'t> {
 
     /// Adds what a routine needs by a use, if it is something.
     fn add_need(&self, found_by: Use, needs: &mut Items<Need>) -> Result<(), AllocError>
-        ensures { OnOk result (needs.new ≡ needs.old ++ means.need_by self.now.tree.tokens self.now.table found_by) }
+        ensures { OnOk result (needs.new ≡ needs.old ++ means.need_by self.now.tokens.now self.now.names.now found_by) }
     {
         let Some(routine) = routine_around(self.table(), found_by.scope) else {
             return Ok(());
@@ -98,7 +98,7 @@ impl<'t> Scopes<'t> {
 
     /// The calls.
     fn calls(&self, alloc: Global) -> Result<Items<Call>, AllocError>
-        ensures { IfOk result (λ cs. cs ≡ means.calls self.now.tree.tokens self.now.table) }
+        ensures { IfOk result (λ cs. cs ≡ means.calls self.now.tokens.now self.now.names.now) }
     {
         let uses = self.table().uses.as_slice();
         let mut calls = Items::new(alloc);
@@ -110,7 +110,7 @@ impl<'t> Scopes<'t> {
 
     /// What routines need.
     fn needs(&self, alloc: Global) -> Result<Items<Need>, AllocError>
-        ensures { IfOk result (λ ns. ns ≡ means.needs self.now.tree.tokens self.now.table) }
+        ensures { IfOk result (λ ns. ns ≡ means.needs self.now.tokens.now self.now.names.now) }
     {
         let uses = self.table().uses.as_slice();
         let mut needs = Items::new(alloc);
@@ -121,9 +121,9 @@ impl<'t> Scopes<'t> {
     }
 
     /// The least break by a call.
-    #[tactic(auto, using(crate::proofs::Orders::calling))]
+    #[tactic(auto, using(crate::proofs::Calls::calling))]
     pub(crate) fn calls_break(&self, alloc: Global) -> Result<Option<Break>, AllocError>
-        ensures { IfOk result (λ b. b ≡ means.least (means.calls_breaks self.now.tree.tokens self.now.table)) }
+        ensures { IfOk result (λ b. b ≡ means.least (means.calls_breaks self.now.tokens.now self.now.names.now)) }
     {
         let calls = self.calls(alloc)?;
         let needs = self.needs(alloc)?;

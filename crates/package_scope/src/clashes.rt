@@ -1,6 +1,6 @@
 //! Names that a scope has twice.
 
-ghost use Rattle.std.specs.Prelude.{◌≡◌, ℕ, List, None, IfOk, OnOk};
+ghost use Rattle.std.specs.Prelude.{◌≡◌, ◌||◌, ℕ, List, None, IfOk, OnOk};
 ghost use Rattle.package_scope.specs.Earliest as means;
 ghost use Rattle.package_scope.specs.Index.{number_in};
 ghost use Rattle.package_scope.specs.Least.{joined, least_over};
@@ -180,7 +180,8 @@ impl Clashes {
             return Err(AllocError);
         };
         let earliest = with_one(token, share, self.find(scope, Some(number)));
-        self.keep(scope, number, earliest)
+        self.keep(scope, number, earliest)?;
+        Ok(())
     }
 
     /// Whether a thing at a token stands behind one of its name in its scope that doesn't share it.
@@ -219,8 +220,9 @@ fn declared_of(alloc: Global, names: &Names, list: &[Declaration]) -> Result<Cla
     let mut at = list.len();
     while at > 0 {
         at -= 1;
-        let share = construct_of(list[at].how);
-        clashes.add(names, list[at].scope, &list[at].name, list[at].at, share)?;
+        let last = &list[at];
+        let share = construct_of(last.how);
+        clashes.add(names, last.scope, &last.name, last.at, share)?;
     }
     Ok(clashes)
 }
@@ -233,8 +235,9 @@ fn imported_of(alloc: Global, names: &Names, list: &[NamedImport]) -> Result<Cla
     let mut at = list.len();
     while at > 0 {
         at -= 1;
-        let share = names.number(&list[at].source);
-        clashes.add(names, list[at].scope, &list[at].name, list[at].at, share)?;
+        let last = &list[at];
+        let share = names.number(&last.source);
+        clashes.add(names, last.scope, &last.name, last.at, share)?;
     }
     Ok(clashes)
 }
@@ -261,47 +264,51 @@ pub fn taken_of(alloc: Global, table: &Table) -> Result<Taken, AllocError>
     })
 }
 
+/// Whether a name stands behind another one of its scope, by what declarations and imports share with it.
+fn is_taken(
+    taken: &Taken,
+    scope: u32,
+    name: &Text,
+    token: u32,
+    declared: Option<usize>,
+    imported: Option<usize>,
+) -> bool
+    ensures { result ≡ (means.clash (means.kept_under taken.now.names taken.now.declared scope name.now) token declared || means.clash (means.kept_under taken.now.names taken.now.imported scope name.now) token imported) }
+{
+    taken
+        .declared
+        .has_earlier(&taken.names, scope, name, token, declared)
+        || taken
+            .imported
+            .has_earlier(&taken.names, scope, name, token, imported)
+}
+
 /// The break of a declaration.
-#[tactic(auto, using(crate::proofs::Clashing::clashing))]
 fn declaration_break(taken: &Taken, table: &Table, declaration: &Declaration) -> Option<Break>
     requires { means.AreTaken table.now taken.now }
     ensures { result ≡ rules.least (rules.declaration_breaks table.now declaration.now) }
 {
-    let Declaration {
-        scope,
-        name,
-        at,
-        how,
-        ..
-    } = declaration;
-    let share = construct_of(*how);
-    let broken = taken
-        .declared
-        .has_earlier(&taken.names, *scope, name, *at, share)
-        || taken
-            .imported
-            .has_earlier(&taken.names, *scope, name, *at, None);
-    break_if(broken, 402, *at)
+    let at = declaration.at;
+    let share = construct_of(declaration.how);
+    let broken = is_taken(taken, declaration.scope, &declaration.name, at, share, None);
+    break_if(broken, 402, at)
 }
 
 /// The break of an import of a name that the scope has already.
-fn repeated_break(taken: &Taken, table: &Table, import: &NamedImport) -> Result<Option<Break>, AllocError>
+fn repeated_break(
+    taken: &Taken,
+    table: &Table,
+    import: &NamedImport,
+) -> Result<Option<Break>, AllocError>
     requires { means.AreTaken table.now taken.now }
     ensures { IfOk result (λ b. b ≡ rules.least (rules.repeated_import_breaks table.now import.now)) }
 {
     let Some(source) = taken.names.number(&import.source) else {
         return Err(AllocError);
     };
-    let NamedImport {
-        scope, name, at, ..
-    } = import;
-    let broken = taken
-        .imported
-        .has_earlier(&taken.names, *scope, name, *at, Some(source))
-        || taken
-            .declared
-            .has_earlier(&taken.names, *scope, name, *at, None);
-    Ok(break_if(broken, 402, *at))
+    let at = import.at;
+    let broken = is_taken(taken, import.scope, &import.name, at, None, Some(source));
+    Ok(break_if(broken, 402, at))
 }
 
 /// The least break of a declaration.

@@ -1,17 +1,18 @@
 //! Breaks that are neither of a declaration nor of an import nor of a use.
 
-ghost use Rattle.std.specs.Prelude.{◌≡◌, ◌&&◌, ◌<◌, ◌^◌, None, not, codes, length};
+ghost use Rattle.std.specs.Prelude.{◌≡◌, ◌&&◌, ◌<◌, ◌^◌, None, not, codes, length, take};
 ghost use Rattle.std.specs.Str.{bytes_eq};
 ghost use Rattle.package_scope.specs.Least.{least_over, least_kept};
+ghost use Rattle.package_scope.specs.Finding.{Kept};
 ghost use Rattle.package_scope.specs.Rules as means;
 ghost use Rattle.package_scope.specs.Tables.{word};
 ghost use Rattle.package_scope.specs.Walks as walks;
 
 use crate::breaks::{Break, break_if, first};
 use crate::fitting::is_bits;
-use crate::scoped::Scopes;
+use crate::named_text::NamedText;
 use name_events::{Before, Declared, Event, Packedness};
-use sv_source::{Kind, Token};
+use sv_source::{Kind, Text, Token};
 
 /// What a declaration says of its type, if it is that of a type's name.
 fn packedness_of(how: Declared) -> Option<Packedness>
@@ -23,11 +24,21 @@ fn packedness_of(how: Declared) -> Option<Packedness>
     }
 }
 
+/// Whether a name begins as those that are kept for the translator.
+fn has_kept_front(name: &Text) -> bool
+    ensures { result ≡ bytes_eq (take 5 name.now) (codes "sv2v_") }
+{
+    name.as_bytes().starts_with(b"sv2v_")
+}
+
 /// Whether a token is a name that is kept for the translator.
 fn is_kept(token: &Token) -> bool
     ensures { result ≡ means.is_kept token.now }
 {
-    token.kind == Kind::Name && token.text.as_bytes().starts_with(b"sv2v_")
+    match token.kind {
+        Kind::Name => has_kept_front(&token.text),
+        _ => false,
+    }
 }
 
 /// The least break by a name that is kept for the translator.
@@ -42,10 +53,11 @@ pub fn kept_break(tokens: &[Token]) -> Option<Break>
     least
 }
 
-impl<'t> Scopes<'t> {
+impl<'t> NamedText<'t> {
     /// What the declaration of the type at a token says of it.
     fn packedness_at(&self, token: u32) -> Option<Packedness>
-        ensures { result ≡ walks.packedness_in (means.declaration_at self.now.tree.tokens self.now.table token) }
+        requires kept { Kept self.now.tokens.now self.now.names.now self.now.found.now self.now.loops.now }
+        ensures { result ≡ walks.packedness_in (means.declaration_at self.now.tokens.now self.now.names.now token) }
     {
         match self.declaration_at(token) {
             Some(declaration) => packedness_of(declaration.how),
@@ -55,7 +67,8 @@ impl<'t> Scopes<'t> {
 
     /// Whether the type at a token is unpacked.
     fn is_unpacked(&self, token: u32) -> bool
-        ensures { result ≡ means.is_unpacked self.now.tree.tokens self.now.table token }
+        requires kept { Kept self.now.tokens.now self.now.names.now self.now.found.now self.now.loops.now }
+        ensures { result ≡ means.is_unpacked self.now.tokens.now self.now.names.now token }
     {
         let mut token = token;
         let mut left = self.table().declared.len();
@@ -73,7 +86,8 @@ impl<'t> Scopes<'t> {
 
     /// Whether a name that may be that of an interface is.
     fn names_interface_if(&self, of: Option<u32>) -> bool
-        ensures { result ≡ means.names_interface_if self.now.tree.tokens self.now.table of }
+        requires kept { Kept self.now.tokens.now self.now.names.now self.now.found.now self.now.loops.now }
+        ensures { result ≡ means.names_interface_if self.now.tokens.now self.now.names.now of }
     {
         match of {
             Some(of) => self.names_interface(of),
@@ -83,7 +97,8 @@ impl<'t> Scopes<'t> {
 
     /// Whether the port before another one has no direction that it goes on with.
     fn has_no_direction(&self, before: Before) -> bool
-        ensures { result ≡ means.has_no_direction self.now.tree.tokens self.now.table before }
+        requires kept { Kept self.now.tokens.now self.now.names.now self.now.found.now self.now.loops.now }
+        ensures { result ≡ means.has_no_direction self.now.tokens.now self.now.names.now before }
     {
         match before {
             Before::Nothing => true,
@@ -95,21 +110,23 @@ impl<'t> Scopes<'t> {
 
     /// Whether two tokens have one text.
     fn are_same(&self, one: u32, other: u32) -> bool
-        ensures { result ≡ bytes_eq (word self.now.tree.tokens one) (word self.now.tree.tokens other) }
+        ensures { result ≡ bytes_eq (word self.now.tokens.now one) (word self.now.tokens.now other) }
     {
         self.word(one) == self.word(other)
     }
 
     /// Whether a port lacks a direction.
     fn lacks_direction(&self, of: Option<u32>, before: Before) -> bool
-        ensures { result ≡ (not (means.names_interface_if self.now.tree.tokens self.now.table of) && means.has_no_direction self.now.tree.tokens self.now.table before) }
+        requires kept { Kept self.now.tokens.now self.now.names.now self.now.found.now self.now.loops.now }
+        ensures { result ≡ (not (means.names_interface_if self.now.tokens.now self.now.names.now of) && means.has_no_direction self.now.tokens.now self.now.names.now before) }
     {
         !self.names_interface_if(of) && self.has_no_direction(before)
     }
 
     /// The break of an event.
     fn event_break(&self, event: Event) -> Option<Break>
-        ensures { result ≡ means.least (means.event_breaks self.now.tree.tokens self.now.table event) }
+        requires kept { Kept self.now.tokens.now self.now.names.now self.now.found.now self.now.loops.now }
+        ensures { result ≡ means.least (means.event_breaks self.now.tokens.now self.now.names.now event) }
     {
         match event {
             Event::Repeats { of, name } => break_if(!self.are_same(of, name), 404, name),
@@ -127,7 +144,8 @@ impl<'t> Scopes<'t> {
 
     /// The least break of an event.
     pub(crate) fn events_break(&self, events: &[Event]) -> Option<Break>
-        ensures { result ≡ least_over (means.event_breaks self.now.tree.tokens self.now.table) None events.now }
+        requires kept { Kept self.now.tokens.now self.now.names.now self.now.found.now self.now.loops.now }
+        ensures { result ≡ least_over (means.event_breaks self.now.tokens.now self.now.names.now) None events.now }
     {
         let mut least = None;
         for event in events {

@@ -3,12 +3,12 @@
 ghost use Rattle.std.specs.Prelude.{◌≡◌, ◌||◌, ◌&&◌, codes, filter, length};
 ghost use Rattle.std.specs.List.{list_any};
 ghost use Rattle.std.specs.Str.{bytes_eq};
-ghost use Rattle.package_scope.specs.Finding.{is_loop_of};
+ghost use Rattle.package_scope.specs.Finding.{is_loop_of, Kept};
 ghost use Rattle.package_scope.specs.Rules as means;
 ghost use Rattle.package_scope.specs.Walks as walks;
 
 use crate::building::outer;
-use crate::scoped::Scopes;
+use crate::named_text::NamedText;
 use crate::table::{DeclKind, Declaration, LoopRun, Table, Use};
 use crate::walks::{in_function, routine_around};
 use name_events::{Declared, Role, SelectPath};
@@ -138,10 +138,11 @@ pub fn is_bits(function: &Text) -> bool
     function.as_bytes() == b"$bits".as_slice()
 }
 
-impl<'t> Scopes<'t> {
+impl<'t> NamedText<'t> {
     /// Whether the use at a token finds an interface.
     pub(crate) fn names_interface(&self, token: u32) -> bool
-        ensures { result ≡ means.names_interface self.now.tree.tokens self.now.table token }
+        requires kept { Kept self.now.tokens.now self.now.names.now self.now.found.now self.now.loops.now }
+        ensures { result ≡ means.names_interface self.now.tokens.now self.now.names.now token }
     {
         match self.declaration_at(token) {
             Some(declaration) => is_interface_kind(declaration.what),
@@ -151,7 +152,8 @@ impl<'t> Scopes<'t> {
 
     /// Whether a declaration is that of an interface's instance or port.
     fn is_interface_holder(&self, how: Declared) -> bool
-        ensures { result ≡ means.is_interface_holder self.now.tree.tokens self.now.table how }
+        requires kept { Kept self.now.tokens.now self.now.names.now self.now.found.now self.now.loops.now }
+        ensures { result ≡ means.is_interface_holder self.now.tokens.now self.now.names.now how }
     {
         match how {
             Declared::InterfacePort => true,
@@ -163,14 +165,16 @@ impl<'t> Scopes<'t> {
 
     /// Whether a use is of a member of an interface.
     fn is_member_of(&self, found_by: Use, declaration: &Declaration) -> bool
-        ensures { result ≡ means.is_member_of self.now.tree.tokens self.now.table found_by declaration.now }
+        requires kept { Kept self.now.tokens.now self.now.names.now self.now.found.now self.now.loops.now }
+        ensures { result ≡ means.is_member_of self.now.tokens.now self.now.names.now found_by declaration.now }
     {
         self.is_interface_holder(declaration.how) && is_member_path(found_by.path)
     }
 
     /// Whether a declaration is that of a net, a variable or a port with a type.
     fn is_signal(&self, how: Declared) -> bool
-        ensures { result ≡ means.is_signal self.now.tree.tokens self.now.table how }
+        requires kept { Kept self.now.tokens.now self.now.names.now self.now.found.now self.now.loops.now }
+        ensures { result ≡ means.is_signal self.now.tokens.now self.now.names.now how }
     {
         match how {
             Declared::Net => true,
@@ -182,7 +186,8 @@ impl<'t> Scopes<'t> {
 
     /// Whether a declaration is that of a variable.
     fn is_variable(&self, how: Declared) -> bool
-        ensures { result ≡ means.is_variable self.now.tree.tokens self.now.table how }
+        requires kept { Kept self.now.tokens.now self.now.names.now self.now.found.now self.now.loops.now }
+        ensures { result ≡ means.is_variable self.now.tokens.now self.now.names.now how }
     {
         match how {
             Declared::Variable => true,
@@ -193,7 +198,8 @@ impl<'t> Scopes<'t> {
 
     /// Whether the loop name at a token is that of a declaration, or finds it.
     fn is_of(&self, declaration: &Declaration, token: u32) -> bool
-        ensures { result ≡ walks.is_of self.now.tree.tokens self.now.table declaration.now token }
+        requires kept { Kept self.now.tokens.now self.now.names.now self.now.found.now self.now.loops.now }
+        ensures { result ≡ walks.is_of self.now.tokens.now self.now.names.now declaration.now token }
     {
         if declaration.at == token {
             return true;
@@ -206,16 +212,19 @@ impl<'t> Scopes<'t> {
 
     /// Whether a loop gives a declaration a value at a token.
     fn gives_value(&self, token: u32, declaration: &Declaration, run: LoopRun) -> bool
-        ensures { result ≡ walks.gives_value self.now.tree.tokens self.now.table token declaration.now run }
+        requires kept { Kept self.now.tokens.now self.now.names.now self.now.found.now self.now.loops.now }
+        ensures { result ≡ walks.gives_value self.now.tokens.now self.now.names.now token declaration.now run }
     {
         run.last < token && self.is_of(declaration, run.name)
     }
 
     /// Whether a loop of a scope gives a declaration a value at a token.
     fn has_value_in(&self, scope: u32, token: u32, declaration: &Declaration) -> bool
-        ensures { result ≡ list_any (walks.gives_value self.now.tree.tokens self.now.table token declaration.now) (filter (is_loop_of scope) self.now.table.loops) }
+        requires kept { Kept self.now.tokens.now self.now.names.now self.now.found.now self.now.loops.now }
+        ensures { result ≡ list_any (walks.gives_value self.now.tokens.now self.now.names.now token declaration.now) (filter (is_loop_of scope) self.now.names.now.loops) }
     {
-        for run in self.loops_in(scope) {
+        let runs = self.loops_in(scope);
+        for run in runs {
             if self.gives_value(token, declaration, *run) {
                 return true;
             }
@@ -226,7 +235,8 @@ impl<'t> Scopes<'t> {
     /// Whether a genvar has a value where it is used.
     #[tactic(auto, using(crate::proofs::Around::valuing))]
     fn has_value(&self, found_by: Use, declaration: &Declaration) -> bool
-        ensures { result ≡ walks.valued (walks.gives_value self.now.tree.tokens self.now.table found_by.at declaration.now) self.now.table (length self.now.table.scopes) found_by.scope }
+        requires kept { Kept self.now.tokens.now self.now.names.now self.now.found.now self.now.loops.now }
+        ensures { result ≡ walks.valued (walks.gives_value self.now.tokens.now self.now.names.now found_by.at declaration.now) self.now.names.now (length self.now.names.now.scopes) found_by.scope }
     {
         let table = self.table();
         let mut scope = found_by.scope;
@@ -246,14 +256,15 @@ impl<'t> Scopes<'t> {
 
     /// Whether a use is of a signal or of a member of an interface.
     fn is_signal_or_member(&self, found_by: Use, declaration: &Declaration) -> bool
-        ensures { result ≡ (means.is_signal self.now.tree.tokens self.now.table declaration.now.how || means.is_member_of self.now.tree.tokens self.now.table found_by declaration.now) }
+        requires kept { Kept self.now.tokens.now self.now.names.now self.now.found.now self.now.loops.now }
+        ensures { result ≡ (means.is_signal self.now.tokens.now self.now.names.now declaration.now.how || means.is_member_of self.now.tokens.now self.now.names.now found_by declaration.now) }
     {
         self.is_signal(declaration.how) || self.is_member_of(found_by, declaration)
     }
 
     /// Whether a function's name stands for its result.
     fn is_result(&self, found_by: Use, declaration: &Declaration) -> bool
-        ensures { result ≡ (means.is_function declaration.now.how && means.in_own_body self.now.table found_by declaration.now) }
+        ensures { result ≡ (means.is_function declaration.now.how && means.in_own_body self.now.names.now found_by declaration.now) }
     {
         is_function(declaration.how) && in_own_body(self.table(), found_by, declaration)
     }
@@ -261,8 +272,9 @@ impl<'t> Scopes<'t> {
     /// Whether a genvar or a function has a value where it is used.
     #[tactic(auto, using(crate::proofs::Around::valuing))]
     fn has_value_there(&self, found_by: Use, declaration: &Declaration) -> bool
-        ensures { result ≡ ((means.is_genvar declaration.now.how && means.has_value self.now.tree.tokens self.now.table found_by declaration.now)
-            || (means.is_function declaration.now.how && means.in_own_body self.now.table found_by declaration.now)) }
+        requires kept { Kept self.now.tokens.now self.now.names.now self.now.found.now self.now.loops.now }
+        ensures { result ≡ ((means.is_genvar declaration.now.how && means.has_value self.now.tokens.now self.now.names.now found_by declaration.now)
+            || (means.is_function declaration.now.how && means.in_own_body self.now.names.now found_by declaration.now)) }
     {
         if is_genvar(declaration.how) && self.has_value(found_by, declaration) {
             return true;
@@ -272,7 +284,8 @@ impl<'t> Scopes<'t> {
 
     /// Whether a use fits as a value.
     fn is_value(&self, found_by: Use, declaration: &Declaration) -> bool
-        ensures { result ≡ means.is_value self.now.tree.tokens self.now.table found_by declaration.now }
+        requires kept { Kept self.now.tokens.now self.now.names.now self.now.found.now self.now.loops.now }
+        ensures { result ≡ means.is_value self.now.tokens.now self.now.names.now found_by declaration.now }
     {
         if is_constant(declaration.how) || is_local(declaration.how) {
             return true;
@@ -283,7 +296,8 @@ impl<'t> Scopes<'t> {
 
     /// Whether a statement may assign to what is used.
     fn is_procedural_target(&self, found_by: Use, declaration: &Declaration) -> bool
-        ensures { result ≡ means.is_procedural_target self.now.tree.tokens self.now.table found_by declaration.now }
+        requires kept { Kept self.now.tokens.now self.now.names.now self.now.found.now self.now.loops.now }
+        ensures { result ≡ means.is_procedural_target self.now.tokens.now self.now.names.now found_by declaration.now }
     {
         if is_local(declaration.how) || self.is_variable(declaration.how) {
             return true;
@@ -293,7 +307,8 @@ impl<'t> Scopes<'t> {
 
     /// Whether a use fits as the argument of a system function.
     fn is_argument(&self, function: u32, found_by: Use, declaration: &Declaration) -> bool
-        ensures { result ≡ means.fits_role (Role.Argument function) self.now.tree.tokens self.now.table found_by declaration.now }
+        requires kept { Kept self.now.tokens.now self.now.names.now self.now.found.now self.now.loops.now }
+        ensures { result ≡ means.fits_role (Role.Argument function) self.now.tokens.now self.now.names.now found_by declaration.now }
     {
         self.is_value(found_by, declaration)
             || (is_bits(self.word(function)) && is_type(found_by.path, declaration.how))
@@ -301,7 +316,8 @@ impl<'t> Scopes<'t> {
 
     /// Whether a declaration fits a use.
     pub(crate) fn fits_role(&self, found_by: Use, declaration: &Declaration) -> bool
-        ensures { result ≡ means.fits_role found_by.role self.now.tree.tokens self.now.table found_by declaration.now }
+        requires kept { Kept self.now.tokens.now self.now.names.now self.now.found.now self.now.loops.now }
+        ensures { result ≡ means.fits_role found_by.role self.now.tokens.now self.now.names.now found_by declaration.now }
     {
         let how = declaration.how;
         match found_by.role {
@@ -332,7 +348,8 @@ impl<'t> Scopes<'t> {
 
     /// Whether a function or task names a signal, or a member of an interface, outside itself.
     pub(crate) fn names_signal(&self, found_by: Use, declaration: &Declaration) -> bool
-        ensures { result ≡ means.names_signal self.now.tree.tokens self.now.table found_by declaration.now }
+        requires kept { Kept self.now.tokens.now self.now.names.now self.now.found.now self.now.loops.now }
+        ensures { result ≡ means.names_signal self.now.tokens.now self.now.names.now found_by declaration.now }
     {
         match routine_around(self.table(), found_by.scope) {
             Some(_) => {

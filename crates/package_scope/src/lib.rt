@@ -13,6 +13,7 @@ mod index;
 mod loops;
 mod meaning;
 mod name_table;
+mod named_text;
 mod names;
 mod scoped;
 mod table;

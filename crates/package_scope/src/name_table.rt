@@ -38,6 +38,7 @@ impl Model for NameTable {
 
 impl NameTable {
     /// The table of a text.
+    #[tactic(auto, unfolding(crate::specs::Tables::table_of))]
     pub fn new(alloc: Global, tree: &SourceTree) -> Result<NameTable, AllocError>
         ensures { IfOk result (λ t. t ≡ tables.table_of tree.now) }
     {

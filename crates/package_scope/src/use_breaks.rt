@@ -3,11 +3,12 @@
 ghost use Rattle.std.specs.Prelude.{◌≡◌, Some, None, is_some};
 ghost use Rattle.package_scope.specs.Least.{package_least, least_over};
 ghost use Rattle.package_scope.specs.Lookup as meaning;
+ghost use Rattle.package_scope.specs.Finding.{Kept};
 ghost use Rattle.package_scope.specs.Rules as means;
 
 use crate::breaks::{Break, break_if, first};
 use crate::meaning::package_found;
-use crate::scoped::Scopes;
+use crate::named_text::NamedText;
 use crate::table::{Declaration, Found, NamedImport, Table, Use, WildcardImport};
 
 /// Whether the declaration with this number is that of a package.
@@ -17,11 +18,12 @@ fn is_package(table: &Table, number: u32) -> bool
     package_found(table, Some(number)).is_some()
 }
 
-impl<'t> Scopes<'t> {
+impl<'t> NamedText<'t> {
     /// The break of a use by the declaration that it finds.
     #[tactic(auto, using(crate::proofs::Orders::joining))]
     fn misfit(&self, found_by: Use, declaration: &Declaration) -> Option<Break>
-        ensures { result ≡ means.least (means.fit_breaks self.now.tree.tokens self.now.table found_by declaration.now) }
+        requires kept { Kept self.now.tokens.now self.now.names.now self.now.found.now self.now.loops.now }
+        ensures { result ≡ means.least (means.fit_breaks self.now.tokens.now self.now.names.now found_by declaration.now) }
     {
         let fits = self.fits_role(found_by, declaration);
         let names_signal = self.names_signal(found_by, declaration);
@@ -33,7 +35,8 @@ impl<'t> Scopes<'t> {
 
     /// The break of a use by what it finds.
     fn found_break(&self, found_by: Use, found: Found) -> Option<Break>
-        ensures { result ≡ means.least (means.found_breaks self.now.tree.tokens self.now.table found_by found) }
+        requires kept { Kept self.now.tokens.now self.now.names.now self.now.found.now self.now.loops.now }
+        ensures { result ≡ means.least (means.found_breaks self.now.tokens.now self.now.names.now found_by found) }
     {
         let at = found_by.at;
         match found {
@@ -48,7 +51,7 @@ impl<'t> Scopes<'t> {
 
     /// The break of a package's name, or what stands behind it.
     fn package_break(&self, holder: u32, behind: Option<Break>) -> Option<Break>
-        ensures { result ≡ package_least self.now.tree.tokens self.now.table holder behind }
+        ensures { result ≡ package_least self.now.tokens.now self.now.names.now holder behind }
     {
         match self.names().own(0, self.word(holder), holder) {
             None => Some(Break {
@@ -71,7 +74,8 @@ impl<'t> Scopes<'t> {
     /// The break of a use.
     #[tactic(auto, using(crate::proofs::Orders::packaging))]
     fn use_break(&self, found_by: Use) -> Option<Break>
-        ensures { result ≡ means.least (means.use_breaks self.now.tree.tokens self.now.table found_by) }
+        requires kept { Kept self.now.tokens.now self.now.names.now self.now.found.now self.now.loops.now }
+        ensures { result ≡ means.least (means.use_breaks self.now.tokens.now self.now.names.now found_by) }
     {
         let found = self.found_break(found_by, self.finds(found_by));
         match found_by.source {
@@ -83,11 +87,11 @@ impl<'t> Scopes<'t> {
     /// The break of an import of a name.
     #[tactic(auto, using(crate::proofs::Orders::packaging))]
     fn import_break(&self, import: &NamedImport) -> Option<Break>
-        ensures { result ≡ means.least (means.import_breaks self.now.tree.tokens self.now.table import.now) }
+        ensures { result ≡ means.least (means.import_breaks self.now.tokens.now self.now.names.now import.now) }
     {
-        let brought =
-            self.names()
-                .in_package(&import.source, import.source_at, &import.name, import.at);
+        let brought = self
+            .names()
+            .in_package(&import.source, import.source_at, &import.name, import.at);
         let absent = break_if(brought.is_none(), 401, import.at);
         self.package_break(import.source_at, absent)
     }
@@ -95,14 +99,15 @@ impl<'t> Scopes<'t> {
     /// The break of an import of all names.
     #[tactic(auto, using(crate::proofs::Orders::packaging))]
     fn wildcard_break(&self, import: &WildcardImport) -> Option<Break>
-        ensures { result ≡ means.least (means.wildcard_breaks self.now.tree.tokens self.now.table import.now) }
+        ensures { result ≡ means.least (means.wildcard_breaks self.now.tokens.now self.now.names.now import.now) }
     {
         self.package_break(import.source_at, None)
     }
 
     /// The least break of a use.
     pub(crate) fn uses_break(&self) -> Option<Break>
-        ensures { result ≡ least_over (means.use_breaks self.now.tree.tokens self.now.table) None self.now.table.uses }
+        requires kept { Kept self.now.tokens.now self.now.names.now self.now.found.now self.now.loops.now }
+        ensures { result ≡ least_over (means.use_breaks self.now.tokens.now self.now.names.now) None self.now.names.now.uses }
     {
         let uses = self.table().uses.as_slice();
         let mut least = None;
@@ -114,7 +119,7 @@ impl<'t> Scopes<'t> {
 
     /// The least break of an import of a name.
     pub(crate) fn imports_break(&self) -> Option<Break>
-        ensures { result ≡ least_over (means.import_breaks self.now.tree.tokens self.now.table) None self.now.table.named }
+        ensures { result ≡ least_over (means.import_breaks self.now.tokens.now self.now.names.now) None self.now.names.now.named }
     {
         let imports = self.table().named.as_slice();
         let mut least = None;
@@ -126,7 +131,7 @@ impl<'t> Scopes<'t> {
 
     /// The least break of an import of all names.
     pub(crate) fn wildcards_break(&self) -> Option<Break>
-        ensures { result ≡ least_over (means.wildcard_breaks self.now.tree.tokens self.now.table) None self.now.table.wildcards }
+        ensures { result ≡ least_over (means.wildcard_breaks self.now.tokens.now self.now.names.now) None self.now.names.now.wildcards }
     {
         let imports = self.table().wildcards.as_slice();
         let mut least = None;

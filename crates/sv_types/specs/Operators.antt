@@ -202,7 +202,7 @@ inside_arithmetic m (From low high) = max (both_wide m low) (both_wide m high)
 
 unfoldable pub inside : Layout → ℕ → Meaning → List Alternative → Meaning
 inside of at m cs =
-    one_bit of at (λ w. most (map (inside_arithmetic m) cs)) (at_width (most (map (inside_width m) cs)) m ∷ flat_map (inside_operands m) cs)
+    one_bit of at (λ w. most (map (inside_arithmetic m) cs)) (at_width (max (wide m) (most (map (inside_width m) cs))) m ∷ flat_map (inside_operands m) cs)
     (λ a. any4 (map (is_inside m a) cs))
 
 -- The inside of a cast is valued alone, and then converts as an assignment does.
@@ -248,9 +248,11 @@ passed fs ms a = map (λ p. assigned_to p.0.two_state p.1 a) (zip fs ms)
 abbrev pub unlimited : Tally
 unlimited = record { left = None; stop = None }
 
--- a call runs the function once its actuals are valued
+-- a call runs the function once what is passed is valued
 abbrev pub calls : ℕ → List Meaning → Around → Tally → Tally
-calls f ms a t = onward ((a.callee f).effort (passed (a.callee f).formals ms a)) (values_all (map by_itself ms) a t)
+calls f ms a t =
+    let formals = (a.callee f).formals in
+    onward ((a.callee f).effort (passed formals ms a)) (values_all (map (λ p. by_itself p.1) (zip formals ms)) a t)
 
 unfoldable pub call : Layout → ℕ → ℕ → List Meaning → Meaning
 call of at f ms =

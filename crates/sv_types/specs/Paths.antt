@@ -4,7 +4,7 @@ use Rattle.b4_core.specs.Vectors.{known, number}
 use Rattle.row_machine.specs.Places.{vector_at}
 use Rattle.sv_types.specs.Layouts.{Layout, Part, repeated, count_of}
 use Rattle.sv_types.specs.Windows.{Window, whole, member_of, element_of, between, slide}
-use Rattle.sv_types.specs.Surroundings.{onward, Around, local_number}
+use Rattle.sv_types.specs.Surroundings.{onward, Around, Tally, Use, Sight, local_number}
 use Rattle.sv_types.specs.Meanings.{Meaning, Prefix, Path, Named, wide, signed, alone, selected, same_sign}
 
 -- a whole signal or local
@@ -42,6 +42,15 @@ names_of_root (Some n) (x ∷ names) = x ∷ []
 abbrev pub narrowed : (Window → Window) → Prefix → Prefix
 narrowed step p = cond p.exact (record { window = step p.window; exact = true }) p
 
+-- what it takes to value what a step selects from, and what that reads: of a path its indices, and of anything else all of it
+abbrev pub places_from : Option ℕ → Meaning → Around → Tally → Tally
+places_from None from = from.values
+places_from (Some n) from = from.places
+
+abbrev pub reads_from : Option ℕ → Meaning → Sight → List Use
+reads_from None from = from.reads
+reads_from (Some n) from = from.indices
+
 -- a step that needs no index, from what it selects
 abbrev pub fixed_step : (Window → Window) → ℕ → Meaning → Path
 fixed_step step misfits from = record {
@@ -49,9 +58,9 @@ fixed_step step misfits from = record {
   base = from.base;
   window = λ a. step (from.window a);
   prefix = λ k. narrowed step (from.prefix k);
-  places = from.places;
+  places = places_from from.root from;
   constant_base = λ k. known_base from.root (from.constant k);
-  indices = from.indices;
+  indices = reads_from from.root from;
   index_names = from.index_names;
   root_names = names_of_root from.root from.names;
   arithmetic = λ fs. from.arithmetic fs (wide from);
@@ -71,9 +80,9 @@ indexed_step step misfits from i = record {
   base = from.base;
   window = λ a. step (index_of i a) (from.window a);
   prefix = λ k. cond (i.constant k) (narrowed (step (index_of i k.around)) (from.prefix k)) (record { window = (from.prefix k).window; exact = false });
-  places = λ a t. onward (i.values a) (from.places a t);
+  places = λ a t. onward (i.values a) (places_from from.root from a t);
   constant_base = λ k. known_base from.root (from.constant k);
-  indices = λ k. from.indices k ++ i.reads k;
+  indices = λ k. reads_from from.root from k ++ i.reads k;
   index_names = from.index_names ++ i.names;
   root_names = names_of_root from.root from.names;
   arithmetic = λ fs. max (from.arithmetic fs (wide from)) (i.arithmetic fs (wide i));

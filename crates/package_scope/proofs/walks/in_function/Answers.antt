@@ -10,5 +10,5 @@ loop-left-preserved c =
     let next : c.loop-left.left ≡ (c.loop-left.left - 1) + 1 = omega arith in
     let inner : nat_eq c.loop-left.scope 0 ≡ false = grind (arith, nat_tests, c.if-scope-eq0.false) in
     ap is_some (around-out is_function_scope c.args.table.now c.loop-left.left (c.loop-left.left - 1) c.loop-left.scope c.outer-scope.result next
-        (sym c.is_function.ensures ∙ c.if-is_function.false) inner (c.outer-scope.ensures ∙ ap (λ ss. outer ss c.loop-left.scope) c.as_slice.ensures))
+    (sym c.is_function.ensures ∙ c.if-is_function.false) inner (c.outer-scope.ensures ∙ ap (λ ss. outer ss c.loop-left.scope) c.as_slice.ensures))
     ∙ c.loop-left.invariant

@@ -1,0 +1,6 @@
+pub mod Same
+pub mod Helpers
+pub mod Images
+pub mod Placed
+pub mod NamedImages
+pub mod Agreeing

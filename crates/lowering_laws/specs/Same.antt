@@ -1,0 +1,28 @@
+-- When an expression of the target language stands for one of an elaborated design (IEEE 1800-2017 clause 11.6, IEEE
+-- 1364-2005 clause 5.4).
+use Rattle.std.specs.Prelude.{◌≡◌, ℕ, ◌≤◌, max, Bool, ⊤, List, [], ◌∷◌}
+use Rattle.row_machine.specs.Valuation.{Valuation}
+use Rattle.sv_types.specs.Surroundings.{Around}
+use Rattle.sv_types.specs.Meanings as S
+use Rattle.v_meaning.specs.Scopes.{Scope}
+use Rattle.v_meaning.specs.Values as T
+
+-- The expression of the target stands for that of the source in a context of this width and sign: it is as wide as the
+-- source's alone, or wider, but no wider than the context; it has the source's sign; and it has the value that the source
+-- has in that context.
+pub record Same (e : S.Meaning) (w : ℕ) (s : Bool) (a : Around) (m : T.Meaning) (sc : Scope) (v : Valuation) : Type 0 where
+  pub least : S.wide e ≤ m.width sc
+  pub most : m.width sc ≤ max w (S.wide e)
+  pub sign : m.signed ≡ S.signed e
+  pub value : m.value w s sc v ≡ e.value w s a
+
+-- one that is valued alone
+abbrev pub SameAlone : S.Meaning → Around → T.Meaning → Scope → Valuation → Type 0
+SameAlone e a m sc v = Same e (S.wide e) (S.signed e) a m sc v
+
+-- one by one, each alone
+abbrev pub AllSame : List S.Meaning → Around → List T.Meaning → Scope → Valuation → Type 0
+AllSame [] a [] sc v = ⊤
+AllSame [] a (m ∷ ms) sc v = ⊥
+AllSame (e ∷ es) a [] sc v = ⊥
+AllSame (e ∷ es) a (m ∷ ms) sc v = SameAlone e a m sc v × AllSame es a ms sc v

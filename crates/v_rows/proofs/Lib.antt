@@ -1,0 +1,4 @@
+pub mod KeptExpressions
+pub mod KeptStatements
+pub mod KeptItems
+pub mod Meanings
