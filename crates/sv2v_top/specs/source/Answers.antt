@@ -72,6 +72,12 @@ pub record Elaborated (tree : SourceTree) (top : List ℕ) (d : Design) : Type 0
   pub unbroken : refusal_of source top ≡ None
   pub is : d ≡ design_of source
 
+-- no rule on names is broken, or the first break
+abbrev pub NamesGive : SourceTree → Result (Unit {0}) Fail → Type 0
+NamesGive tree (Ok u) = names_refusal tree ≡ None
+NamesGive tree (Err Memory) = Unit {0}
+NamesGive tree (Err (Refused r)) = names_refusal tree ≡ Some r
+
 -- the design where nothing is refused, else the refusal
 abbrev pub TreeGives : SourceTree → List ℕ → Result Design Fail → Type 0
 TreeGives tree top (Ok d) = Elaborated tree top d
