@@ -1,5 +1,6 @@
 -- Files have one expansion, and so one first break at most.
 use Rattle.std.proofs.Common.{◌≡◌, ◌⊎◌, ℕ, List, Some, None, sym, ap, subst, ◌∙◌, inl, inr}
+use Rattle.std.specs.Option.{option_or}
 use Rattle.sv_source.specs.Loading.{Contents}
 use Rattle.sv_source.specs.declared.refusal.Refusal.{Refusal}
 use Rattle.sv_source.specs.declared.token.Token.{Token}
@@ -10,6 +11,7 @@ use Rattle.sv_tree.specs.declared.units.SourceTree.{SourceTree}
 use Rattle.sv_build.specs.Reading.{Reads, SyntaxBreak}
 use Rattle.sv_build.proofs.OneReading.{one_reading}
 use Rattle.sv_core.specs.declared.design.Design.{Design}
+use Rattle.built_forms.specs.Built.{built}
 use Rattle.sv2v_top.specs.source.Answers.{refusal_by, tree_refusal}
 use Rattle.sv2v_top.specs.Translation.{Accepted, Breaks}
 use Rattle.sv2v_top.specs.Headline.{ExpandsTo, Cause, in_expansion, in_tokens}
@@ -23,7 +25,8 @@ no-break top tokens d r a b = go b.cause
     go (inl s) = (one_reading tokens).not_both a.tree r a.reads s
     go (inr n) =
         let same : a.tree ≡ n.0 = (one_reading tokens).one_tree a.tree n.0 a.reads n.1 in
-        let none : tree_refusal a.tree top ≡ None = ap (λ o. refusal_by o top) a.elaborated.builds ∙ a.elaborated.unbroken in
+        let none : tree_refusal a.tree top ≡ None =
+            ap (λ o. option_or o (refusal_by (built a.tree) top)) a.elaborated.names ∙ ap (λ o. refusal_by o top) a.elaborated.builds ∙ a.elaborated.unbroken in
         let some : tree_refusal n.0 top ≡ Some r = n.2 in
         let both : tree_refusal a.tree top ≡ tree_refusal n.0 top = ap (λ (tree : SourceTree). tree_refusal tree top) same in
         let all : Some r ≡ None = sym some ∙ sym both ∙ none in

@@ -21,7 +21,7 @@ use Rattle.built_forms.specs.declared.forms.Module.{Module}
 use Rattle.built_forms.specs.declared.forms.Range.{Range}
 use Rattle.built_forms.specs.declared.forms.Port.{Port}
 use Rattle.built_forms.specs.declared.forms.Item.{Item}
-use Rattle.sv2v_top.specs.declared.package_scope.Names.{Names}
+use Rattle.sv2v_top.specs.declared.name_table.Names.{Names}
 use Rattle.sv2v_top.specs.source.Names.{Declared, ports_from, direction_after, range_after, variables, declared_by, name_of, port_word, port_names, signal_names, undeclared, undeclared_in}
 use Rattle.sv2v_top.specs.source.Statements.{item_parts, word_of, if_target, targets_in, in_both}
 use Rattle.sv2v_top.specs.source.Rules.{total_bits, signal_of, width_of, is_plain_range, ranges_are_plain, inputs, if_input, input_paths, all_among, none_among}

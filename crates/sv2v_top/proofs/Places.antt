@@ -1,7 +1,7 @@
 -- A refusal of tokens stands where a token does, at their end, or at the head of the first file.
 use Rattle.std.proofs.Common.{◌≡◌, ◌⊎◌, ℕ, ◌<◌, ◌≤◌, Bool, true, false, cond, List, [], ◌∷◌, ◌++◌, map, slice_get, Option, Some, None, if◌then◌else◌, refl, sym, subst, inl, inr, arith}
 use Rattle.std.specs.List.{All, AllByRecursion, find}
-use Rattle.std.specs.Option.{IfSome, option_or}
+use Rattle.std.specs.Option.{IfSome, option_or, option_map}
 use Rattle.sv_source.specs.declared.token.Place.{Place}
 use Rattle.sv_source.specs.declared.token.Token.{Token}
 use Rattle.sv_source.specs.declared.token.Spot.{Spot}
@@ -15,6 +15,9 @@ use Rattle.v_core.specs.Names.{among}
 use Rattle.sv2v_top.specs.source.Statements.{if_target, targets_in, targets, item_parts}
 use Rattle.sv2v_top.specs.source.Names.{undeclared, undeclared_in, first_undeclared, name_of, declared_by, port_names}
 use Rattle.sv2v_top.specs.source.Rules.{refused_at, write_break, writes_break, always_written, target_words, processes_break, first_process_break, is_top, elaborates, is_built}
+use Rattle.package_scope.specs.Answers.{names_refusal, place_in, refusal_of as name_refusal}
+use Rattle.package_scope.specs.declared.breaks.Break.{Break}
+use Rattle.package_scope.specs.Rules.{names_break}
 use Rattle.sv2v_top.specs.source.Answers.{stage_refusal, unless_built, refusal_if_elaborates, refusal_if_top, refusal_or, refusal_of, refusal_by, tree_refusal}
 use Rattle.sv_tree.specs.declared.units.SourceTree.{SourceTree}
 use Rattle.sv_tree.specs.declared.units.Unit as U
@@ -128,10 +131,23 @@ module _ (K : Place → Type 0) where
       left : All AtToken (without_attributes tokens)
       left = all-left AtToken tokens a
 
+      kept : (tree : SourceTree) → Reads tokens tree → (i : ℕ) (t : Token) → slice_get tree.tokens i ≡ Some t → AtToken t
+      kept tree x i t at = all-at AtToken tree.tokens i t (subst (All AtToken) (sym x.keeps) left) at
+
+      -- the break of a name stands at a token
+      at-place : (o : Option Token) → ((t : Token) → o ≡ Some t → AtToken t) → K (place_in o)
+      at-place None h = head
+      at-place (Some t) h = h t refl
+
+      at-name : (tree : SourceTree) → Reads tokens tree → (o : Option Break) → IfSome (option_map (name_refusal tree.tokens) o) AtRefusal
+      at-name tree x None = tt
+      at-name tree x (Some b) = at-place (slice_get tree.tokens b.at) (kept tree x b.at)
+
       at-tree : (tree : SourceTree) (top : List ℕ) → Reads tokens tree → IfSome (tree_refusal tree top) AtRefusal
       at-tree tree top x =
-          at-built (built tree) top
-          (readable AtSpot tree.tokens (λ i t at named. all-at AtToken tree.tokens i t (subst (All AtToken) (sym x.keeps) left) at) tree.units)
+          of-either AtRefusal (names_refusal tree) _ (at-name tree x (names_break tree))
+          (at-built (built tree) top
+          (readable AtSpot tree.tokens (λ i t at named. kept tree x i t at) tree.units))
 
       at-one : (f : Token → Refusal) → ((t : Token) → (f t).place ≡ t.place) → (o : Option Token) → ((t : Token) → o ≡ Some t → AtToken t) → IfSome (at_token f o) AtRefusal
       at-one f same None h = tt

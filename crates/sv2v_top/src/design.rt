@@ -5,7 +5,7 @@ ghost use Rattle.sv2v_top.specs.source.Lookup.{Numbers};
 ghost use Rattle.sv2v_top.specs.source.Elaboration.{primary_of, operand_of, expr_of, assign_of, stmt_of, clock_of, process_of, processes_of};
 
 use crate::literals::bits;
-use crate::package_scope::Names;
+use crate::name_table::Names;
 use std::alloc::{AllocError, Global};
 use sv_core::{
     EdgeList, EdgeOn, Expr, Operand, Primary, Process, ProcessKind, Processes, Stmt, Stmts,

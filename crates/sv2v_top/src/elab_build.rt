@@ -10,14 +10,15 @@ ghost use Rattle.std.specs.List.{list_all};
 ghost use Rattle.sv2v_top.specs.source.Names.{declared, signal_names};
 ghost use Rattle.sv2v_top.specs.source.Rules.{inputs, is_top, header_holds, elaborates, is_built, ranges_hold, signal_of};
 ghost use Rattle.sv2v_top.specs.source.Lookup.{Numbers};
-ghost use Rattle.sv2v_top.specs.source.Answers.{stage_refusal, absent_refusal, ElaborationGives, TreeGives};
+ghost use Rattle.sv2v_top.specs.source.Answers.{stage_refusal, absent_refusal, ElaborationGives, NamesGive, TreeGives};
 ghost use Rattle.lower_design.specs.Translatable.{is_helper_name};
 ghost use Rattle.sv_core.specs.declared.design.Signal.{Signal as DesignSignal};
 
 use crate::design::processes;
-use crate::package_scope::Names;
+use crate::name_table::Names;
 use built_forms::{Module, built};
 use names::signal_table;
+use package_scope::scopes;
 use rules::{Tables, comb_table, items_are_built, items_fit, process_break};
 use signals::{fits_in_bits, input_table, module_ranges_are_plain, signals};
 use std::alloc::{AllocError, Global};
@@ -136,11 +137,22 @@ fn absent(alloc: Global, top: &[u8]) -> Result<Refusal, AllocError>
     })
 }
 
-/// The design of a source text, by the top's name. A form that isn't built is refused with E999, and a text without a module
-/// with E408.
+/// Refuses a source text by its first break of the rules on names, if it has one.
+fn check_names(alloc: Global, tree: &SourceTree) -> Result<(), Fail>
+    ensures { NamesGive tree.now result }
+{
+    match scopes(alloc, tree) {
+        Ok(_) => Ok(()),
+        Err(fail) => Err(fail),
+    }
+}
+
+/// The design of a source text, by the top's name. Its first break of the rules on names is refused, then a form that isn't
+/// built with E999, and a text without a module with E408.
 pub fn elaborate(alloc: Global, tree: &SourceTree, top: &[u8]) -> Result<Design, Fail>
     ensures { TreeGives tree.now top.now result }
 {
+    check_names(alloc, tree)?;
     let Some(found) = built(alloc, tree)? else {
         return Err(Fail::Refused(not_built(alloc)?));
     };

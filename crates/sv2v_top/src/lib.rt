@@ -5,7 +5,7 @@ mod design;
 mod elab_build;
 mod literals;
 mod main_call;
-mod package_scope;
+mod name_table;
 mod run;
 mod status;
 mod translation;

@@ -15,9 +15,10 @@ use Rattle.built_forms.specs.declared.forms.Module.{Module}
 use Rattle.sv_core.specs.declared.design.Design.{Design}
 use Rattle.sv2v_top.specs.source.Names.{first_undeclared, signal_names}
 use Rattle.sv2v_top.specs.source.Lookup.{Numbers}
-use Rattle.sv2v_top.specs.declared.package_scope.Names.{Names}
+use Rattle.sv2v_top.specs.declared.name_table.Names.{Names}
 use Rattle.sv2v_top.specs.source.Rules.{writes_break, always_written, target_words, is_top, elaborates, first_process_break, is_built}
 use Rattle.sv2v_top.specs.source.Elaboration.{design_of}
+use Rattle.package_scope.specs.Answers.{names_refusal}
 
 -- E401 at the name
 abbrev pub undeclared_refusal : Spot → Refusal
@@ -53,21 +54,29 @@ abbrev pub refusal_of : Module → List ℕ → Option Refusal
 refusal_of m top =
     refusal_or (first_undeclared m) (refusal_if_top (is_top m top) top (refusal_if_elaborates (elaborates m) (first_process_break m) (is_built m)))
 
--- The refusal of a source text that reads: it uses a form that isn't built, it has no module, or its module is refused.
+-- The refusal of a source text that reads: a name of it breaks a rule, it uses a form that isn't built, it has no module, or
+-- its module is refused.
 abbrev pub refusal_by : Option (Option Module) → List ℕ → Option Refusal
 refusal_by None top = Some stage_refusal
 refusal_by (Some None) top = Some (absent_refusal top)
 refusal_by (Some (Some m)) top = refusal_of m top
 
 abbrev pub tree_refusal : SourceTree → List ℕ → Option Refusal
-tree_refusal tree top = refusal_by (built tree) top
+tree_refusal tree top = option_or (names_refusal tree) (refusal_by (built tree) top)
 
 -- a tree that is refused nothing has a module, which elaborates to this design
 pub record Elaborated (tree : SourceTree) (top : List ℕ) (d : Design) : Type 0 where
+  pub names : names_refusal tree ≡ None
   pub source : Module
   pub builds : built tree ≡ Some (Some source)
   pub unbroken : refusal_of source top ≡ None
   pub is : d ≡ design_of source
+
+-- no rule on names is broken, or the first break
+abbrev pub NamesGive : SourceTree → Result (Unit {0}) Fail → Type 0
+NamesGive tree (Ok u) = names_refusal tree ≡ None
+NamesGive tree (Err Memory) = Unit {0}
+NamesGive tree (Err (Refused r)) = names_refusal tree ≡ Some r
 
 -- the design where nothing is refused, else the refusal
 abbrev pub TreeGives : SourceTree → List ℕ → Result Design Fail → Type 0

@@ -3,7 +3,7 @@ use Rattle.std.specs.Prelude.{◌≡◌, ℕ, Bool, List, Option, Some, None, if
 use Rattle.std.specs.Option.{is_some}
 use Rattle.std.specs.Str.{bytes_eq}
 use Rattle.indexmap.specs.IndexMap as table
-use Rattle.sv2v_top.specs.declared.package_scope.Names.{Names}
+use Rattle.sv2v_top.specs.declared.name_table.Names.{Names}
 use Rattle.v_core.specs.Names.{among, position, distinct}
 
 -- what the table has for a name

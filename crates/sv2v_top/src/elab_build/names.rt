@@ -8,7 +8,7 @@ ghost use Rattle.sv2v_top.specs.source.Names.{declared_by, name_of, port_word, p
 ghost use Rattle.sv2v_top.specs.source.Lookup.{Numbers, holds};
 ghost use Rattle.sv2v_top.specs.source.Answers.{undeclared_refusal, UndeclaredGives};
 
-use crate::package_scope::Names;
+use crate::name_table::Names;
 use crate::uses::{Use, find_in};
 use built_forms::{Item, Module, Port};
 use std::alloc::{AllocError, Global};

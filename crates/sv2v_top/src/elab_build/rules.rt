@@ -13,7 +13,7 @@ ghost use Rattle.sv2v_top.specs.source.Rules.{sizes_hold, are_plain, refused_at,
 ghost use Rattle.sv2v_top.specs.source.Lookup.{Numbers, holds};
 
 use crate::literals::{decimal_up_to, is_plain};
-use crate::package_scope::Names;
+use crate::name_table::Names;
 use crate::uses::{Found, Literal, Role, Use, find_in, has_at_most};
 use built_forms::{Item, Module, Stmt};
 use std::alloc::{AllocError, Global};

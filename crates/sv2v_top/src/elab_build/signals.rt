@@ -9,7 +9,7 @@ ghost use Rattle.sv2v_top.specs.source.Rules.{range_holds, range_width, is_plain
 ghost use Rattle.sv2v_top.specs.source.Lookup.{Numbers};
 
 use crate::literals::decimal_up_to;
-use crate::package_scope::Names;
+use crate::name_table::Names;
 use built_forms::{Declaration, Direction, Item, Module, Port, Range};
 use std::alloc::{AllocError, Global};
 use sv_core::{Signal, SignalKind, Signals};

@@ -2,7 +2,7 @@ use Rattle.std.proofs.Common.{◌≡◌, ◌∙◌, arith}
 use Rattle.std.specs.Option.{unwrap_or}
 use Rattle.v_core.specs.Names.{position}
 use Rattle.sv2v_top.proofs.Lookup.{position-or, position-within}
-use Rattle.sv2v_top.proofs.package_scope.Names.position.Goals as goal
+use Rattle.sv2v_top.proofs.name_table.Names.position.Goals as goal
 
 pub returns : goal.returns
 returns c = λ ns n.
