@@ -1,11 +1,11 @@
-//! Prints the scopes of the texts of cases, with what their names stand for, or the refusal.
+//! Prints the declarations of the texts of cases, with what their names stand for, or the refusal.
 #![tactic(auto)]
 
 ghost use Rattle.std.specs.Prelude.{IfOk};
 ghost use Rattle.sv_build.specs.Reading.{Ends};
 
 use case_files::{Case, escaped, load_cases};
-use package_scope::{Scopes, scopes};
+use package_scope::{Found, Scopes, lookup, scopes};
 use std::alloc::{AllocError, Global};
 use std::{env, io};
 use sv_build::read_source;
@@ -56,7 +56,7 @@ fn print_refusal(rt: &HostRuntime, refusal: &Refusal) -> io::Result<()> {
     println!(rt; "{}:{} E{} {word}", place.line, place.col, refusal.rule)
 }
 
-/// Prints the scopes of the files of one case, without what they declare.
+/// Prints the declarations of one text, or its refusal.
 fn print_text(rt: &HostRuntime, text: &[u8]) -> io::Result<()> {
     let tokens = ended(rt.alloc(), tokens_of(rt.alloc(), text)?)?;
     if tokens.len() > LONGEST {
@@ -74,8 +74,27 @@ fn print_text(rt: &HostRuntime, text: &[u8]) -> io::Result<()> {
     }
 }
 
-/// Prints what names stand for at the end of a text.
+/// Prints what a name stands for behind a text, as it is looked up in a scope.
+fn print_found(rt: &HostRuntime, found: Found) -> io::Result<()> {
+    match found {
+        Found::Decl(number) => println!(rt; " -> {number}"),
+        Found::Absent => println!(rt; " -> nothing"),
+        Found::Twice => println!(rt; " -> two"),
+    }
+}
+
+/// Prints the declarations of a text, each with what its name stands for in its own scope behind the text.
 fn print_scopes(rt: &HostRuntime, scopes: &Scopes) -> io::Result<()> {
+    let end = LONGEST as u32;
+    for number in 0..end {
+        let Some(declaration) = scopes.declaration(number) else {
+            break;
+        };
+        let name = escaped(rt.alloc(), declaration.name.as_bytes())?;
+        let scope = declaration.scope;
+        print!(rt; "{number}: {name} in {scope}, {:?}", declaration.how)?;
+        print_found(rt, lookup(scopes, scope, &declaration.name, end))?;
+    }
     println!(rt; "accepted")
 }
 
