@@ -11,6 +11,7 @@ use std::{env, io};
 use sv_build::read_source;
 use sv_lexer::lex;
 use sv_source::{Fail, Items, Kind, Place, Refusal, Text, Token, Tokens};
+use sv_tree::SourceTree;
 
 /// The longest text that is read, in bytes.
 const LONGEST: usize = 1 << 20;
@@ -56,19 +57,23 @@ fn print_refusal(rt: &HostRuntime, refusal: &Refusal) -> io::Result<()> {
     println!(rt; "{}:{} E{} {word}", place.line, place.col, refusal.rule)
 }
 
+/// Prints the declarations of a tree, or its refusal.
+fn print_tree(rt: &HostRuntime, tree: &SourceTree) -> io::Result<()> {
+    match scopes(rt.alloc(), tree) {
+        Ok(scopes) => print_scopes(rt, &scopes),
+        Err(Fail::Memory) => println!(rt; "out of memory"),
+        Err(Fail::Refused(refusal)) => print_refusal(rt, &refusal),
+    }
+}
+
 /// Prints the declarations of one text, or its refusal.
 fn print_text(rt: &HostRuntime, text: &[u8]) -> io::Result<()> {
     let tokens = ended(rt.alloc(), tokens_of(rt.alloc(), text)?)?;
     if tokens.len() > LONGEST {
         return println!(rt; "too long");
     }
-    let tree = match read_source(rt.alloc(), tokens) {
-        Ok(tree) => tree,
-        Err(Fail::Memory) => return println!(rt; "out of memory"),
-        Err(Fail::Refused(refusal)) => return print_refusal(rt, &refusal),
-    };
-    match scopes(rt.alloc(), &tree) {
-        Ok(scopes) => print_scopes(rt, &scopes),
+    match read_source(rt.alloc(), tokens) {
+        Ok(tree) => print_tree(rt, &tree),
         Err(Fail::Memory) => println!(rt; "out of memory"),
         Err(Fail::Refused(refusal)) => print_refusal(rt, &refusal),
     }
