@@ -26,7 +26,7 @@ no-break top tokens d r a b = go b.cause
     go (inr n) =
         let same : a.tree ≡ n.0 = (one_reading tokens).one_tree a.tree n.0 a.reads n.1 in
         let none : tree_refusal a.tree top ≡ None =
-            ap (λ o. option_or o (refusal_by (built a.tree) top)) a.elaborated.names ∙ ap (λ o. refusal_by o top) a.elaborated.builds ∙ a.elaborated.unbroken in
+        ap (λ o. option_or o (refusal_by (built a.tree) top)) a.elaborated.names ∙ ap (λ o. refusal_by o top) a.elaborated.builds ∙ a.elaborated.unbroken in
         let some : tree_refusal n.0 top ≡ Some r = n.2 in
         let both : tree_refusal a.tree top ≡ tree_refusal n.0 top = ap (λ (tree : SourceTree). tree_refusal tree top) same in
         let all : Some r ≡ None = sym some ∙ sym both ∙ none in
