@@ -21,5 +21,4 @@ pub mod Narrower
 pub mod Insides
 pub mod PathLimits
 pub mod Elements
-pub mod FormLaws
 pub mod PathLaws

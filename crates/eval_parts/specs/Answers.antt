@@ -53,16 +53,3 @@ CallGives (Err halt) c vs old new = Halts halt (c.effort vs (running old))
 abbrev pub Stops : {E : Type 0} → Result (List Bit4) E → Result (List Bit4) Halt → Type 0
 Stops (Ok v) r = r ≡ Ok v
 Stops (Err x) r = r ≡ Err H.Memory
-
--- what is made of an operand: it stops where the operand stopped, or wants memory
-abbrev pub Makes : Result (List Bit4) Halt → List Bit4 → Type 0
-Makes (Ok r) x = r ≡ x
-Makes (Err halt) x = halt ≡ H.Memory
-
-abbrev pub Follows : Result (List Bit4) Halt → (List Bit4 → List Bit4) → Result (List Bit4) Halt → Type 0
-Follows (Ok v) f r = Makes r (f v)
-Follows (Err halt) f r = r ≡ Err halt
-
-abbrev pub FollowsAll : Result (Vec (List Bit4) Global) Halt → (List (List Bit4) → List Bit4) → Result (List Bit4) Halt → Type 0
-FollowsAll (Ok vs) f r = Makes r (f vs.items)
-FollowsAll (Err halt) f r = r ≡ Err halt

@@ -5,7 +5,6 @@
 
 mod contexts;
 mod fields;
-mod forms;
 mod halt;
 mod layouts;
 mod memory;
@@ -21,11 +20,6 @@ mod vectors;
 
 pub use contexts::{are_signed, own_sign, own_width, wider};
 pub use fields::member_at;
-pub use forms::{
-    binary_form, both_form, call_form, cast_form, choose_form, clog2_form, concat_form,
-    either_form, equal_form, negate_form, order_form, power_form, reduce_form, repeat_form,
-    shift_form, stream_form, unary_form,
-};
 pub use halt::Halt;
 pub use layouts::{Bounds, bounds_of, converted, is_signed};
 pub use memory::{constant, in_context, or_memory, repeated_in_context, stream_in_context};
