@@ -1,0 +1,5 @@
+pub mod Stepping
+pub mod Zips
+pub mod Ports
+pub mod Whole
+pub mod Given

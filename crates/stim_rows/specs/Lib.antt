@@ -1,0 +1,4 @@
+pub mod RowFiles
+pub mod Departures
+pub mod Reading
+pub mod Lines
