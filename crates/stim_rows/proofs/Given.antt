@@ -6,7 +6,7 @@ use Rattle.sv_source.specs.declared.refusal.Fail.TheVariants.{Refused}
 use Rattle.sv_source.specs.declared.refusal.Refusal.{Refusal}
 use Rattle.stim_rows.specs.declared.shape.Shape.{Shape}
 use Rattle.stim_rows.specs.declared.slots.Slot.{Slot}
-use Rattle.stim_rows.specs.RowFiles.{ArePorts, RowsText}
+use Rattle.stim_rows.specs.RowFiles.{RowsText}
 use Rattle.stim_rows.specs.Departures.{slots_of, Keeps, DepartsAt, departure, too_many, row_limit, RowsBreak, departs, many, RowsGive}
 use Rattle.stim_rows.specs.Reading.{rows_in, count_of}
 use Rattle.stim_rows.proofs.Whole.{whole, length-rows}
@@ -19,10 +19,10 @@ module _ (shape : Shape) (file : ℕ) (bytes : List ℕ) where
       → f ≡ Refused r → r ≡ departure shape file at → RowsGive shape file bytes (Err f)
   departs-there slots at f r e there is of = refused f r (departure shape file at) is of (departs at (subst (λ s. DepartsAt s bytes at) e there))
 
-  module _ (are : ArePorts shape.inputs) (slots : List Slot) (same : slots ≡ slots_of shape.inputs) (kept : Keeps slots bytes)
+  module _ (slots : List Slot) (same : slots ≡ slots_of shape.inputs) (kept : Keeps slots bytes)
       (n : ℕ) (counted : n ≡ count_of (length slots) (length bytes)) where
     in-file : RowsText shape.inputs bytes (rows_in n shape.inputs (length (slots_of shape.inputs)) bytes)
-    in-file = whole shape.inputs are n bytes (counted ∙ ap (λ s. count_of (length s) (length bytes)) same) (subst (λ s. Keeps s bytes) same kept)
+    in-file = whole shape.inputs n bytes (counted ∙ ap (λ s. count_of (length s) (length bytes)) same) (subst (λ s. Keeps s bytes) same kept)
 
     -- a product that stops at the greatest number of 64 bits passes the limit where the product does
     pub too-many : (product : ℕ) (f : Fail) (r : Refusal) → product ≡ min (n * shape.bits) (2 ^ 64 - 1) → 268435456 < product

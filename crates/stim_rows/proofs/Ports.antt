@@ -11,7 +11,7 @@ use Rattle.b4_core.specs.declared.bit.Bit4.TheVariants.{Zero, One, X, Z}
 use Rattle.stim_rows.specs.declared.shape.Port.{Port}
 use Rattle.stim_rows.specs.declared.slots.Slot.{Slot}
 use Rattle.stim_rows.specs.declared.slots.Slot.TheVariants.{FourState, TwoState, Space, LineEnd}
-use Rattle.stim_rows.specs.RowFiles.{digit, behind, joined, vector_text, line_text, BitFits, PortTakes, RowFits, IsPort, ArePorts}
+use Rattle.stim_rows.specs.RowFiles.{digit, behind, joined, vector_text, line_text, BitFits, PortTakes, RowFits, width}
 use Rattle.stim_rows.specs.Departures.{takes, slot_of, port_slots, slots_of}
 use Rattle.stim_rows.specs.Reading.{bit_of, vector_in, row_in}
 use Rattle.stim_rows.proofs.Zips.{map-reverse, Parts, zip-length, zip-back, zip-parts}
@@ -96,14 +96,14 @@ module _ (port : Port) (text : List ℕ) (stand : AllZip Stands (port_slots port
       subst (λ l. AllZip BitFits port.two_state l) (sym (map-reverse bit_of text))
       (zip-back BitFits port.two_state (map bit_of text) (bits-fit (reverse port.two_state) text stand))
 
-  pub vector-length : IsPort port → length text ≡ port.width
-  vector-length is = zip-length Stands (port_slots port) text stand ∙ length-map (reverse port.two_state) slot_of ∙ length-reverse port.two_state ∙ is.marks
+  pub vector-length : length text ≡ width port
+  vector-length = zip-length Stands (port_slots port) text stand ∙ length-map (reverse port.two_state) slot_of ∙ length-reverse port.two_state
 
 -- the vector that begins a text, and what is behind it
-pub front-vector : (port : Port) (text rest : List ℕ) → length text ≡ port.width → take port.width (text ++ rest) ≡ text
+pub front-vector : (port : Port) (text rest : List ℕ) → length text ≡ (width port) → take (width port) (text ++ rest) ≡ text
 front-vector port text rest e = subst (λ n. take n (text ++ rest) ≡ text) e (take-append_seam text rest)
 
-pub behind-vector : (port : Port) (text rest : List ℕ) → length text ≡ port.width → drop port.width (text ++ rest) ≡ rest
+pub behind-vector : (port : Port) (text rest : List ℕ) → length text ≡ (width port) → drop (width port) (text ++ rest) ≡ rest
 behind-vector port text rest e = subst (λ n. drop n (text ++ rest) ≡ rest) e (drop-append_seam text rest)
 
 -- what a line holds, and that its text is as it was
@@ -113,35 +113,35 @@ pub record Holds (ports : List Port) (row : List (List Bit4)) (text : List (List
 
 module _ (more : List ℕ) where
   -- a vector, and what is behind it
-  vectors : (port : Port) (ports : List Port) (text : List ℕ) → ArePorts (port ∷ ports)
+  vectors : (port : Port) (ports : List Port) (text : List ℕ)
       → ((back : List ℕ) → AllZip Stands (behind Space (map port_slots ports)) back → Holds ports (row_in ports (drop 1 (back ++ more))) (behind 32) back)
       → AllZip Stands (port_slots port ++ behind Space (map port_slots ports)) text
       → Holds (port ∷ ports) (row_in (port ∷ ports) (text ++ more)) (joined 32) text
-  vectors port ports text are others z = from (zip-parts Stands (port_slots port) (behind Space (map port_slots ports)) text z)
+  vectors port ports text others z = from (zip-parts Stands (port_slots port) (behind Space (map port_slots ports)) text z)
     where
       from : Parts (AllZip Stands (port_slots port)) (AllZip Stands (behind Space (map port_slots ports))) text
           → Holds (port ∷ ports) (row_in (port ∷ ports) (text ++ more)) (joined 32) text
       from parts =
-          let size = vector-length port parts.front parts.in_front (All-head IsPort port ports are) in
+          let size = vector-length port parts.front parts.in_front in
           let rest = others parts.back parts.in_back in
           let is : text ++ more ≡ parts.front ++ (parts.back ++ more) = ap (λ l. l ++ more) parts.are ∙ append_assoc parts.front parts.back more in
-          let first : vector_in (take port.width (text ++ more)) ≡ vector_in parts.front = ap (λ l. vector_in (take port.width l)) is ∙ ap vector_in (front-vector port parts.front (parts.back ++ more) size) in
-          let behind-it : row_in ports (drop 1 (drop port.width (text ++ more))) ≡ row_in ports (drop 1 (parts.back ++ more)) = ap (λ l. row_in ports (drop 1 (drop port.width l))) is ∙ ap (λ l. row_in ports (drop 1 l)) (behind-vector port parts.front (parts.back ++ more) size) in
+          let first : vector_in (take (width port) (text ++ more)) ≡ vector_in parts.front = ap (λ l. vector_in (take (width port) l)) is ∙ ap vector_in (front-vector port parts.front (parts.back ++ more) size) in
+          let behind-it : row_in ports (drop 1 (drop (width port) (text ++ more))) ≡ row_in ports (drop 1 (parts.back ++ more)) = ap (λ l. row_in ports (drop 1 (drop (width port) l))) is ∙ ap (λ l. row_in ports (drop 1 l)) (behind-vector port parts.front (parts.back ++ more) size) in
           subst (λ row. Holds (port ∷ ports) row (joined 32) text) (sym (ap2 (λ x l. x ∷ l) first behind-it))
           (record { fits = (vector-fits port parts.front parts.in_front, rest.fits); same = ap2 (λ x y. x ++ y) (vector-back port parts.front parts.in_front) rest.same ∙ sym parts.are })
 
-  pub further : (ports : List Port) (text : List ℕ) → ArePorts ports → AllZip Stands (behind Space (map port_slots ports)) text
+  pub further : (ports : List Port) (text : List ℕ) → AllZip Stands (behind Space (map port_slots ports)) text
       → Holds ports (row_in ports (drop 1 (text ++ more))) (behind 32) text
-  further [] [] are z = record { fits = tt; same = refl }
-  further [] (b ∷ text) are z = absurd z
-  further (p ∷ ports) [] are z = absurd z
-  further (p ∷ ports) (b ∷ text) are z =
-      let in_line = vectors p ports text are (λ back y. further ports back (All-tail IsPort p ports are) y) z.1 in
+  further [] [] z = record { fits = tt; same = refl }
+  further [] (b ∷ text) z = absurd z
+  further (p ∷ ports) [] z = absurd z
+  further (p ∷ ports) (b ∷ text) z =
+      let in_line = vectors p ports text (λ back y. further ports back y) z.1 in
       record { fits = in_line.fits; same = ap2 (λ x l. x ∷ l) (sym (equal b 32 z.0)) in_line.same }
 
 -- a line without its newline holds a row
-pub row-of-body : (more : List ℕ) (inputs : List Port) (body : List ℕ) → ArePorts inputs → AllZip Stands (joined Space (map port_slots inputs)) body
+pub row-of-body : (more : List ℕ) (inputs : List Port) (body : List ℕ) → AllZip Stands (joined Space (map port_slots inputs)) body
     → Holds inputs (row_in inputs (body ++ more)) (joined 32) body
-row-of-body more [] [] are z = record { fits = tt; same = refl }
-row-of-body more [] (b ∷ body) are z = absurd z
-row-of-body more (p ∷ ports) body are z = vectors more p ports body are (λ back y. further more ports back (All-tail IsPort p ports are) y) z
+row-of-body more [] [] z = record { fits = tt; same = refl }
+row-of-body more [] (b ∷ body) z = absurd z
+row-of-body more (p ∷ ports) body z = vectors more p ports body (λ back y. further more ports back y) z

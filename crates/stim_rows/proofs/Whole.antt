@@ -11,7 +11,7 @@ use Rattle.b4_core.specs.declared.bit.Bit4.{Bit4}
 use Rattle.stim_rows.specs.declared.shape.Port.{Port}
 use Rattle.stim_rows.specs.declared.slots.Slot.{Slot}
 use Rattle.stim_rows.specs.declared.slots.Slot.TheVariants.{FourState, Space, LineEnd}
-use Rattle.stim_rows.specs.RowFiles.{joined, vector_text, line_text, text_of, RowFits, ArePorts, IsText, RowsText}
+use Rattle.stim_rows.specs.RowFiles.{joined, vector_text, line_text, text_of, RowFits, IsText, RowsText}
 use Rattle.stim_rows.specs.Departures.{takes, port_slots, slots_of, is_taken, is_whole, Keeps}
 use Rattle.stim_rows.specs.Reading.{row_in, rows_in, count_of}
 use Rattle.stim_rows.proofs.Zips.{Parts, zip-parts}
@@ -47,7 +47,7 @@ line-end [] z = absurd z
 line-end (b ∷ []) z = ap (λ x. x ∷ []) (equal b 10 z.0)
 line-end (b ∷ c ∷ l) z = absurd z.1
 
-module _ (inputs : List Port) (are : ArePorts inputs) where
+module _ (inputs : List Port) where
   abbrev body : List Slot
   body = joined Space (map port_slots inputs)
 
@@ -111,7 +111,7 @@ module _ (inputs : List Port) (are : ArePorts inputs) where
       from parts =
           let line : front ≡ parts.front ++ 10 ∷ [] = parts.are ∙ ap (λ l. parts.front ++ l) (line-end parts.back parts.in_back) in
           let bytes : front ++ back ≡ parts.front ++ (10 ∷ back) = ap (λ l. l ++ back) line ∙ append_assoc parts.front (10 ∷ []) back in
-          let holds = row-of-body (10 ∷ back) inputs parts.front are parts.in_front in
+          let holds = row-of-body (10 ∷ back) inputs parts.front parts.in_front in
           let row : row_in inputs (front ++ back) ≡ row_in inputs (parts.front ++ (10 ∷ back)) = ap (row_in inputs) bytes in
           let text : line_text (row_in inputs (front ++ back)) ≡ front = ap line_text row ∙ ap (λ l. l ++ 10 ∷ []) holds.same ∙ sym line in
           record { fit = All-cons (RowFits inputs) (row_in inputs (front ++ back)) rows (subst (RowFits inputs) (sym row) holds.fits) rest.fit; text = ended (row_in inputs (front ++ back)) text rest.text }
@@ -125,7 +125,7 @@ module _ (inputs : List Port) (are : ArePorts inputs) where
   only-line line e more kept = record { fit = All-cons (RowFits inputs) (row_in inputs line) [] holds.fits (All-nil (RowFits inputs)); text = inr (has-input more, sym text) }
     where
       holds : Holds inputs (row_in inputs line) (joined 32) line
-      holds = subst (λ l. Holds inputs (row_in inputs l) (joined 32) line) (append-nil line) (row-of-body [] inputs line are (last-line line e kept))
+      holds = subst (λ l. Holds inputs (row_in inputs l) (joined 32) line) (append-nil line) (row-of-body [] inputs line (last-line line e kept))
 
       text : line_text (row_in inputs line) ++ [] ≡ line ++ 10 ∷ []
       text = append-nil (line_text (row_in inputs line)) ∙ ap (λ l. l ++ 10 ∷ []) holds.same

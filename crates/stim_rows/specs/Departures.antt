@@ -10,7 +10,7 @@ use Rattle.stim_rows.specs.declared.shape.Port.{Port}
 use Rattle.stim_rows.specs.declared.shape.Shape.{Shape}
 use Rattle.stim_rows.specs.declared.slots.Slot.{Slot}
 use Rattle.stim_rows.specs.declared.slots.Slot.TheVariants.{FourState, TwoState, Space, LineEnd}
-use Rattle.stim_rows.specs.RowFiles.{joined, RowsText}
+use Rattle.stim_rows.specs.RowFiles.{joined, width, RowsText}
 
 abbrev pub takes : Slot → ℕ → Bool
 takes FourState byte = byte == 48 || byte == 49 || byte == 120 || byte == 122
@@ -54,7 +54,7 @@ pub record DepartsAt (slots : List Slot) (bytes : List ℕ) (k : ℕ) : Type 0 w
 -- the input that is expected at a place of a row's line, or the line's end
 abbrev pub expected : List Port → ℕ → List ℕ
 expected [] n = codes "<line>"
-expected (port ∷ rest) n = if nat_lt n port.width then port.name else expected rest (n - suc port.width)
+expected (port ∷ rest) n = if nat_lt n (width port) then port.name else expected rest (n - suc (width port))
 
 abbrev pub departure : Shape → ℕ → ℕ → Refusal
 departure shape file k =

@@ -32,6 +32,10 @@ line_text row = joined 32 (map vector_text row) ++ 10 ∷ []
 abbrev pub text_of : List (List (List Bit4)) → List ℕ
 text_of rows = flat_map line_text rows
 
+-- how many bits a port has: it has a mark for each
+abbrev pub width : Port → ℕ
+width port = length port.two_state
+
 -- a two-state bit is 0 or 1
 abbrev pub BitFits : Bit4 → Bit4 → Type 0
 BitFits One Zero = ⊤
@@ -56,11 +60,3 @@ IsText inputs bytes text = (bytes ≡ text) ⊎ ((inputs ≡ [] → ⊥) × (byt
 pub record RowsText (inputs : List Port) (bytes : List ℕ) (rows : List (List (List Bit4))) : Type 0 where
   pub fit : All (RowFits inputs) rows
   pub text : IsText inputs bytes (text_of rows)
-
--- each port has a bit, and a mark for each of its bits
-pub record IsPort (port : Port) : Type 0 where
-  pub marks : length port.two_state ≡ port.width
-  pub some : (port.width ≡ 0) → ⊥
-
-abbrev pub ArePorts : List Port → Type 0
-ArePorts ports = All IsPort ports

@@ -49,7 +49,7 @@ fn expected(alloc: Global, inputs: &[Port], place: usize) -> Result<Text, AllocE
 {
     let mut left = place;
     for port in inputs {
-        let width = port.width as usize;
+        let width = port.two_state.len();
         if left < width {
             return port.name.copy(alloc);
         }

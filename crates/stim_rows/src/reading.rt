@@ -52,7 +52,7 @@ fn row_of(alloc: Global, inputs: &[Port], line: &[u8]) -> Result<Row, AllocError
     let mut row = Row::new(alloc);
     let mut rest = line;
     for port in inputs {
-        let width = port.width as usize;
+        let width = port.two_state.len();
         row.push(vector_of(alloc, front(rest, width))?)?;
         rest = behind(behind(rest, width), 1);
     }

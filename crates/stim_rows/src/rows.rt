@@ -2,7 +2,6 @@
 
 ghost use Rattle.std.specs.Prelude.{◌<◌, ◌^◌, length};
 ghost use Rattle.stim_rows.specs.Departures.{RowsGive};
-ghost use Rattle.stim_rows.specs.RowFiles.{ArePorts};
 
 use crate::departures::{departure, departure_refusal, too_many};
 use crate::reading::{count_of, rows_of};
@@ -21,8 +20,7 @@ pub const ROW_LIMIT: u64 = 268_435_456;
 /// Refused by rule 801 at the first byte that can't stand where it does, with the name of the input that is expected there,
 /// or `<line>` where the line should end; by rule 802 where the rows times the bits of all signals pass 2^28.
 pub fn read_rows(alloc: Global, shape: &Shape, file: u32, bytes: &[u8]) -> Result<Rows, Fail>
-    requires ports { ArePorts shape.now.inputs }
-    requires small { length bytes.now < 2 ^ 31 }
+    requires { length bytes.now < 2 ^ 31 }
     ensures { RowsGive shape.now file bytes.now result }
 {
     let inputs = shape.inputs.as_slice();

@@ -8,7 +8,7 @@ use sv_source::Text;
 pub struct Port {
     /// Its name.
     pub name: Text,
-    /// How many bits it has, at least one.
+    /// How many bits it has, as many as it has marks.
     pub width: u32,
     /// A mark for each bit, least significant first: One where the bit is of a two-state type.
     pub two_state: Vec4,
