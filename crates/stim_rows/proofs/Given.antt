@@ -1,5 +1,5 @@
 -- What a row file gives: its departure, too many rows, or its rows.
-use Rattle.std.proofs.Common.{◌≡◌, refl, sym, ◌∙◌, ap, subst, ℕ, ◌+◌, ◌*◌, ◌-◌, ◌^◌, ◌≤◌, ◌<◌, min, List, length, Result, Ok, Err, arith}
+use Rattle.std.proofs.Common.{◌≡◌, sym, ◌∙◌, ap, subst, ℕ, ◌*◌, ◌-◌, ◌^◌, ◌≤◌, ◌<◌, min, List, length, Err, arith}
 use Rattle.b4_core.specs.declared.bit.Bit4.{Bit4}
 use Rattle.sv_source.specs.declared.refusal.Fail.{Fail}
 use Rattle.sv_source.specs.declared.refusal.Fail.TheVariants.{Refused}
@@ -7,7 +7,8 @@ use Rattle.sv_source.specs.declared.refusal.Refusal.{Refusal}
 use Rattle.stim_rows.specs.declared.shape.Shape.{Shape}
 use Rattle.stim_rows.specs.declared.slots.Slot.{Slot}
 use Rattle.stim_rows.specs.RowFiles.{RowsText}
-use Rattle.stim_rows.specs.Departures.{slots_of, Keeps, DepartsAt, departure, too_many, row_limit, RowsBreak, departs, many, RowsGive}
+use Rattle.stim_rows.specs.Slots.{slots_of}
+use Rattle.stim_rows.specs.Departures.{Keeps, DepartsAt, departure, too_many, row_limit, RowsBreak, departs, many, RowsGive}
 use Rattle.stim_rows.specs.Reading.{rows_in, count_of}
 use Rattle.stim_rows.proofs.Whole.{whole, length-rows}
 

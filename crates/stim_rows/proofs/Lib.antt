@@ -3,3 +3,4 @@ pub mod Zips
 pub mod Ports
 pub mod Whole
 pub mod Given
+pub mod Unique

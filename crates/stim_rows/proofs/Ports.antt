@@ -1,18 +1,16 @@
 -- A line whose bytes stand where they may holds a vector for each input, and is the line of these vectors.
-use Rattle.std.proofs.Common.{◌≡◌, ◌⊎◌, inl, inr, refl, sym, ◌∙◌, ap, subst, ℕ, zero, suc, ◌+◌, ◌≤◌, ◌<◌, Bool, true, false, ◌||◌, ◌==◌, List, [], ◌∷◌, ◌++◌, reverse, map, length, take, drop, arith}
-use Rattle.std.specs.Prelude.{All}
+use Rattle.std.proofs.Common.{◌≡◌, ◌⊎◌, inl, inr, refl, sym, ◌∙◌, ap, subst, ℕ, Bool, true, false, ◌||◌, ◌==◌, List, [], ◌∷◌, ◌++◌, reverse, map, length, take, drop, arith}
 use Rattle.std.specs.List.{AllZip}
 use Rattle.std.proofs.Math.Seq.{take-append_seam, drop-append_seam}
 use Rattle.std.proofs.lemmas.List.{reverse-reverse, length-reverse, length-map, append_assoc}
-use Rattle.std.proofs.lemmas.List.Elements.{All-head, All-tail}
 use Rattle.std.proofs.lemmas.Bool.Decides.{nat_tests}
 use Rattle.b4_core.specs.declared.bit.Bit4.{Bit4}
 use Rattle.b4_core.specs.declared.bit.Bit4.TheVariants.{Zero, One, X, Z}
 use Rattle.stim_rows.specs.declared.shape.Port.{Port}
 use Rattle.stim_rows.specs.declared.slots.Slot.{Slot}
-use Rattle.stim_rows.specs.declared.slots.Slot.TheVariants.{FourState, TwoState, Space, LineEnd}
-use Rattle.stim_rows.specs.RowFiles.{digit, behind, joined, vector_text, line_text, BitFits, PortTakes, RowFits, width}
-use Rattle.stim_rows.specs.Departures.{takes, slot_of, port_slots, slots_of}
+use Rattle.stim_rows.specs.declared.slots.Slot.TheVariants.{FourState, TwoState, Space}
+use Rattle.stim_rows.specs.RowFiles.{digit, vector_text, BitFits, PortTakes, RowFits}
+use Rattle.stim_rows.specs.Slots.{behind, joined, width, takes, slot_of, port_slots}
 use Rattle.stim_rows.specs.Reading.{bit_of, vector_in, row_in}
 use Rattle.stim_rows.proofs.Zips.{map-reverse, Parts, zip-length, zip-back, zip-parts}
 

@@ -1,6 +1,6 @@
 -- A file that departs nowhere is the text of the rows in it.
-use Rattle.std.proofs.Common.{◌≡◌, ◌⊎◌, inl, inr, refl, sym, ◌∙◌, ap, subst, ℕ, zero, suc, pred, ◌+◌, ◌-◌, ◌*◌, ◌/◌, ◌%◌, ◌≤◌, ◌<◌, nat_lt, Bool, true, false, ◌||◌, ◌&&◌, ◌==◌, List, [], ◌∷◌, ◌++◌, map, length, take, drop, Option, Some, None, slice_index_or, arith}
-use Rattle.std.specs.Prelude.{All, slice_get}
+use Rattle.std.proofs.Common.{◌≡◌, ◌⊎◌, inl, inr, refl, sym, ◌∙◌, ap, subst, ℕ, zero, suc, pred, ◌+◌, ◌-◌, ◌/◌, ◌%◌, ◌≤◌, ◌<◌, nat_lt, Bool, true, false, ◌||◌, ◌&&◌, ◌==◌, List, [], ◌∷◌, ◌++◌, map, length, take, drop, Option, Some, None, slice_index_or, arith}
+use Rattle.std.specs.Prelude.{slice_get}
 use Rattle.std.specs.List.{AllZip}
 use Rattle.std.proofs.Math.Nat.{add-div_left, div-eq_of_lt, div-eq_of_lt-le, mod-eq_of_lt, add-mod_right}
 use Rattle.std.proofs.lemmas.List.{append_assoc, append-nil, length-append, take-append-drop, length-take-le, length-drop}
@@ -11,13 +11,14 @@ use Rattle.b4_core.specs.declared.bit.Bit4.{Bit4}
 use Rattle.stim_rows.specs.declared.shape.Port.{Port}
 use Rattle.stim_rows.specs.declared.slots.Slot.{Slot}
 use Rattle.stim_rows.specs.declared.slots.Slot.TheVariants.{FourState, Space, LineEnd}
-use Rattle.stim_rows.specs.RowFiles.{joined, vector_text, line_text, text_of, RowFits, IsText, RowsText}
-use Rattle.stim_rows.specs.Departures.{takes, port_slots, slots_of, is_taken, is_whole, Keeps}
+use Rattle.stim_rows.specs.RowFiles.{line_text, text_of, RowFits, IsText, RowsText}
+use Rattle.stim_rows.specs.Slots.{joined, takes, port_slots, slots_of}
+use Rattle.stim_rows.specs.Departures.{is_taken, is_whole, Keeps}
 use Rattle.stim_rows.specs.Reading.{row_in, rows_in, count_of}
 use Rattle.stim_rows.proofs.Zips.{Parts, zip-parts}
 use Rattle.stim_rows.proofs.Ports.{Stands, Holds, ap2, equal, or-cases, row-of-body}
 
-abbrev found : List Slot → Option ℕ → ℕ → Bool
+abbrev pub found : List Slot → Option ℕ → ℕ → Bool
 found slots o m = elim o [ None ↦ false | Some byte ↦ takes (slice_index_or slots m FourState) byte ]
 
 zip-of : (slots : List Slot) (line : List ℕ) → length line ≡ length slots → ((j : ℕ) → j < length slots → found slots (slice_get line j) j ≡ true) → AllZip Stands slots line
@@ -26,12 +27,12 @@ zip-of [] (b ∷ line) e h = absurd (omega arith)
 zip-of (s ∷ slots) [] e h = absurd (omega arith)
 zip-of (s ∷ slots) (b ∷ line) e h = (h 0 (omega arith), zip-of slots line (omega arith) (λ j below. h (suc j) (omega arith)))
 
-get-front : (front back : List ℕ) (j : ℕ) → j < length front → slice_get (front ++ back) j ≡ slice_get front j
+pub get-front : (front back : List ℕ) (j : ℕ) → j < length front → slice_get (front ++ back) j ≡ slice_get front j
 get-front [] back j below = absurd (omega arith)
 get-front (x ∷ front) back zero below = refl
 get-front (x ∷ front) back (suc j) below = get-front front back j (omega arith)
 
-get-behind : (front back : List ℕ) (j k : ℕ) → k ≡ j + length front → slice_get (front ++ back) k ≡ slice_get back j
+pub get-behind : (front back : List ℕ) (j k : ℕ) → k ≡ j + length front → slice_get (front ++ back) k ≡ slice_get back j
 get-behind [] back j k e = ap (slice_get back) (omega arith)
 get-behind (x ∷ front) back j zero e = absurd (omega arith)
 get-behind (x ∷ front) back j (suc k) e = get-behind front back j k (omega arith)
@@ -54,17 +55,11 @@ module _ (inputs : List Port) where
   abbrev size : ℕ
   size = length (slots_of inputs)
 
-  is-size : size ≡ suc (length body)
+  pub is-size : size ≡ suc (length body)
   is-size = length-append body (LineEnd ∷ []) ∙ one (length body)
     where
       one : (k : ℕ) → k + 1 ≡ suc k
       one k = omega arith
-
-  has-input : 1 < size → inputs ≡ [] → ⊥
-  has-input more e = absurd (small (ap (λ i. length (slots_of i)) e))
-    where
-      small : size ≡ 1 → ⊥
-      small d = absurd (omega arith)
 
   -- the bytes of a whole line
   first-line : (front back : List ℕ) → length front ≡ size → Keeps (slots_of inputs) (front ++ back) → AllZip Stands (slots_of inputs) front
@@ -122,7 +117,7 @@ module _ (inputs : List Port) where
 
   -- a last line without its newline
   only-line : (line : List ℕ) → suc (length line) ≡ size → 1 < size → Keeps (slots_of inputs) line → RowsText inputs line (row_in inputs line ∷ [])
-  only-line line e more kept = record { fit = All-cons (RowFits inputs) (row_in inputs line) [] holds.fits (All-nil (RowFits inputs)); text = inr (has-input more, sym text) }
+  only-line line e more kept = record { fit = All-cons (RowFits inputs) (row_in inputs line) [] holds.fits (All-nil (RowFits inputs)); text = inr (more, sym text) }
     where
       holds : Holds inputs (row_in inputs line) (joined 32) line
       holds = subst (λ l. Holds inputs (row_in inputs l) (joined 32) line) (append-nil line) (row-of-body [] inputs line (last-line line e kept))

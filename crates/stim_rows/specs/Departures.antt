@@ -1,41 +1,21 @@
 -- Where a row file departs from the form: the first byte that its place in a row doesn't take, and what was expected there.
-use Rattle.std.specs.Prelude.{◌≡◌, ◌⊎◌, ℕ, suc, ◌+◌, ◌-◌, ◌*◌, ◌^◌, ◌/◌, ◌%◌, ◌<◌, ◌≤◌, ◌==◌, nat_lt, Bool, true, false, ◌&&◌, ◌||◌, if◌then◌else◌, List, [], ◌∷◌, ◌++◌, map, length, reverse, Option, Some, None, Result, Ok, Err, slice_get, slice_index_or, codes}
+use Rattle.std.specs.Prelude.{◌≡◌, ℕ, suc, ◌-◌, ◌*◌, ◌^◌, ◌/◌, ◌%◌, ◌<◌, ◌≤◌, ◌==◌, nat_lt, Bool, true, false, ◌&&◌, ◌||◌, if◌then◌else◌, List, [], ◌∷◌, length, Some, None, Result, Ok, Err, slice_get, slice_index_or, codes}
 use Rattle.b4_core.specs.declared.bit.Bit4.{Bit4}
-use Rattle.b4_core.specs.declared.bit.Bit4.TheVariants.{Zero, One, X, Z}
 use Rattle.sv_source.specs.declared.refusal.Fail.{Fail}
 use Rattle.sv_source.specs.declared.refusal.Fail.TheVariants.{Memory, Refused}
 use Rattle.sv_source.specs.declared.refusal.Refusal.{Refusal}
-use Rattle.sv_source.specs.declared.token.Place.{Place}
 use Rattle.stim_rows.specs.declared.shape.Port.{Port}
 use Rattle.stim_rows.specs.declared.shape.Shape.{Shape}
 use Rattle.stim_rows.specs.declared.slots.Slot.{Slot}
-use Rattle.stim_rows.specs.declared.slots.Slot.TheVariants.{FourState, TwoState, Space, LineEnd}
-use Rattle.stim_rows.specs.RowFiles.{joined, width, RowsText}
-
-abbrev pub takes : Slot → ℕ → Bool
-takes FourState byte = byte == 48 || byte == 49 || byte == 120 || byte == 122
-takes TwoState byte = byte == 48 || byte == 49
-takes Space byte = byte == 32
-takes LineEnd byte = byte == 10
-
-abbrev pub slot_of : Bit4 → Slot
-slot_of One = TwoState
-slot_of Zero = FourState
-slot_of X = FourState
-slot_of Z = FourState
-
-abbrev pub port_slots : Port → List Slot
-port_slots port = map slot_of (reverse port.two_state)
-
--- what stands at each place of a row's line
-abbrev pub slots_of : List Port → List Slot
-slots_of inputs = joined Space (map port_slots inputs) ++ LineEnd ∷ []
+use Rattle.stim_rows.specs.declared.slots.Slot.TheVariants.{FourState}
+use Rattle.stim_rows.specs.Slots.{takes, width, slots_of}
+use Rattle.stim_rows.specs.RowFiles.{RowsText}
 
 -- whether there is a byte k, and its place in its row takes it: all rows have the same length
 abbrev pub is_taken : List Slot → List ℕ → ℕ → Bool
 is_taken slots bytes k = elim (slice_get bytes k) [ None ↦ false | Some byte ↦ takes (slice_index_or slots (k % length slots) FourState) byte ]
 
--- whether a file of so many bytes ends with a row, which may lack its newline if it has an input
+-- whether a file of so many bytes ends with a row, which may lack its newline if it is more than that
 abbrev pub is_whole : List Slot → ℕ → Bool
 is_whole slots n = n % length slots == 0 || (nat_lt 1 (length slots) && suc (n % length slots) == length slots)
 
@@ -64,7 +44,7 @@ departure shape file k =
 abbrev pub too_many : ℕ → Refusal
 too_many file = record { rule = 802; place = record { file = file; line = 1; col = 1 }; word = codes "rows" }
 
--- rows of so many signals' bits are too many
+-- so many rows times bits of signals are the most that are taken
 abbrev pub row_limit : ℕ
 row_limit = 2 ^ 28
 

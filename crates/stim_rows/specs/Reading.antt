@@ -1,9 +1,9 @@
 -- The rows that bytes of the right form hold, and how many there are.
-use Rattle.std.specs.Prelude.{ℕ, zero, suc, ◌+◌, ◌-◌, ◌/◌, ◌==◌, Bool, true, false, ◌||◌, if◌then◌else◌, List, [], ◌∷◌, map, length, reverse, take, drop, pred}
+use Rattle.std.specs.Prelude.{ℕ, zero, suc, ◌+◌, ◌/◌, ◌==◌, if◌then◌else◌, List, [], ◌∷◌, map, reverse, take, drop, pred}
 use Rattle.b4_core.specs.declared.bit.Bit4.{Bit4}
 use Rattle.b4_core.specs.declared.bit.Bit4.TheVariants.{Zero, One, X, Z}
 use Rattle.stim_rows.specs.declared.shape.Port.{Port}
-use Rattle.stim_rows.specs.RowFiles.{width}
+use Rattle.stim_rows.specs.Slots.{width}
 
 abbrev pub bit_of : ℕ → Bit4
 bit_of byte = if byte == 48 then Zero else if byte == 49 then One else if byte == 120 then X else Z

@@ -1,6 +1,7 @@
 //! Where a row file departs from the form.
 
 ghost use Rattle.std.specs.Prelude.{◌≡◌, ◌-◌, ◌^◌, ◌<◌, ◌≤◌, [], length, IfOk, MatchOption};
+ghost use Rattle.stim_rows.specs.Slots.{slots_of};
 ghost use Rattle.stim_rows.specs.Departures as spec;
 
 use crate::shape::{Port, Shape};
@@ -66,7 +67,7 @@ pub fn departure_refusal(
     file: u32,
     at: usize,
 ) -> Result<Refusal, AllocError>
-    requires size { size ≡ length (spec.slots_of shape.now.inputs) }
+    requires size { size ≡ length (slots_of shape.now.inputs) }
     requires small { at < 2 ^ 32 - 1 }
     ensures { IfOk result (λ refusal. refusal ≡ spec.departure shape.now file at) }
 {

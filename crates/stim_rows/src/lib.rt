@@ -5,12 +5,14 @@
 #![tactic(auto)]
 
 mod departures;
+mod laws;
 mod reading;
 mod rows;
 mod shape;
 mod slots;
 mod writing;
 
+pub use laws::{none_departs, one_reading, rows_keep};
 pub use rows::{ROW_LIMIT, read_rows};
 pub use shape::{Port, Ports, Shape};
 pub use writing::lines;

@@ -1,6 +1,6 @@
 //! Row files, read.
 
-ghost use Rattle.std.specs.Prelude.{◌<◌, ◌^◌, length};
+ghost use Rattle.std.specs.Prelude.{◌<◌, ◌-◌, ◌^◌, length};
 ghost use Rattle.stim_rows.specs.Departures.{RowsGive};
 
 use crate::departures::{departure, departure_refusal, too_many};
@@ -15,12 +15,14 @@ use sv_source::Fail;
 pub const ROW_LIMIT: u64 = 268_435_456;
 
 /// The rows of a row file, whose number among the files is `file`. A line is a row: the bits of each input in port order,
-/// most significant first, with one space between inputs, ended by a newline that the last line may lack.
+/// most significant first, with one space between inputs, ended by a newline, which the last line may lack
+/// where it isn't empty. A port has as many bits as marks.
 ///
-/// Refused by rule 801 at the first byte that can't stand where it does, with the name of the input that is expected there,
-/// or `<line>` where the line should end; by rule 802 where the rows times the bits of all signals pass 2^28.
+/// Refused by rule 801 at the first byte that can't stand where it does, or behind the last byte where the file ends within a
+/// row, with the name of the input that is expected there, or `<line>` where the line should end; by rule 802 where the rows
+/// times `shape.bits` pass 2^28.
 pub fn read_rows(alloc: Global, shape: &Shape, file: u32, bytes: &[u8]) -> Result<Rows, Fail>
-    requires { length bytes.now < 2 ^ 31 }
+    requires { length bytes.now < 2 ^ 32 - 1 }
     ensures { RowsGive shape.now file bytes.now result }
 {
     let inputs = shape.inputs.as_slice();

@@ -2,8 +2,8 @@
 
 ghost use Rattle.std.specs.Prelude.{◌≡◌, ◌++◌, map, reverse, IfOk, OnOk};
 ghost use Rattle.stim_rows.specs.declared.slots.Slot.TheVariants.{Space};
-ghost use Rattle.stim_rows.specs.Departures as spec;
-ghost use Rattle.stim_rows.specs.RowFiles.{behind, joined};
+ghost use Rattle.stim_rows.specs.Slots as spec;
+ghost use Rattle.stim_rows.specs.Slots.{behind, joined};
 
 use crate::shape::Port;
 use b4_core::Bit4;

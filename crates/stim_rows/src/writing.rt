@@ -2,6 +2,7 @@
 
 ghost use Rattle.std.specs.Prelude.{◌≡◌, ◌++◌, map, reverse, IfOk, OnOk};
 ghost use Rattle.stim_rows.specs.RowFiles as rows;
+ghost use Rattle.stim_rows.specs.Slots as slots;
 ghost use Rattle.stim_rows.specs.Lines as spec;
 
 use crate::shape::{Port, Shape};
@@ -39,7 +40,7 @@ fn push_port(text: &mut Vec<u8>, port: &Port, valuation: &[Vec4]) -> Result<(), 
 }
 
 fn push_further(text: &mut Vec<u8>, ports: &[Port], valuation: &[Vec4]) -> Result<(), AllocError>
-    ensures { OnOk result (text.new.items ≡ text.old.items ++ rows.behind 32 (map rows.vector_text (spec.shown ports.now valuation.now))) }
+    ensures { OnOk result (text.new.items ≡ text.old.items ++ slots.behind 32 (map rows.vector_text (spec.shown ports.now valuation.now))) }
 {
     for port in ports {
         text.push(b' ')?;
@@ -49,7 +50,7 @@ fn push_further(text: &mut Vec<u8>, ports: &[Port], valuation: &[Vec4]) -> Resul
 }
 
 fn push_ports(text: &mut Vec<u8>, ports: &[Port], valuation: &[Vec4]) -> Result<(), AllocError>
-    ensures { OnOk result (text.new.items ≡ text.old.items ++ rows.joined 32 (map rows.vector_text (spec.shown ports.now valuation.now))) }
+    ensures { OnOk result (text.new.items ≡ text.old.items ++ slots.joined 32 (map rows.vector_text (spec.shown ports.now valuation.now))) }
 {
     match ports.split_first() {
         None => Ok(()),

@@ -1,4 +1,4 @@
-use Rattle.std.proofs.Common.{length, ◌-◌, ◌≡◌, ◌^◌, ◌<◌, ◌≤◌, [], IfOk, MatchOption, ℕ, ◌+◌, ◌*◌, true}
+use Rattle.std.proofs.Common.{length, ◌-◌, ◌≡◌, ◌<◌, ◌≤◌, ℕ, true}
 use Rattle.stim_rows.specs.Departures as spec
 use Rattle.stim_rows.proofs.departures.departure.Given as goal
 

@@ -1,4 +1,4 @@
-use Rattle.std.proofs.Common.{◌≡◌, ◌^◌, ◌<◌, ◌≤◌, [], length, IfOk, MatchOption, ℕ, ◌+◌, ◌-◌, ◌*◌, drop}
+use Rattle.std.proofs.Common.{◌≡◌, drop}
 use Rattle.stim_rows.specs.Departures as spec
 use Rattle.stim_rows.proofs.departures.expected.Given as goal
 

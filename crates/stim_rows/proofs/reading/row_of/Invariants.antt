@@ -1,4 +1,4 @@
-use Rattle.std.proofs.Common.{◌≡◌, ◌<◌, ◌+◌, ◌^◌, take, drop, IfOk, ℕ, ◌-◌, ◌*◌, ◌≤◌, ◌++◌, length}
+use Rattle.std.proofs.Common.{◌≡◌, drop, ◌++◌}
 use Rattle.stim_rows.specs.Reading as spec
 use Rattle.stim_rows.proofs.reading.row_of.Given as goal
 

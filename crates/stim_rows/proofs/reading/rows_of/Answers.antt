@@ -1,4 +1,4 @@
-use Rattle.std.proofs.Common.{◌≡◌, ◌-◌, ◌++◌, ◌∷◌, [], length, ap, subst, ◌<◌, ◌∙◌}
+use Rattle.std.proofs.Common.{◌-◌, ◌++◌, ◌∷◌, [], length, ap, subst, ◌<◌, ◌∙◌}
 use Rattle.stim_rows.specs.Reading as spec
 use Rattle.stim_rows.proofs.Stepping.{rows-step}
 use Rattle.stim_rows.proofs.reading.rows_of.Goals as goal

@@ -1,6 +1,6 @@
-use Rattle.std.proofs.Common.{◌≡◌, ◌∙◌, ap, sym, subst, length}
-use Rattle.stim_rows.specs.Departures.{slots_of}
-use Rattle.stim_rows.specs.Reading.{count_of, rows_in}
+use Rattle.std.proofs.Common.{◌∙◌, ap, length}
+use Rattle.stim_rows.specs.Slots.{slots_of}
+use Rattle.stim_rows.specs.Reading.{rows_in}
 use Rattle.stim_rows.proofs.Given.{departs-there, too-many, rows-given}
 use Rattle.stim_rows.proofs.rows.read_rows.Goals as goal
 

@@ -1,6 +1,6 @@
 use Rattle.std.proofs.Common.{◌≡◌, ◌++◌, map, drop}
-use Rattle.stim_rows.specs.Departures as spec
-use Rattle.stim_rows.specs.RowFiles.{behind}
+use Rattle.stim_rows.specs.Slots as spec
+use Rattle.stim_rows.specs.Slots.{behind}
 use Rattle.stim_rows.specs.declared.slots.Slot.TheVariants.{Space}
 use Rattle.stim_rows.proofs.slots.push_further.Given as goal
 

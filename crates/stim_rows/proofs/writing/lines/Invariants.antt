@@ -1,4 +1,4 @@
-use Rattle.std.proofs.Common.{◌≡◌, ◌++◌, drop, flat_map}
+use Rattle.std.proofs.Common.{◌≡◌, ◌++◌, drop}
 use Rattle.stim_rows.specs.Lines as spec
 use Rattle.stim_rows.proofs.writing.lines.Given as goal
 
