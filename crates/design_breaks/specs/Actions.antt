@@ -1,6 +1,6 @@
 -- What the statements of a process or function say: their assignments, what they pass to outputs, what they mention, and the
 -- loops that can't be unrolled.
-use Rattle.std.specs.Prelude.{ℕ, zero, suc, Bool, true, false, ◌&&◌, ◌==◌, not, cond, List, [], ◌∷◌, ◌++◌, map, flat_map, Option, Some, None}
+use Rattle.std.specs.Prelude.{ℕ, zero, suc, ◌^◌, Bool, true, false, ◌&&◌, ◌==◌, not, cond, List, [], ◌∷◌, ◌++◌, map, flat_map, Option, Some, None}
 use Rattle.std.specs.List.{list_any}
 use Rattle.sv_types.specs.declared.expression.Expr.{Expr}
 use Rattle.sv_types.specs.declared.statement.Local.{Local}
@@ -31,19 +31,22 @@ pub record Actions : Type 0 where
   pub assigns : List Assignment
   pub passes : (ℕ → List Parameter) → List Passed
   pub said : Mentions
-  -- the loops that can't be unrolled, by their `for`, by what is known before: those whose bounds read more than constants and
-  -- loop variables or whose variable is written in them, and those of too many turns
-  pub endless : (ℕ → List Parameter) → Sight → List ℕ
+  -- The loops that can't be unrolled, by what is known before: those whose bounds read more than constants and loop variables
+  -- or whose variable is written in them, each looked at once whatever turns are made; and, turn by turn, those of too many
+  -- turns and the bounds whose value takes too long, at their first tokens.
+  pub unbounded : (ℕ → List Parameter) → Sight → List ℕ
+  pub overlong : (ℕ → List Parameter) → Sight → List ℕ
 
 abbrev pub saying : Mentions → Actions
-saying m = record { assigns = []; passes = λ fs. []; said = m; endless = λ fs k. [] }
+saying m = record { assigns = []; passes = λ fs. []; said = m; unbounded = λ fs k. []; overlong = λ fs k. [] }
 
 abbrev pub together : Mentions → List Actions → Actions
 together m as' = record {
   assigns = flat_map (λ (a : Actions). a.assigns) as';
   passes = λ fs. flat_map (λ (a : Actions). a.passes fs) as';
   said = both m (all (map (λ (a : Actions). a.said) as'));
-  endless = λ fs k. flat_map (λ (a : Actions). a.endless fs k) as';
+  unbounded = λ fs k. flat_map (λ (a : Actions). a.unbounded fs k) as';
+  overlong = λ fs k. flat_map (λ (a : Actions). a.overlong fs k) as';
 }
 
 abbrev pub none_or : Option Actions → List Actions
@@ -102,16 +105,26 @@ is_counted c body fs k =
     (c.first.constant k && (c.test.constant (entered c k) && c.step.constant (entered c k)))
     && not (list_any (λ (m : ℕ). m == local_number c.variable) (targets body fs))
 
--- the turns of a loop, and the loops in each of them
-unfoldable pub in_turns : ℕ → Control → (Sight → List ℕ) → Sight → List ℕ
-in_turns zero c body k = cond (is_true c.test k.around) (c.at ∷ []) []
-in_turns (suc n) c body k = cond (is_true c.test k.around) (body k ++ in_turns n c body (stepped c k)) []
+abbrev pub unbounded_in : Control → Actions → (ℕ → List Parameter) → Sight → List ℕ
+unbounded_in c body fs k = cond (is_counted c body fs k) [] (c.at ∷ []) ++ body.unbounded fs (entered c k)
 
-abbrev pub endless_in : Control → Actions → (ℕ → List Parameter) → Sight → List ℕ
-endless_in c body fs k = cond (is_counted c body fs k) (in_turns most_turns c (body.endless fs) (entered c k)) (c.at ∷ [])
+-- a constant whose value takes over 65,536 turns of a loop or 2^20 statements
+abbrev pub takes_too_long : Meaning → Sight → List ℕ
+takes_too_long m k = elim (m.values k.around (record { left = Some (2 ^ 20); stop = None })).stop [ None ↦ [] | Some s ↦ m.at ∷ [] ]
+
+-- the turns of a loop, each with the loops in it
+unfoldable pub in_turns : ℕ → Control → (Sight → List ℕ) → Sight → List ℕ
+in_turns zero c body k = takes_too_long c.test k ++ cond (is_true c.test k.around) (c.at ∷ []) []
+in_turns (suc n) c body k =
+    takes_too_long c.test k
+    ++ cond (is_true c.test k.around) (body k ++ (takes_too_long c.step k ++ in_turns n c body (stepped c k))) []
+
+abbrev pub overlong_in : Control → Actions → (ℕ → List Parameter) → Sight → List ℕ
+overlong_in c body fs k =
+    cond (is_counted c body fs k) (takes_too_long c.first k ++ in_turns most_turns c (body.overlong fs) (entered c k)) []
 
 abbrev pub looping : Control → Mentions → Actions → Actions
-looping c control body = record (together control (body ∷ [])) { endless = endless_in c body }
+looping c control body = record (together control (body ∷ [])) { unbounded = unbounded_in c body; overlong = overlong_in c body }
 
 abbrev pub item_step : CaseItem-F Actions Actions → Actions
 item_step i = together (all_mentions i.values) (i.body ∷ [])

@@ -1,19 +1,16 @@
 -- Where a typed design breaks the rules on processes. A break stands at a token of an instance's text; rules on bits speak only
 -- of processes and functions whose loops can all be unrolled.
-use Rattle.std.specs.Prelude.{ℕ, zero, suc, ◌+◌, ◌^◌, min, max, Bool, true, false, ◌&&◌, ◌||◌, ◌==◌, nat_lt, nat_le, not, cond, List, [], ◌∷◌, ◌++◌, length, map, flat_map, filter, reverse, take, drop, Option, Some, None, slice_get}
+use Rattle.std.specs.Prelude.{ℕ, zero, suc, ◌^◌, min, max, Bool, true, false, ◌&&◌, ◌||◌, ◌==◌, nat_lt, nat_le, not, cond, List, [], ◌∷◌, ◌++◌, length, map, flat_map, filter, reverse, take, drop, Option, Some, None, slice_get}
 use Rattle.std.specs.List.{list_any, list_all}
 use Rattle.row_machine.specs.Valuation.{Place}
 use Rattle.row_machine.specs.Places.{places_of}
 use Rattle.sv_source.specs.declared.token.Spot.{Spot}
-use Rattle.sv_types.specs.declared.expression.Expr.{Expr, out-Expr}
 use Rattle.sv_types.specs.declared.expression.Form.{Form-F, out-Form}
 use Rattle.sv_types.specs.declared.statement.Stmt.{Stmt, Stmt-F, out-Stmt}
 use Rattle.sv_types.specs.declared.statement.Formal.{Formal}
 use Rattle.sv_types.specs.declared.statement.Function.{Function}
-use Rattle.sv_types.specs.declared.statement.FunctionKind.{FunctionKind}
 use Rattle.sv_types.specs.declared.statement.FunctionKind.TheVariants.{Plain, Routine, Made}
 use Rattle.sv_types.specs.declared.statement.Outcome.TheVariants.{Normal, Return}
-use Rattle.sv_types.specs.declared.statement.Way.{Way}
 use Rattle.sv_types.specs.declared.statement.Way.TheVariants as W
 use Rattle.sv_types.specs.declared.types.SvType.{SvType, SvType-F, out-SvType}
 use Rattle.sv_types.specs.declared.types.Member.{Member}
@@ -23,17 +20,15 @@ use Rattle.sv_types.specs.declared.design.Process.{Process}
 use Rattle.sv_types.specs.declared.design.ProcessKind.{ProcessKind}
 use Rattle.sv_types.specs.declared.design.ProcessKind.TheVariants.{Continuous, Link, Comb, Latch, Star, Edges}
 use Rattle.sv_types.specs.declared.design.Signal.{Signal}
-use Rattle.sv_types.specs.declared.design.SignalKind.{SignalKind}
-use Rattle.sv_types.specs.declared.design.SignalKind.TheVariants.{InputNet, InputVar, OutputNet, OutputVar, Net, Variable}
-use Rattle.sv_types.specs.Layouts.{layout, width_of}
-use Rattle.sv_types.specs.Surroundings.{Parameter, Sight, Use, Write, is_signal, local_number}
-use Rattle.sv_types.specs.Flows.{Flow, covers, uses_of, early_of}
+use Rattle.sv_types.specs.Layouts.{width_of}
+use Rattle.sv_types.specs.Surroundings.{Parameter, Use, is_signal, local_number}
+use Rattle.sv_types.specs.Meanings.{Named}
+use Rattle.sv_types.specs.Flows.{Flow, covers, uses_of}
 use Rattle.sv_types.specs.Statements.{doing}
-use Rattle.sv_types.specs.Functions.{callees, parameters}
-use Rattle.sv_types.specs.Machine.{Parts, parts, places, unseen, is_input}
-use Rattle.design_breaks.specs.Mentions.{Mentions}
-use Rattle.design_breaks.specs.Actions.{Actions, Assignment, Passed, actions}
-use Rattle.design_breaks.specs.Memories.{is_edged, is_memory, is_unpacked_array, flow}
+use Rattle.sv_types.specs.Functions.{parameters}
+use Rattle.sv_types.specs.Machine.{parts, places, unseen, is_input}
+use Rattle.design_breaks.specs.Actions.{Assignment, Passed, actions}
+use Rattle.design_breaks.specs.Memories.{is_edged, is_memory, is_unpacked_array, flow, writes_of}
 
 pub record Break : Type 0 where
   pub instance : ℕ
@@ -66,14 +61,14 @@ module _ (d : Design) where
   function_flow f = (doing f.body).flow (unseen (parts d))
 
   abbrev pub endless_of : Stmt → List ℕ
-  endless_of s = (actions s).endless formals (unseen (parts d))
+  endless_of s = (actions s).unbounded formals (unseen (parts d)) ++ (actions s).overlong formals (unseen (parts d))
 
   abbrev pub unrolls : Stmt → Bool
   unrolls s = length (endless_of s) == 0
 
   -- a bit, or a variable that a declared value holds, is written twice (clauses 6.5, 9.2.2 and 10.3)
   abbrev pub all_writes : Process → List Use
-  all_writes p = only_if (unrolls p.body) (filter (λ (u : Use). is_signal u.number) (uses_of (flow d p).writes ++ uses_of (flow d p).later))
+  all_writes p = only_if (unrolls p.body) (filter (λ (u : Use). is_signal u.number) (writes_of d p))
 
   abbrev pub is_second : Process → Use → Process → Bool
   is_second p w q = list_any (λ (u : Use). meet u w && not_before p.instance w.at q.instance u.at) (all_writes q)
@@ -159,9 +154,9 @@ module _ (d : Design) where
   -- the signal whose plain name a connection gives to an input
   abbrev pub plain_name : Stmt → Option ℕ
   plain_name s = elim (out-Stmt s) [
-      Stmt-F.Assign to value later spot ↦ elim (out-Form value.form) [ Form-F.Signal n ↦ Some n | other ↦ None ]
+    | Stmt-F.Assign to value later spot ↦ elim (out-Form value.form) [ Form-F.Signal n ↦ Some n | other ↦ None ]
     | other ↦ None
-    ]
+  ]
 
   abbrev pub is_link_to : ℕ → Process → Bool
   is_link_to n p = elim p.kind [ Link port ↦ (port == n) && list_any (λ (u : Use). u.number == n) (uses_of (flow d p).writes) | other ↦ false ]
@@ -176,9 +171,9 @@ module _ (d : Design) where
 
   abbrev pub unfit_edges : Process → List ℕ
   unfit_edges p = elim p.kind [
-      Edges es ↦ map (λ (e : EdgeOn). e.spot.at) (filter (λ (e : EdgeOn). not ((width_at e.signal == 1) && is_joined (length d.instances) e.signal)) es)
+    | Edges es ↦ map (λ (e : EdgeOn). e.spot.at) (filter (λ (e : EdgeOn). not ((width_at e.signal == 1) && is_joined (length d.signals) e.signal)) es)
     | other ↦ []
-    ]
+  ]
 
   -- an input is written by something else than a connection to it (clause 23.3.3)
   abbrev pub is_own_link : ProcessKind → ℕ → Bool
@@ -194,7 +189,7 @@ module _ (d : Design) where
 
   abbrev pub writes_input : Process → List ℕ
   writes_input p =
-      map (λ (u : Use). u.at) (filter (λ (u : Use). is_any_input u.number && not (is_own_link p.kind u.number)) (uses_of (flow d p).writes ++ uses_of (flow d p).later))
+      map (λ (u : Use). u.at) (filter (λ (u : Use). is_any_input u.number && (nat_lt u.low u.high && not (is_own_link p.kind u.number))) (uses_of (flow d p).writes ++ uses_of (flow d p).later))
 
   -- too many statements, each counted by itself once loops are unrolled
   abbrev pub too_long : Stmt → Flow → ℕ → List ℕ
@@ -223,9 +218,9 @@ module _ (d : Design) where
   -- the widths of the members of a struct, the last one first, as its bits lie
   abbrev pub member_widths : SvType → List ℕ
   member_widths t = elim (out-SvType t) [
-      SvType-F.Struct id packed s ms ↦ reverse (map (λ (m : Member). width_of m.of) ms)
+    | SvType-F.Struct id packed s ms ↦ reverse (map (λ (m : Member). width_of m.of) ms)
     | other ↦ []
-    ]
+  ]
 
   abbrev pub result_places : Function → List Place
   result_places f = places_of (local_number 0) (width_of f.of)
@@ -238,10 +233,10 @@ module _ (d : Design) where
 
   abbrev pub owed : Function → List (Place × ℕ)
   owed f = elim f.kind [
-      Plain ↦ map (λ q. (q, f.spot.at)) (result_places f)
+    | Plain ↦ map (λ q. (q, f.spot.at)) (result_places f)
     | Routine ↦ flat_map (λ (p : Formal). map (λ q. (q, p.spot.at)) (formal_places p)) (filter is_output f.formals)
     | Made spots ↦ tokens_of_members (member_widths f.of) (reverse spots) (result_places f)
-    ]
+  ]
 
   -- a bit of a result isn't written on every path to the end or a `return`, or is read before it is written
   abbrev pub slips_out : Flow → Place → Bool
@@ -257,10 +252,17 @@ module _ (d : Design) where
   abbrev pub most_bits : ℕ
   most_bits = 65536
 
-  -- an array that is no memory is at most as wide as any other signal
+  -- an array that is no memory is at most as wide as any other signal, if all loops around its name can be unrolled
+  abbrev pub names_it : ℕ → Process → Bool
+  names_it n p =
+      list_any (λ (m : Named). m.number == n) ((doing p.body).names formals) || list_any (λ (m : ℕ). m == n) ((doing p.body).targets formals)
+
+  abbrev pub is_settled : ℕ → Bool
+  is_settled n = list_all (λ (p : Process). not (names_it n p) || unrolls p.body) d.processes
+
   abbrev pub too_wide : ℕ × Signal → List Break
   too_wide s =
-      only_if (is_unpacked_array s.1.of && (nat_lt most_bits (width_of s.1.of) && not (is_memory d s.0 s.1)))
+      only_if (is_unpacked_array s.1.of && (nat_lt most_bits (width_of s.1.of) && (is_settled s.0 && not (is_memory d s.0 s.1))))
       (record { instance = s.1.instance; at = s.1.spot.at; rule = 701 } ∷ [])
 
   abbrev pub process_breaks : ℕ × Process → List Break

@@ -1,5 +1,4 @@
 -- Combinational processes that lie on a circle or follow one that does (clause 9.2.2.2.1 gives no order of theirs).
-use Rattle.std.specs.Prelude.{◌≡◌, ℕ, Bool, true, false, List, [], ◌∷◌, ◌++◌, flat_map, map}
 use Rattle.row_machine.specs.Valuation.{Member}
 use Rattle.row_machine.specs.Machine as M
 use Rattle.row_machine.specs.Stuck.{Stuck}
@@ -16,6 +15,7 @@ pub record IsStuck (d : Design) (p : Process) : Type 0 where
   pub is_its : Member (comb_of (parts d) (doing p.body) p.kind) process
   pub stuck : Stuck (machine d).combs process
 
--- the break stands at its place: the left side's first token, the port's name in a connection, or the keyword
+-- The break stands at the process's place: the first token of the left side, the port's name in a connection into an input
+-- or the first token of what is connected by position, or the keyword.
 abbrev pub break_of : Process → Break
 break_of p = record { instance = p.instance; at = p.spot.at; rule = 602 }

@@ -1,5 +1,5 @@
 -- Signals that are memories: arrays of which each place selects an element, that edge processes write.
-use Rattle.std.specs.Prelude.{ℕ, Bool, true, false, ◌&&◌, ◌||◌, ◌==◌, ◌-◌, not, List, ◌++◌, Option, Some, None, slice_get}
+use Rattle.std.specs.Prelude.{ℕ, Bool, true, false, ◌&&◌, ◌||◌, ◌==◌, ◌-◌, nat_lt, cond, not, List, Option, Some, None, slice_get}
 use Rattle.std.specs.List.{list_any, list_all}
 use Rattle.sv_types.specs.declared.types.SvType.{SvType, SvType-F, out-SvType}
 use Rattle.sv_types.specs.declared.design.Design.{Design}
@@ -11,7 +11,7 @@ use Rattle.sv_types.specs.declared.design.Signal.{Signal}
 use Rattle.sv_types.specs.declared.design.SignalKind.{SignalKind}
 use Rattle.sv_types.specs.declared.design.SignalKind.TheVariants.{InputNet, InputVar, OutputNet, OutputVar, Net, Variable}
 use Rattle.sv_types.specs.Layouts.{layout}
-use Rattle.sv_types.specs.Surroundings.{Use, Write}
+use Rattle.sv_types.specs.Surroundings.{Use}
 use Rattle.sv_types.specs.Flows.{Flow, uses_of}
 use Rattle.sv_types.specs.Statements.{doing}
 use Rattle.sv_types.specs.Machine.{parts, unseen}
@@ -19,13 +19,13 @@ use Rattle.design_breaks.specs.Actions.{actions}
 
 abbrev pub is_unpacked_array : SvType → Bool
 is_unpacked_array t = elim (out-SvType t) [
-    SvType-F.Scalar four s ↦ false
+  | SvType-F.Scalar four s ↦ false
   | SvType-F.PackedArray l r s i ↦ false
   | SvType-F.Struct id packed s ms ↦ false
   | SvType-F.Union id s ms ↦ false
   | SvType-F.Enum id base names ↦ false
   | SvType-F.UnpackedArray l r i ↦ true
-  ]
+]
 
 abbrev pub is_edged : ProcessKind → Bool
 is_edged Continuous = false
@@ -56,8 +56,12 @@ module _ (d : Design) where
   abbrev pub in_interface : ℕ → Bool
   in_interface n = is_interface (slice_get d.instances (n - 1))
 
+  -- The bits that a process may write. What is assigned by the wrong operator, which is a break of its own, is no write.
+  abbrev pub writes_of : Process → List Use
+  writes_of p = cond (is_edged p.kind) (uses_of (flow p).later) (uses_of (flow p).writes)
+
   abbrev pub may_write : ℕ → Process → Bool
-  may_write n p = list_any (λ (u : Use). u.number == n) (uses_of (flow p).writes ++ uses_of (flow p).later)
+  may_write n p = list_any (λ (u : Use). (u.number == n) && nat_lt u.low u.high) (writes_of p)
 
   abbrev pub mentions_whole : ℕ → Process → Bool
   mentions_whole n p = list_any (λ (m : ℕ). m == n) (actions p.body).said.whole

@@ -1,5 +1,5 @@
 -- What an expression mentions: the functions that it calls, and the signals that stand in it otherwise than under an index.
-use Rattle.std.specs.Prelude.{ℕ, Bool, true, false, cond, map, List, [], ◌∷◌, ◌++◌, flat_map, Option, Some, None}
+use Rattle.std.specs.Prelude.{ℕ, Bool, true, false, cond, map, List, [], ◌∷◌, ◌++◌, flat_map}
 use Rattle.sv_types.specs.declared.expression.Expr.{Expr, Expr-F, fold-Expr}
 use Rattle.sv_types.specs.declared.expression.Form.{Form-F}
 use Rattle.sv_types.specs.declared.expression.Choice.{Choice-F}
