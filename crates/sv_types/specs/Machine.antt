@@ -131,7 +131,7 @@ module _ (d : Parts) where
   -- a process that isn't an edge process; all but a plain `always @*` are started at time zero
   abbrev pub comb_of : Doing → ProcessKind → List M.Process
   comb_of p Continuous = comb true [] p ∷ []
-  comb_of p Link = comb true [] p ∷ []
+  comb_of p (Link port) = comb true [] p ∷ []
   comb_of p Comb = comb true [] p ∷ []
   comb_of p Latch = comb true [] p ∷ []
   comb_of p Star = comb false (names_of p) p ∷ []
@@ -146,7 +146,7 @@ module _ (d : Parts) where
 
   abbrev pub edge_of_kind : Doing → ProcessKind → List M.EdgeProcess
   edge_of_kind p Continuous = []
-  edge_of_kind p Link = []
+  edge_of_kind p (Link port) = []
   edge_of_kind p Comb = []
   edge_of_kind p Latch = []
   edge_of_kind p Star = []

@@ -74,8 +74,8 @@ pub struct EdgeOn {
 pub enum ProcessKind {
     /// A continuous assignment (clause 10.3).
     Continuous,
-    /// A port connection (clause 23.3.3).
-    Link,
+    /// A port connection (clause 23.3.3), to or from the port that is the signal with this number.
+    Link(u32),
     /// `always_comb` (clause 9.2.2.2).
     Comb,
     /// `always_latch` (clause 9.2.2.3).

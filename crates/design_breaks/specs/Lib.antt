@@ -1,0 +1,5 @@
+pub mod Mentions
+pub mod Actions
+pub mod Memories
+pub mod Breaks
+pub mod Circles
