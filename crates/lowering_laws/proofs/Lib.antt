@@ -3,6 +3,7 @@ pub mod Contexts
 pub mod Operators
 pub mod Lists
 pub mod Constants
+pub mod Pieces
 pub mod Assigned
 pub mod Passed
 pub mod Paths
