@@ -10,6 +10,7 @@ pub mod Paths
 pub mod PathSteps
 pub mod Numbers
 pub mod Offsets
+pub mod References
 pub mod ReadAt
 pub mod Ranks
 pub mod Placements

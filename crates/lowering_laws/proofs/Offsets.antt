@@ -10,12 +10,13 @@ use Rattle.b4_core.specs.Binary.{arithmetic, binary_value}
 use Rattle.row_machine.specs.Valuation.{Valuation}
 use Rattle.sv_types.specs.Layouts.{Layout, count_of}
 use Rattle.sv_types.specs.Surroundings.{Around}
+use Rattle.sv_types.proofs.OperatorLengths.{length-binary, length-ext}
 use Rattle.sv_types.specs.Meanings as S
 use Rattle.sv_types.specs.Paths as P
 use Rattle.v_meaning.specs.Scopes.{Scope}
 use Rattle.v_meaning.specs.Values as T
 use Rattle.lowering_laws.specs.Images.{Names, NamesNone}
-use Rattle.lowering_laws.specs.Placed.{holds, IsRank, IsPlaced}
+use Rattle.lowering_laws.specs.Placed.{holds, IsRank, IsPlaced, IsSure}
 use Rattle.lowering_laws.proofs.Extensions.{ext-at}
 use Rattle.lowering_laws.proofs.Numbers.{HasNumber, literal-number, sum-number, product-number, number-alone, known-digits, length-digits}
 use Rattle.lowering_laws.proofs.PathSteps.{rows-fit, element-names, element-names-none, step-from-none}
@@ -157,8 +158,7 @@ module _ (of : Layout) (at : ℕ) (from i : S.Meaning) (a : Around) (g c : Optio
     (some : 1 ≤ w) (narrow : w ≤ 128) (fits : bits < 2 ^ w)
     (element : length of.two_state ≡ length from.of.element.two_state)
     (all : count_of from.of.left from.of.right * length from.of.element.two_state ≡ S.wide from)
-    (long : length (T.alone o sc v) ≡ w) (rank_long : length (bits-at r w sc v) ≡ w)
-    (placed : IsPlaced from a g o w bits sc v) (is_rank : IsRank from.of (P.index_of i a) c r w sc v) where
+    (rank_long : length (bits-at r w sc v) ≡ w) (placed : IsPlaced from a g o w bits sc v) (is_rank : IsRank from.of (P.index_of i a) c r w sc v) where
   abbrev n : ℕ
   n = length from.of.element.two_state
 
@@ -167,6 +167,9 @@ module _ (of : Layout) (at : ℕ) (from i : S.Meaning) (a : Around) (g c : Optio
 
   abbrev e : S.Meaning
   e = P.index of at from i
+
+  long : length (T.alone o sc v) ≡ w
+  long = placed.long
 
   wide-is : S.wide e ≡ n
   unfolding P.index
@@ -198,10 +201,22 @@ module _ (of : Layout) (at : ℕ) (from i : S.Meaning) (a : Around) (g c : Optio
   by-known guarded in_range (inl h) = step-from-none of at from i a element all (placed.lost guarded h)
   by-known guarded in_range (inr h) = element-names-none of at from i a (is_rank.lost in_range h.1)
 
+  new-long : length (T.alone new sc v) ≡ w
+  new-long =
+      ap length (moved-alone o r n w sc v some narrow placed.width placed.unsigned long is_rank.width is_rank.unsigned rank_long)
+      ∙ length-binary Add false (T.alone o sc v) _ w long (length-binary Mul false (bits-at r w sc v) (ext w false (digits w n)) w rank_long (length-ext w false (digits w n)))
+
+  -- the new offset is known where the old one and the rank are
+  pub index-sure : IsSure g o sc v → (holds c sc v ≡ true → known (bits-at r w sc v) ≡ true) → IsSure (and_guard g c) new sc v
+  index-sure sure rank_sure h =
+      let both = and-cases (holds g sc v) (holds c sc v) (sym (holds-both g c sc v) ∙ h) in
+      known-is ∙ (λ i. sure both.0 i && rank_sure both.1 i)
+
   pub index-placed : IsPlaced e a (and_guard g c) new w bits sc v
   index-placed = record {
     width = moved-width o r n w sc v some narrow placed.width placed.unsigned long is_rank.width is_rank.unsigned rank_long;
     unsigned = moved-unsigned o r n w sc v some narrow placed.width placed.unsigned long is_rank.width is_rank.unsigned rank_long;
+    long = new-long;
     yes = λ h k.
         let both = and-cases (holds g sc v) (holds c sc v) (sym (holds-both g c sc v) ∙ h) in
         let knows = and-cases (known (T.alone o sc v)) (known (bits-at r w sc v)) (sym known-is ∙ k) in

@@ -12,9 +12,10 @@ use Rattle.v_meaning.specs.Scopes.{Scope}
 use Rattle.v_meaning.specs.Values as T
 use Rattle.lowering_laws.specs.Same.{Same}
 use Rattle.lowering_laws.specs.Helpers.{Slices, from_offset}
+use Rattle.lowering_laws.specs.Images.{raw}
 use Rattle.lowering_laws.proofs.Extensions.{ext-at}
 use Rattle.lowering_laws.proofs.Constants.{resigned-same}
-use Rattle.lowering_laws.proofs.Paths.{raw, length-raw, IsPath, path-alone, path-itself, AllFour, stored-four-bits}
+use Rattle.lowering_laws.proofs.Paths.{length-raw, IsPath, path-alone, path-itself, AllFour, stored-four-bits}
 use Rattle.lowering_laws.proofs.Slides.{slide-read}
 use Rattle.lowering_laws.proofs.WriteAt.{IsTight}
 

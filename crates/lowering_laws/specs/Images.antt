@@ -1,8 +1,9 @@
 -- Where the bits that a select path names stand in the target's vector.
-use Rattle.std.specs.Prelude.{◌≡◌, ℕ, ◌+◌, ◌<◌, None}
+use Rattle.std.specs.Prelude.{◌≡◌, ℕ, ◌+◌, ◌<◌, List, None}
+use Rattle.b4_core.specs.declared.bit.Bit4.{Bit4}
 use Rattle.row_machine.specs.Valuation.{Valuation}
 use Rattle.row_machine.specs.Places.{vector_at}
-use Rattle.picks.specs.Windows.{whole, picked}
+use Rattle.picks.specs.Windows.{whole, picked, seen}
 use Rattle.sv_types.specs.Surroundings.{Around}
 use Rattle.sv_types.specs.Meanings as S
 use Rattle.v_meaning.specs.Scopes.{Named}
@@ -11,6 +12,10 @@ use Rattle.v_meaning.specs.Scopes.{Named}
 pub record IsImage (e : S.Meaning) (a : Around) (n : Named) (v : Valuation) : Type 0 where
   pub vector : n.words ≡ None
   pub holds : vector_at v n.number n.width ≡ e.base a
+
+-- the bits that a path reads, before they are stored
+abbrev pub raw : S.Meaning → Around → List Bit4
+raw e a = seen (e.base a) (e.window a) (S.wide e)
 
 -- the path's bits are those of what it stands on, which has w, from bit low on
 abbrev pub Names : S.Meaning → Around → ℕ → ℕ → Type 0
