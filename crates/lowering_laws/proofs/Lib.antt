@@ -12,6 +12,7 @@ pub mod Numbers
 pub mod Offsets
 pub mod References
 pub mod ReadAt
+pub mod Held
 pub mod Ranks
 pub mod Placements
 pub mod WriteAt
@@ -24,5 +25,6 @@ pub mod Slides
 pub mod SlideCalls
 pub mod Inside
 pub mod Runs
+pub mod Changes
 pub mod Assignments
 pub mod Cases

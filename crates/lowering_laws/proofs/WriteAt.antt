@@ -76,7 +76,7 @@ part-tight o n path =
     trimmed-tight (record { shift = s; low = low; high = high }) n (nat_lt low high) (raw-tight s low high n (omega arith) (omega arith))
 
 -- the bit of a path that is bit b
-tight-picked : (path : Window) (n b : ℕ) → IsTight path n → within path b ≡ true → picked path (at_least_0 (pos b -ℤ path.shift)) ≡ Some b
+pub tight-picked : (path : Window) (n b : ℕ) → IsTight path n → within path b ≡ true → picked path (at_least_0 (pos b -ℤ path.shift)) ≡ Some b
 tight-picked path n b h is =
     ap (λ k. cond (int_le (pos path.low) k && int_lt k (pos path.high)) (Some (at_least_0 k)) None) (h.at_it b is)
     ∙ ap (λ c. cond c (Some b) None) (tests path.low path.high b is)

@@ -5,3 +5,4 @@ pub mod Placed
 pub mod Reached
 pub mod NamedImages
 pub mod Agreeing
+pub mod Held
