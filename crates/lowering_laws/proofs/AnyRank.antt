@@ -139,13 +139,13 @@ unfolding T.concatenation
 braced-bits e w u sc v width is long = (omega arith, refl, ap (ext w false) is ∙ ext-at w false u long)
 
 -- comparisons of whole numbers
-le-yes : (a b : ℤ) → int_le a b ≡ true → a ≤ℤ b
+pub le-yes : (a b : ℤ) → int_le a b ≡ true → a ≤ℤ b
 le-yes (pos a) (pos b) h = (let n : a ≤ b = grind (arith, nat_tests) in omega (arith, ints))
 le-yes (pos a) (negsuc b) h = absurd (cc)
 le-yes (negsuc a) (pos b) h = omega (arith, ints)
 le-yes (negsuc a) (negsuc b) h = (let n : b ≤ a = grind (arith, nat_tests) in omega (arith, ints))
 
-le-no : (a b : ℤ) → int_le a b ≡ false → b <ℤ a
+pub le-no : (a b : ℤ) → int_le a b ≡ false → b <ℤ a
 le-no (pos a) (pos b) h = (let n : b < a = grind (arith, nat_tests) in omega (arith, ints))
 le-no (pos a) (negsuc b) h = omega (arith, ints)
 le-no (negsuc a) (pos b) h = absurd (cc)

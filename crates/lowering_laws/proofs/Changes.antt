@@ -18,7 +18,7 @@ use Rattle.v_meaning.specs.Scopes.{Scope}
 use Rattle.lowering_laws.specs.Agreeing.{Images, AreDistinct, SameChanges}
 use Rattle.lowering_laws.specs.Held.{marked, IsConverted}
 use Rattle.lowering_laws.specs.Placed.{holds}
-use Rattle.lowering_laws.specs.Reached.{Piece, piece_puts, pieces_put, AreWide, IsWritten}
+use Rattle.lowering_laws.specs.Reached.{Piece, piece_puts, pieces_put, AreWide, AreBelow, IsWritten}
 use Rattle.lowering_laws.proofs.Extensions.{take-whole}
 use Rattle.lowering_laws.proofs.Held.{stored-twice-bit}
 use Rattle.lowering_laws.proofs.Runs.{none-same, then-same}
@@ -38,11 +38,6 @@ raised-put n [] sc v bits q = refl
 raised-put n (p ∷ ps) sc v bits q =
     let part : drop (n + p.low) bits ≡ drop p.low (drop n bits) = sym (drop-drop p.low n bits) in
     λ i. later_or (raised-put n ps sc v bits q i) (cond (holds p.guard sc v) (p.to.puts sc v (take p.width (part i))) unchanged q)
-
--- pieces of the lowest bits
-abbrev pub AreBelow : ℕ → List Piece → Type 0
-AreBelow n [] = Unit {0}
-AreBelow n (p ∷ ps) = (p.low + p.width ≤ n) × AreBelow n ps
 
 take-again : (w n : ℕ) (v : List Bit4) → w ≤ n → take w (take n v) ≡ take w v
 take-again zero n v h = refl
@@ -94,7 +89,7 @@ mark-kept false n b h = refl
 
 -- The pieces of one path change the images as a write through the path changes what it stands on.
 module _ (im : Images) (distinct : AreDistinct im) (to : M.Meaning) (a : Around) (r : ℕ) (there : 0 < im.width r) (ps : List Piece) (sc : Scope) (v : Valuation)
-    (tight : IsTight (to.window a) (M.wide to)) (converted : IsConverted (im.two_state r) to a) (path_written : IsWritten to a (im.number r) ps sc v)
+    (tight : IsTight (to.window a) (M.wide to)) (converted : IsConverted (im.two_state r) to a) (path_written : IsWritten (to.window a) (M.wide to) (im.number r) ps sc v)
     (bits : List Bit4) (long : length bits ≡ M.wide to) where
   abbrev kept : List Bit4
   kept = stored to.of.two_state bits
@@ -185,12 +180,12 @@ abbrev pub stored_parts : List M.Meaning → List Bit4 → List Bit4
 stored_parts [] bits = []
 stored_parts (m ∷ ms) bits = stored_parts ms (take (width_of_all ms) bits) ++ stored m.of.two_state (take (M.wide m) (drop (width_of_all ms) bits))
 
-length-take-of : (n : ℕ) (v : List Bit4) → n ≤ length v → length (take n v) ≡ n
+pub length-take-of : (n : ℕ) (v : List Bit4) → n ≤ length v → length (take n v) ≡ n
 length-take-of zero v h = refl
 length-take-of (suc n) [] h = absurd (omega arith)
 length-take-of (suc n) (b ∷ v) h = ap suc (length-take-of n v (omega arith))
 
-length-part : (low n : ℕ) (v : List Bit4) → low + n ≤ length v → length (take n (drop low v)) ≡ n
+pub length-part : (low n : ℕ) (v : List Bit4) → low + n ≤ length v → length (take n (drop low v)) ≡ n
 length-part zero n v h = length-take-of n v (omega arith)
 length-part (suc low) n [] h = absurd (omega arith)
 length-part (suc low) n (b ∷ v) h = length-part low n v (omega arith)

@@ -26,5 +26,7 @@ pub mod SlideCalls
 pub mod Inside
 pub mod Runs
 pub mod Changes
+pub mod Splits
+pub mod SlideTargets
 pub mod Assignments
 pub mod Cases

@@ -19,7 +19,7 @@ use Rattle.lowering_laws.specs.Images.{Names, NamesNone}
 use Rattle.lowering_laws.specs.Placed.{holds, IsRank, IsPlaced, IsSure}
 use Rattle.lowering_laws.proofs.Extensions.{ext-at}
 use Rattle.lowering_laws.proofs.Numbers.{HasNumber, literal-number, sum-number, product-number, number-alone, known-digits, length-digits}
-use Rattle.lowering_laws.proofs.PathSteps.{rows-fit, element-names, element-names-none, step-from-none}
+use Rattle.lowering_laws.proofs.PathSteps.{IsElement, rows-fit, element-names, element-names-none, step-from-none}
 
 -- two guards as one
 abbrev pub and_guard : Option T.Meaning → Option T.Meaning → Option T.Meaning
@@ -154,26 +154,17 @@ and-false true false h = inr (refl, refl)
 and-false false q h = inl refl
 
 -- The element by an index of a path that is placed is placed by the moved offset, under both guards.
-module _ (of : Layout) (at : ℕ) (from i : S.Meaning) (a : Around) (g c : Option T.Meaning) (o r : T.Meaning) (w bits : ℕ) (sc : Scope) (v : Valuation)
-    (some : 1 ≤ w) (narrow : w ≤ 128) (fits : bits < 2 ^ w)
-    (element : length of.two_state ≡ length from.of.element.two_state)
-    (all : count_of from.of.left from.of.right * length from.of.element.two_state ≡ S.wide from)
-    (rank_long : length (bits-at r w sc v) ≡ w) (placed : IsPlaced from a g o w bits sc v) (is_rank : IsRank from.of (P.index_of i a) c r w sc v) where
+module _ (e from : S.Meaning) (a : Around) (z : Option ℤ) (g c : Option T.Meaning) (o r : T.Meaning) (w bits : ℕ) (sc : Scope) (v : Valuation)
+    (some : 1 ≤ w) (narrow : w ≤ 128) (fits : bits < 2 ^ w) (is_element : IsElement e from a z)
+    (rank_long : length (bits-at r w sc v) ≡ w) (placed : IsPlaced from a g o w bits sc v) (is_rank : IsRank from.of z c r w sc v) where
   abbrev n : ℕ
   n = length from.of.element.two_state
 
   abbrev new : T.Meaning
   new = moved o r n w
 
-  abbrev e : S.Meaning
-  e = P.index of at from i
-
   long : length (T.alone o sc v) ≡ w
   long = placed.long
-
-  wide-is : S.wide e ≡ n
-  unfolding P.index
-  wide-is = element
 
   known-is : known (T.alone new sc v) ≡ (known (T.alone o sc v) && known (bits-at r w sc v))
   known-is = moved-known o r n w sc v some narrow placed.width placed.unsigned long is_rank.width is_rank.unsigned rank_long
@@ -186,20 +177,20 @@ module _ (of : Layout) (at : ℕ) (from i : S.Meaning) (a : Around) (g c : Optio
       let k = num (T.alone o sc v) in
       let before = placed.yes guarded known_o in
       let has = is_rank.yes in_range known_r in
-      let room = rows-fit q (count_of from.of.left from.of.right) n (S.wide from) has.below all in
+      let room = rows-fit q (count_of from.of.left from.of.right) n (S.wide from) has.below is_element.all in
       let within = before.1 in
       let number = moved-number o r n w sc v some narrow placed.width placed.unsigned long is_rank.width is_rank.unsigned rank_long known_o known_r (omega arith) (omega arith) in
-      let names = element-names of at from i a q k bits has element all before.0 in
-      let wide = wide-is in
+      let names = element-names e from a z q k bits is_element has before.0 in
+      let wide = is_element.wide in
       (subst (λ x. Names e a x bits) (sym number) names, omega arith)
 
   by-guards : (holds g sc v ≡ false) ⊎ ((holds g sc v ≡ true) × (holds c sc v ≡ false)) → NamesNone e a
-  by-guards (inl h) = step-from-none of at from i a element all (placed.no h)
-  by-guards (inr h) = element-names-none of at from i a (is_rank.no h.1)
+  by-guards (inl h) = step-from-none e from a z is_element (placed.no h)
+  by-guards (inr h) = element-names-none e from a z is_element (is_rank.no h.1)
 
   by-known : holds g sc v ≡ true → holds c sc v ≡ true → (known (T.alone o sc v) ≡ false) ⊎ ((known (T.alone o sc v) ≡ true) × (known (bits-at r w sc v) ≡ false)) → NamesNone e a
-  by-known guarded in_range (inl h) = step-from-none of at from i a element all (placed.lost guarded h)
-  by-known guarded in_range (inr h) = element-names-none of at from i a (is_rank.lost in_range h.1)
+  by-known guarded in_range (inl h) = step-from-none e from a z is_element (placed.lost guarded h)
+  by-known guarded in_range (inr h) = element-names-none e from a z is_element (is_rank.lost in_range h.1)
 
   new-long : length (T.alone new sc v) ≡ w
   new-long =

@@ -67,8 +67,9 @@ module _ (e : S.Meaning) (a : Around) (g : Option V.Meaning) (name : Name) (sels
       ∙ same-written-at image (e.window a) window n tight is-tight (same.yes h) bits q
   by-guard false h bits long q = sym (none-written-at image (e.window a) n tight (same.no h) bits q)
 
-  pub names-written : IsWritten e a image (all-of g name sels n ∷ []) sc v
+  pub names-written : IsWritten (e.window a) n image (all-of g name sels n ∷ []) sc v
   names-written = record {
-    widths = (name-width name sels sc ∙ same.width, tt);
+    wide = (name-width name sels sc ∙ same.width, tt);
+    below = (omega arith, tt);
     puts = by-guard (holds g sc v) refl;
   }

@@ -109,7 +109,7 @@ picked-by path j b (pos m) true is test h =
     back : (x : ℕ) (s : ℤ) (y : ℕ) → pos x +ℤ s ≡ pos y → pos y -ℤ s ≡ pos x
     back x s y e = omega (arith, ints)
 
-is-picked : (path : Window) (j b : ℕ) → picked path j ≡ Some b → IsPicked path j b
+pub is-picked : (path : Window) (j b : ℕ) → picked path j ≡ Some b → IsPicked path j b
 is-picked path j b h = picked-by path j b (pos j +ℤ path.shift) _ refl refl h
 
 -- what is written of one bit

@@ -1,9 +1,9 @@
 -- What reads and what writes the bits of a select path in the target.
-use Rattle.std.specs.Prelude.{◌≡◌, ℕ, Bool, true, false, cond, ⊤, List, [], ◌∷◌, length, take, drop, Option}
+use Rattle.std.specs.Prelude.{◌≡◌, ℕ, ◌+◌, ◌≤◌, Bool, true, false, cond, ⊤, List, [], ◌∷◌, length, take, drop, Option}
 use Rattle.b4_core.specs.declared.bit.Bit4.{Bit4}
 use Rattle.row_machine.specs.Valuation.{Place, Valuation, Changes}
 use Rattle.row_machine.specs.Steps.{unchanged, then_changes}
-use Rattle.picks.specs.Windows.{written}
+use Rattle.picks.specs.Windows.{Window, written}
 use Rattle.sv_types.specs.Surroundings.{Around}
 use Rattle.sv_types.specs.Meanings as S
 use Rattle.v_meaning.specs.Scopes.{Scope}
@@ -40,7 +40,13 @@ abbrev pub AreWide : List Piece → Scope → Type 0
 AreWide [] sc = ⊤
 AreWide (p ∷ ps) sc = (p.to.width sc ≡ p.width) × AreWide ps sc
 
--- Pieces that write the bits that a path writes, those that are in range, to the image with this number.
-pub record IsWritten (e : S.Meaning) (a : Around) (image : ℕ) (ps : List Piece) (sc : Scope) (v : Valuation) : Type 0 where
-  pub widths : AreWide ps sc
-  pub puts : (bits : List Bit4) → length bits ≡ S.wide e → (q : Place) → pieces_put ps sc v bits q ≡ written image (e.window a) bits q
+-- pieces of the lowest n bits
+abbrev pub AreBelow : ℕ → List Piece → Type 0
+AreBelow n [] = ⊤
+AreBelow n (p ∷ ps) = (p.low + p.width ≤ n) × AreBelow n ps
+
+-- Pieces that write n bits to the image with this number as a write through a path of n bits does: those that are in range.
+pub record IsWritten (path : Window) (n image : ℕ) (ps : List Piece) (sc : Scope) (v : Valuation) : Type 0 where
+  pub wide : AreWide ps sc
+  pub below : AreBelow n ps
+  pub puts : (bits : List Bit4) → length bits ≡ n → (q : Place) → pieces_put ps sc v bits q ≡ written image path bits q
