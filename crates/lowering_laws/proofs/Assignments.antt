@@ -1,25 +1,19 @@
 -- An assignment is made piece by piece, under guards.
-use Rattle.std.proofs.Common.{◌≡◌, ℕ, ◌-◌, ◌<◌, ◌==◌, Bool, true, false, ◌||◌, cond, length, take, drop, List, [], ◌∷◌, Option, Some, None, refl, arith, sym, ◌∙◌, subst, ap}
-use Rattle.std.proofs.lemmas.Bool.Decides.{nat_tests}
+use Rattle.std.proofs.Common.{◌≡◌, Bool, true, false, cond, take, drop, List, [], ◌∷◌, Option, Some, None, refl, sym, ◌∙◌, subst, ap}
 use Rattle.b4_core.specs.declared.bit.Bit4.{Bit4}
 use Rattle.row_machine.specs.Valuation.{Place, Valuation, Changes, put, changed}
 use Rattle.row_machine.specs.Steps.{unchanged, then_changes, later_or}
-use Rattle.picks.specs.Windows.{Window, written}
-use Rattle.sv_types.specs.Layouts.{stored}
 use Rattle.sv_types.specs.Surroundings.{Around}
 use Rattle.sv_types.specs.Meanings as M
-use Rattle.sv_types.specs.Operators.{puts_all, width_of_all}
 use Rattle.sv_types.specs.Runs as S
 use Rattle.v_meaning.specs.Scopes.{Scope}
 use Rattle.v_meaning.specs.Values as V
 use Rattle.v_meaning.specs.Statements as D
 use Rattle.v_meaning.specs.Runs as T
-use Rattle.lowering_laws.specs.Agreeing.{Images, AreDistinct, Agree, SameChanges, SameState, SameRun}
+use Rattle.lowering_laws.specs.Agreeing.{Images, Agree, SameChanges, SameRun}
 use Rattle.lowering_laws.specs.Placed.{holds}
-use Rattle.lowering_laws.specs.Reached.{Piece, piece_puts, pieces_put, AreWide, IsWritten}
-use Rattle.lowering_laws.proofs.Extensions.{take-whole}
-use Rattle.lowering_laws.proofs.Runs.{over, then-same, then-agrees}
-use Rattle.lowering_laws.proofs.WriteAt.{written-bit, written-other, bit-written}
+use Rattle.lowering_laws.specs.Reached.{Piece, piece_puts, pieces_put, AreWide}
+use Rattle.lowering_laws.proofs.Runs.{then-same, then-agrees}
 
 -- `to = value`, under a guard if there is one
 abbrev pub under : Option V.Meaning → D.Doing → D.Doing

@@ -7,7 +7,7 @@ use Rattle.b4_core.specs.declared.bit.Bit4.{Bit4}
 use Rattle.b4_core.specs.declared.bit.Bit4.TheVariants.{X}
 use Rattle.row_machine.specs.Valuation.{Place, Valuation, Changes}
 use Rattle.row_machine.specs.Steps.{unchanged, then_changes, later_or}
-use Rattle.picks.specs.Windows.{Window, within, picked, written, at_least_0}
+use Rattle.picks.specs.Windows.{within, written, at_least_0}
 use Rattle.sv_types.specs.Layouts.{stored_bit, stored}
 use Rattle.sv_types.specs.Surroundings.{Around}
 use Rattle.sv_types.specs.Meanings as M
@@ -22,7 +22,7 @@ use Rattle.lowering_laws.specs.Reached.{Piece, piece_puts, pieces_put, AreWide, 
 use Rattle.lowering_laws.proofs.Extensions.{take-whole}
 use Rattle.lowering_laws.proofs.Held.{stored-twice-bit}
 use Rattle.lowering_laws.proofs.Runs.{none-same, then-same}
-use Rattle.lowering_laws.proofs.WriteAt.{IsTight, bit-written, written-bit, written-other, tight-picked}
+use Rattle.lowering_laws.proofs.WriteAt.{IsTight, written-bit, written-other, tight-picked}
 
 -- the same pieces of a value that stands so many bits higher
 abbrev pub raised : ℕ → List Piece → List Piece
@@ -262,8 +262,8 @@ all-changes im (m ∷ ms) (ps ∷ pss) a sc v bits h long =
     let both = then-same im (m.puts a (take (M.wide m) (drop (width_of_all ms) bits))) (pieces_put ps sc v y) (puts_all ms a (take (width_of_all ms) bits)) (pieces_put (all_pieces ms pss) sc v x) first rest in
     let left : then_changes (m.puts a (take (M.wide m) (drop (width_of_all ms) bits))) (puts_all ms a (take (width_of_all ms) bits)) ≡ puts_all (m ∷ ms) a bits = ap (λ (c : Changes). then_changes (m.puts a (take (M.wide m) (drop (width_of_all ms) bits))) c) (puts-below ms a (width_of_all ms) bits (omega arith)) in
     let right : (q : Place) → pieces_put (all_pieces (m ∷ ms) (ps ∷ pss)) sc v (x ++ y) q ≡ then_changes (pieces_put ps sc v y) (pieces_put (all_pieces ms pss) sc v x) q = λ q.
-        both-put (raised (width_of_all ms) ps) (all_pieces ms pss) sc v (x ++ y) q
-        ∙ (λ i. later_or ((sym (below-put (width_of_all ms) (all_pieces ms pss) sc v (x ++ y) q (all-below ms pss im a sc v h.1)) ∙ ap (λ u. pieces_put (all_pieces ms pss) sc v u q) (take-front x y (width_of_all ms) x_long)) i)
-            ((raised-put (width_of_all ms) ps sc v (x ++ y) q ∙ ap (λ u. pieces_put ps sc v u q) (drop-front x y (width_of_all ms) x_long)) i)) in
+    both-put (raised (width_of_all ms) ps) (all_pieces ms pss) sc v (x ++ y) q
+    ∙ (λ i. later_or ((sym (below-put (width_of_all ms) (all_pieces ms pss) sc v (x ++ y) q (all-below ms pss im a sc v h.1)) ∙ ap (λ u. pieces_put (all_pieces ms pss) sc v u q) (take-front x y (width_of_all ms) x_long)) i)
+    ((raised-put (width_of_all ms) ps sc v (x ++ y) q ∙ ap (λ u. pieces_put ps sc v u q) (drop-front x y (width_of_all ms) x_long)) i)) in
     subst (λ (c : Changes). SameChanges im c (pieces_put (all_pieces (m ∷ ms) (ps ∷ pss)) sc v (x ++ y))) left
     (record { same = λ n b less. right (record { signal = im.number n; bit = b }) ∙ both.same n b less; stored = both.stored })

@@ -1,16 +1,15 @@
 -- Two-state bits that a path reads, which hold 0 or 1, and that it writes.
-use Rattle.std.proofs.Common.{◌≡◌, ℕ, zero, suc, ◌+◌, ◌*◌, ◌<◌, ◌≤◌, Bool, true, false, ◌&&◌, cond, ℤ, pos, int_le, int_lt, ◌+ℤ◌, length, map, replicate, List, [], ◌∷◌, ◌++◌, Option, Some, None, refl, arith, sym, ◌∙◌, subst, ap, true≢false, length-append}
-use Rattle.std.specs.Prelude.{slice_index_or, slice_get, zip, nat_lt}
+use Rattle.std.proofs.Common.{◌≡◌, ℕ, zero, suc, ◌+◌, ◌*◌, ◌<◌, ◌≤◌, Bool, true, false, ◌&&◌, cond, pos, int_le, int_lt, length, map, replicate, List, [], ◌∷◌, ◌++◌, Some, None, refl, arith, sym, ◌∙◌, subst, ap, true≢false, length-append}
+use Rattle.std.specs.Prelude.{slice_get, nat_lt}
 use Rattle.std.specs.List.{list_all}
 use Rattle.std.proofs.lemmas.Bool.Decides.{nat_tests}
 use Rattle.b4_core.specs.declared.bit.Bit4.{Bit4}
 use Rattle.b4_core.specs.declared.bit.Bit4.TheVariants.{Zero, One, X, Z}
-use Rattle.b4_core.specs.Bits.{two_state4}
-use Rattle.picks.specs.Windows.{Window, whole, part, picked, bit_at, tabulated, at_least_0}
+use Rattle.picks.specs.Windows.{whole, picked, bit_at, tabulated}
 use Rattle.sv_types.specs.Layouts.{Layout, Part, stored_bit, stored, default_bits, stacked, repeated, as_a_whole, stacked_marks, above_the_next}
 use Rattle.sv_types.specs.Surroundings.{Around}
 use Rattle.sv_types.specs.Meanings as S
-use Rattle.sv_types.proofs.Picks.{picked-part, tabulated-same}
+use Rattle.sv_types.proofs.Picks.{tabulated-same}
 use Rattle.lowering_laws.specs.Held.{marked, IsHeld, IsConverted}
 use Rattle.lowering_laws.specs.Images.{Names, NamesNone, raw}
 use Rattle.lowering_laws.proofs.PathSteps.{rows-fit}
@@ -48,7 +47,7 @@ pub held-there : (e : S.Meaning) (a : Around) (low w : ℕ) → IsHeld e a → N
 held-there e a low w held names fits =
     stored-tabulated e.of.two_state (λ j. bit_at (e.base a) (picked (e.window a) j))
     ∙ tabulated-same (S.wide e) _ _ (λ j h. let is = names j h ∙ picked-in low w j (omega arith) in
-        ap (λ o. stored_bit (marked e.of.two_state j) (bit_at (e.base a) o)) is ∙ held j (low + j) h is ∙ sym (ap (bit_at (e.base a)) is))
+    ap (λ o. stored_bit (marked e.of.two_state j) (bit_at (e.base a) o)) is ∙ held j (low + j) h is ∙ sym (ap (bit_at (e.base a)) is))
 
 -- and one of which no bit is in range reads the default
 pub held-none : (e : S.Meaning) (a : Around) → NamesNone e a → stored e.of.two_state (raw e a) ≡ default_bits e.of.two_state

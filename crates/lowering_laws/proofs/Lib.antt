@@ -13,6 +13,7 @@ pub mod Offsets
 pub mod References
 pub mod ReadAt
 pub mod Held
+pub mod HeldReads
 pub mod Ranks
 pub mod Placements
 pub mod WriteAt

@@ -8,11 +8,10 @@ use Rattle.b4_core.specs.Bitwise.{truth_of}
 use Rattle.b4_core.specs.Vectors.{known, unknown, num, number, digits, vec, ext}
 use Rattle.b4_core.specs.Binary.{arithmetic, binary_value}
 use Rattle.row_machine.specs.Valuation.{Valuation}
-use Rattle.sv_types.specs.Layouts.{Layout, count_of}
+use Rattle.sv_types.specs.Layouts.{count_of}
 use Rattle.sv_types.specs.Surroundings.{Around}
 use Rattle.sv_types.proofs.OperatorLengths.{length-binary, length-ext}
 use Rattle.sv_types.specs.Meanings as S
-use Rattle.sv_types.specs.Paths as P
 use Rattle.v_meaning.specs.Scopes.{Scope}
 use Rattle.v_meaning.specs.Values as T
 use Rattle.lowering_laws.specs.Images.{Names, NamesNone}

@@ -16,10 +16,9 @@ use Rattle.v_meaning.specs.Scopes.{Scope, Named, named, all_bits}
 use Rattle.v_meaning.specs.Selects.{SelMeaning, select, taken, lowest, bits_named}
 use Rattle.v_meaning.specs.Values as T
 use Rattle.v_meaning.specs.Values.{decimal_base, expression_base}
-use Rattle.lowering_laws.specs.Same.{Same}
 use Rattle.lowering_laws.specs.Images.{IsImage, raw}
 use Rattle.lowering_laws.proofs.Extensions.{ext-at}
-use Rattle.lowering_laws.proofs.Constants.{IsItself, resigned-same}
+use Rattle.lowering_laws.proofs.Constants.{IsItself}
 
 -- A path: its value is what it reads, as its type stores it.
 pub record IsPath (e : S.Meaning) (a : Around) : Type 0 where

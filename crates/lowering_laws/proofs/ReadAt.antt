@@ -1,5 +1,5 @@
 -- What is read where a guard holds, for a path.
-use Rattle.std.proofs.Common.{◌≡◌, ℕ, zero, suc, ◌<◌, max, Bool, true, false, ◌&&◌, length, replicate, List, [], ◌∷◌, Option, Some, None, refl, arith, sym, ◌∙◌, ap, true≢false}
+use Rattle.std.proofs.Common.{◌≡◌, ℕ, zero, suc, max, Bool, true, false, ◌&&◌, length, replicate, List, [], ◌∷◌, Option, Some, None, refl, arith, sym, ◌∙◌, ap, true≢false}
 use Rattle.b4_core.specs.declared.bit.Bit4.{Bit4}
 use Rattle.b4_core.specs.declared.bit.Bit4.TheVariants.{Zero, One, X, Z}
 use Rattle.b4_core.specs.Bits.{is_one, merge4}
@@ -15,7 +15,6 @@ use Rattle.v_meaning.specs.Values as T
 use Rattle.lowering_laws.specs.Same.{Same, HasBits}
 use Rattle.lowering_laws.specs.Helpers.{Stores}
 use Rattle.lowering_laws.specs.Images.{NamesNone, raw}
-use Rattle.lowering_laws.specs.Placed.{holds}
 use Rattle.lowering_laws.specs.Reached.{IsRead}
 use Rattle.lowering_laws.proofs.Assigned.{helper-alone, call-width, given-alone}
 use Rattle.lowering_laws.proofs.Constants.{resigned-same, length-fill, bits-alone}

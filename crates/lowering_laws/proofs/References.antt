@@ -1,23 +1,27 @@
 -- Names with selects that read the bits of a path.
-use Rattle.std.proofs.Common.{◌≡◌, ℕ, suc, ◌+◌, ◌-◌, ◌<◌, ◌≤◌, Bool, true, false, ◌&&◌, cond, ℤ, pos, ◌+ℤ◌, length, List, [], ◌∷◌, Option, Some, None, refl, arith, sym, ◌∙◌, subst, ap, true≢false}
-use Rattle.b4_core.specs.Vectors.{known, num, number, ext}
+use Rattle.std.proofs.Common.{◌≡◌, ℕ, suc, ◌+◌, ◌-◌, ◌<◌, ◌≤◌, Bool, true, false, cond, ℤ, pos, negsuc, ◌+ℤ◌, length, List, [], ◌∷◌, Option, Some, None, refl, arith, sym, ◌∙◌, ap, true≢false}
+use Rattle.std.specs.Prelude.{nat_lt}
+use Rattle.std.proofs.lemmas.Int.{ints}
+use Rattle.std.proofs.lemmas.Bool.Decides.{nat_tests}
+use Rattle.b4_core.specs.Vectors.{known, num, number}
 use Rattle.row_machine.specs.Valuation.{Valuation}
-use Rattle.row_machine.specs.Places.{vector_at}
-use Rattle.picks.specs.Windows.{Window, whole, nowhere, part, picked, bit_at, seen}
+use Rattle.picks.specs.Windows.{Window, whole, nowhere, part, picked}
 use Rattle.sv_types.specs.Surroundings.{Around}
 use Rattle.sv_types.specs.Meanings as S
 use Rattle.sv_types.proofs.OperatorLengths.{length-ext}
-use Rattle.sv_types.proofs.Picks.{tabulated-same, picked-part, nothing-there}
+use Rattle.sv_types.proofs.Picks.{pick, picked-part, nothing-there}
 use Rattle.v_tree.specs.Names.{Name}
 use Rattle.v_tree.specs.declared.expressions.VExtent.TheVariants.{Up, Down}
 use Rattle.v_meaning.specs.Scopes.{Scope, Named, named}
 use Rattle.v_meaning.specs.Selects.{SelMeaning}
 use Rattle.v_meaning.specs.Values as T
 use Rattle.v_meaning.specs.Values.{decimal_base, expression_base, number_of}
-use Rattle.lowering_laws.specs.Images.{IsImage, Names, NamesNone, raw}
+use Rattle.lowering_laws.specs.Images.{IsImage, IsSlide, Names, NamesNone}
 use Rattle.lowering_laws.specs.Placed.{holds, IsPlaced, IsSure}
 use Rattle.lowering_laws.specs.Reached.{IsRead}
-use Rattle.lowering_laws.proofs.Paths.{SameBits, selected-window, one-window, one-width, no-window, no-width, reference-alone}
+use Rattle.lowering_laws.proofs.Slides.{picked-slide, far}
+use Rattle.lowering_laws.proofs.WriteAt.{IsTight, whole-tight}
+use Rattle.lowering_laws.proofs.Paths.{one-window, one-width, no-window, no-width, reference-alone}
 
 -- `name[o +: n]` and `name[o]`
 abbrev pub slide : T.Meaning → ℕ → SelMeaning
@@ -172,3 +176,47 @@ module _ (e : S.Meaning) (a : Around) (low : ℕ) (name : Name) (sc : Scope) (v 
         names j less ∙ sym (picked-part low 1 (whole kept.width) j (omega arith)) ∙ ap (λ x. picked x j) (sym (one-window kept (one-decimal low) sc v vector));
     no = never;
   }
+
+-- Part-selects that begin anywhere, of a path that is its whole image: bits out of range are out of range in the image too.
+pub slide-picks : (path : Window) (w : ℕ) → IsTight path w → ((j : ℕ) → j < w → picked path j ≡ picked (whole w) j)
+    → (k : ℤ) (n j : ℕ) → j < n → picked (part k n path) j ≡ picked (part k n (whole w)) j
+slide-picks path w tight same k n j h =
+    picked-slide k n path j h ∙ ap (pick path.low path.high) (moved path.shift) ∙ at (pos j +ℤ k) ∙ sym (ap (pick 0 w) (moved (pos 0))) ∙ sym (picked-slide k n (whole w) j h)
+  where
+    moved : (s : ℤ) → pos j +ℤ (s +ℤ k) ≡ (pos j +ℤ k) +ℤ s
+    moved s = omega (arith, ints)
+
+    none : (d : ℤ) → ((m : ℕ) → d ≡ pos m → m < w → ⊥) → pick path.low path.high (d +ℤ path.shift) ≡ pick 0 w (d +ℤ pos 0)
+    none d out = far path w d tight out ∙ sym (far (whole w) w d (whole-tight w) out)
+
+    at : (d : ℤ) → pick path.low path.high (d +ℤ path.shift) ≡ pick 0 w (d +ℤ pos 0)
+    at (negsuc m) = none (negsuc m) (λ x e less. cc)
+    at (pos m) = by (nat_lt m w) refl
+      where
+        by : (b : Bool) → nat_lt m w ≡ b → pick path.low path.high (pos m +ℤ path.shift) ≡ pick 0 w (pos m +ℤ pos 0)
+        by true is = (let less : m < w = grind (arith, nat_tests) in same m less)
+        by false is = (let many : w ≤ m = grind (arith, nat_tests) in none (pos m) (λ x e less. outside x e less many))
+          where
+            outside : (x : ℕ) → pos m ≡ pos x → x < w → w ≤ m → ⊥
+            outside x e less many = omega (arith, ints)
+
+pub slide-names : (e from : S.Meaning) (a : Around) (z : Option ℤ) (o : T.Meaning) (name : Name) (sc : Scope) (v : Valuation) → (named sc.names name).words ≡ None
+    → IsSlide e from a z → number_of o.signed (T.alone o sc v) ≡ z → S.wide from ≡ (named sc.names name).width → IsTight (from.window a) (S.wide from) → Names from a 0 (S.wide from)
+    → NamesSame e a None name (slide o (S.wide e) ∷ []) sc v
+slide-names e from a z o name sc v vector is base all tight names = record {
+  width = one-width (named sc.names name) (slide o (S.wide e)) vector;
+  yes = λ h j less.
+      ap (λ x. picked x j) is.window ∙ at z j less
+      ∙ ap (λ w. picked (elim z [ None ↦ nowhere | Some k ↦ part k (S.wide e) (whole w) ]) j) all
+      ∙ sym (ap (λ x. picked x j) (one-window (named sc.names name) (slide o (S.wide e)) sc v vector
+      ∙ ap (λ (b : Option ℤ). elim b [ None ↦ nowhere | Some k ↦ part k (S.wide e) (whole (named sc.names name).width) ]) base));
+  no = λ h. absurd (true≢false h);
+}
+  where
+    at : (b : Option ℤ) (j : ℕ) → j < S.wide e → picked (elim b [ None ↦ nowhere | Some k ↦ part k (S.wide e) (from.window a) ]) j
+        ≡ picked (elim b [ None ↦ nowhere | Some k ↦ part k (S.wide e) (whole (S.wide from)) ]) j
+    at None j h = refl
+    at (Some k) j h = slide-picks (from.window a) (S.wide from) tight (λ i less. names i less ∙ ap (picked (whole (S.wide from))) (zero-more i)) k (S.wide e) j h
+      where
+        zero-more : (i : ℕ) → 0 + i ≡ i
+        zero-more i = omega arith

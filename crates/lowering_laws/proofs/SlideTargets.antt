@@ -1,18 +1,18 @@
 -- A part-select that is written and may be partly out of range: element by element, each under the guard of its own index.
-use Rattle.std.proofs.Common.{◌≡◌, ℕ, zero, suc, ◌+◌, ◌-◌, ◌*◌, ◌<◌, ◌≤◌, Bool, true, false, ◌&&◌, cond, ℤ, pos, negsuc, ◌+ℤ◌, ◌-ℤ◌, ◌*ℤ◌, length, List, [], ◌∷◌, ◌++◌, Option, Some, None, refl, arith, sym, ◌∙◌, subst, ap}
+use Rattle.std.proofs.Common.{◌≡◌, ℕ, suc, ◌+◌, ◌*◌, ◌<◌, ◌≤◌, Bool, true, false, ◌&&◌, cond, ℤ, pos, negsuc, ◌+ℤ◌, ◌-ℤ◌, ◌*ℤ◌, length, List, [], ◌∷◌, ◌++◌, Option, Some, None, refl, arith, sym, ◌∙◌, subst, ap}
 use Rattle.std.specs.Prelude.{int_le, int_lt, unsigned_abs}
 use Rattle.std.proofs.lemmas.Int.{ints}
 use Rattle.std.proofs.lemmas.Nat.{mul-le}
 use Rattle.std.proofs.lemmas.Bool.Decides.{nat_tests}
-use Rattle.row_machine.specs.Valuation.{Place, Valuation}
-use Rattle.picks.specs.Windows.{Window, nowhere, part, picked, written}
+use Rattle.row_machine.specs.Valuation.{Valuation}
+use Rattle.picks.specs.Windows.{Window, nowhere, part, picked}
 use Rattle.sv_types.specs.Layouts.{Layout, count_of}
-use Rattle.sv_types.specs.Windows.{rank, elements, element_of, slide, lowest_index, falls}
+use Rattle.sv_types.specs.Windows.{rank, elements, element_of, slide, lowest_index}
 use Rattle.sv_types.proofs.Picks.{pick, nothing-there}
 use Rattle.v_meaning.specs.Scopes.{Scope}
 use Rattle.v_meaning.specs.Values as T
 use Rattle.lowering_laws.specs.Placed.{HasRank, NoRank, unknown, outside, IsRank}
-use Rattle.lowering_laws.specs.Reached.{Piece, pieces_put, IsWritten}
+use Rattle.lowering_laws.specs.Reached.{Piece, IsWritten}
 use Rattle.lowering_laws.proofs.AnyRank.{le-yes, le-no}
 use Rattle.lowering_laws.proofs.Changes.{raised}
 use Rattle.lowering_laws.proofs.Slides.{picked-slide, far}
@@ -21,7 +21,6 @@ use Rattle.lowering_laws.proofs.WriteAt.{IsTight, nowhere-tight, part-tight, sam
 
 next-row : (r : ℤ) (w : ℕ) → (r +ℤ pos 1) *ℤ pos w ≡ r *ℤ pos w +ℤ pos w
 next-row r w = grind (arith, ints)
-
 
 below-row : (k w : ℕ) → negsuc k *ℤ pos w ≡ pos 0 -ℤ pos (k * w + w)
 below-row k w = grind (arith, ints)
@@ -81,7 +80,7 @@ module _ (of : Layout) (path : Window) (tight : IsTight path (count_of of.left o
     puts = λ bits long q.
         h.puts bits long q
         ∙ sym (same-written-at image (element_of of (Some k) path) (elements of r 1 path) (1 * w) (element-tight (Some k)) (part-tight (r *ℤ pos w) (1 * w) path)
-            (λ j less. element-same k j less ∙ ap (λ x. picked (elements of x 1 path) j) is) bits q);
+        (λ j less. element-same k j less ∙ ap (λ x. picked (elements of x 1 path) j) is) bits q);
   }
 
 -- Pieces of elements, the lowest element first.

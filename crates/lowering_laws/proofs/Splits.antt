@@ -1,20 +1,18 @@
 -- A path in two: the lower bits and those above them. A part-select that may be partly out of range is written element by element.
-use Rattle.std.proofs.Common.{◌≡◌, ◌⊎◌, inl, inr, ℕ, zero, suc, ◌+◌, ◌-◌, ◌*◌, ◌<◌, ◌≤◌, Bool, true, false, ◌&&◌, cond, ℤ, pos, negsuc, ◌+ℤ◌, ◌-ℤ◌, ◌*ℤ◌, length, take, drop, List, [], ◌∷◌, ◌++◌, Option, Some, None, refl, arith, sym, ◌∙◌, subst, ap, true≢false}
-use Rattle.std.specs.Prelude.{slice_index_or, nat_lt, int_le, int_lt}
+use Rattle.std.proofs.Common.{◌≡◌, ℕ, zero, suc, ◌+◌, ◌-◌, ◌<◌, ◌≤◌, Bool, true, false, cond, ℤ, pos, ◌+ℤ◌, ◌-ℤ◌, length, take, drop, List, [], ◌∷◌, ◌++◌, Some, None, refl, arith, sym, ◌∙◌, ap, true≢false}
+use Rattle.std.specs.Prelude.{slice_index_or, nat_lt}
 use Rattle.std.proofs.lemmas.Int.{ints}
 use Rattle.std.proofs.lemmas.Bool.Decides.{nat_tests}
 use Rattle.b4_core.specs.declared.bit.Bit4.{Bit4}
 use Rattle.b4_core.specs.declared.bit.Bit4.TheVariants.{X}
 use Rattle.row_machine.specs.Valuation.{Place, Valuation}
 use Rattle.row_machine.specs.Steps.{later_or}
-use Rattle.picks.specs.Windows.{Window, nowhere, part, within, picked, written, at_least_0}
-use Rattle.sv_types.specs.Layouts.{Layout, count_of}
-use Rattle.sv_types.specs.Windows.{rank, elements, element_of, slide, lowest_index, falls}
-use Rattle.sv_types.proofs.Picks.{pick, nothing-there}
+use Rattle.picks.specs.Windows.{Window, part, within, picked, written, at_least_0}
+use Rattle.sv_types.proofs.Picks.{pick}
 use Rattle.v_meaning.specs.Scopes.{Scope}
-use Rattle.lowering_laws.specs.Reached.{Piece, pieces_put, piece_puts, AreWide, AreBelow, IsWritten}
-use Rattle.lowering_laws.proofs.Changes.{raised, raised-wide, raised-put, below-put, both-put, both-wide, length-part, length-take-of}
-use Rattle.lowering_laws.proofs.Slides.{picked-slide, far}
+use Rattle.lowering_laws.specs.Reached.{Piece, AreBelow, IsWritten}
+use Rattle.lowering_laws.proofs.Changes.{raised, raised-wide, raised-put, below-put, both-put, both-wide, length-take-of}
+use Rattle.lowering_laws.proofs.Slides.{picked-slide}
 use Rattle.lowering_laws.proofs.WriteAt.{IsTight, part-tight, IsPicked, is-picked, tight-picked, bit-written, at-image, written-at, written-other}
 
 -- the lower m bits of a path, and n bits above them
@@ -83,7 +81,7 @@ module _ (path low high : Window) (m n : ℕ) (split : IsSplit path low high m n
       let there = tight-picked path (m + n) b split.tight h in
       picked-written path bits j b (is-picked path j b there)
       ∙ sym (λ i. later_or (not-written high (drop m bits) b (out-of-high j less refl) i)
-          ((picked-written low (take m bits) j b (is-picked low j b (sym (split.lower j less) ∙ there)) ∙ ap Some (index-low bits m j less)) i))
+      ((picked-written low (take m bits) j b (is-picked low j b (sym (split.lower j less) ∙ there)) ∙ ap Some (index-low bits m j less)) i))
   inside-by h false is =
       let j = at_least_0 (pos b -ℤ path.shift) in
       let more : m ≤ at_least_0 (pos b -ℤ path.shift) = grind (arith, nat_tests) in
@@ -93,8 +91,8 @@ module _ (path low high : Window) (m n : ℕ) (split : IsSplit path low high m n
       let there = tight-picked path (m + n) b split.tight h in
       picked-written path bits j b (is-picked path j b there)
       ∙ sym (λ i. later_or ((picked-written high (drop m bits) k b (is-picked high k b (sym (split.upper k (omega arith)) ∙ ap (picked path) sum ∙ there))
-              ∙ ap Some (index-high bits m k ∙ ap (λ x. slice_index_or bits x X) sum)) i)
-          (bit-written low (take m bits) b))
+      ∙ ap Some (index-high bits m k ∙ ap (λ x. slice_index_or bits x X) sum)) i)
+      (bit-written low (take m bits) b))
 
   outside-by : within path b ≡ false → bit-written path bits b ≡ later_or (bit-written high (drop m bits) b) (bit-written low (take m bits) b)
   outside-by h =
@@ -133,7 +131,7 @@ split-pieces path low high m n image ps qs sc v split below above = record {
   puts = λ bits long q.
       both-put ps (raised m qs) sc v bits q
       ∙ (λ i. later_or ((raised-put m qs sc v bits q ∙ above.puts (drop m bits) (length-rest m n bits long) q) i)
-          ((sym (below-put m ps sc v bits q below.below) ∙ below.puts (take m bits) (length-take-of m bits (omega arith)) q) i))
+      ((sym (below-put m ps sc v bits q below.below) ∙ below.puts (take m bits) (length-take-of m bits (omega arith)) q) i))
       ∙ sym (split-written path low high m n image split bits q);
 }
   where

@@ -1,8 +1,8 @@
 -- Names with selects as targets: they write the bits of the image that a path writes.
-use Rattle.std.proofs.Common.{◌≡◌, ℕ, ◌≤◌, Bool, true, false, cond, pos, ℤ, length, take, List, [], ◌∷◌, Option, Some, None, refl, arith, sym, ◌∙◌, subst, ap}
+use Rattle.std.proofs.Common.{◌≡◌, ℕ, Bool, true, false, cond, ℤ, length, take, List, [], ◌∷◌, Option, Some, None, refl, arith, sym, ◌∙◌, subst, ap}
 use Rattle.b4_core.specs.declared.bit.Bit4.{Bit4}
 use Rattle.row_machine.specs.Valuation.{Place, Valuation, Changes}
-use Rattle.row_machine.specs.Steps.{unchanged, later_or}
+use Rattle.row_machine.specs.Steps.{unchanged}
 use Rattle.picks.specs.Windows.{Window, whole, nowhere, part, written}
 use Rattle.sv_types.specs.Surroundings.{Around}
 use Rattle.sv_types.specs.Meanings as S
@@ -12,9 +12,9 @@ use Rattle.v_meaning.specs.Selects.{SelMeaning, lowest, taken}
 use Rattle.v_meaning.specs.Statements as T
 use Rattle.v_meaning.specs.Values as V
 use Rattle.lowering_laws.specs.Placed.{holds}
-use Rattle.lowering_laws.specs.Reached.{Piece, piece_puts, IsWritten}
+use Rattle.lowering_laws.specs.Reached.{Piece, IsWritten}
 use Rattle.lowering_laws.proofs.Extensions.{take-whole}
-use Rattle.lowering_laws.proofs.Paths.{selected-window, one-window, one-width, no-window}
+use Rattle.lowering_laws.proofs.Paths.{one-window, no-window}
 use Rattle.lowering_laws.proofs.References.{NamesSame}
 use Rattle.lowering_laws.proofs.WriteAt.{IsTight, nowhere-tight, whole-tight, part-tight, same-written-at, none-written-at}
 

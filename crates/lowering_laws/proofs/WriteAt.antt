@@ -202,4 +202,3 @@ same-written-at image path other n tight other_tight same bits q =
 pub none-written-at : (image : ℕ) (path : Window) (n : ℕ) → IsTight path n → ((j : ℕ) → j < n → picked path j ≡ None) → (bits : List Bit4) (q : Place) → written image path bits q ≡ None
 none-written-at image path n tight none bits q =
     sym (at-image image path bits None q (λ e. sym (none-written path n tight none bits q.bit)) (λ apart. refl))
-

@@ -1,9 +1,9 @@
 -- Where the bits that a select path names stand in the target's vector.
-use Rattle.std.specs.Prelude.{◌≡◌, ℕ, ◌+◌, ◌<◌, List, None}
+use Rattle.std.specs.Prelude.{◌≡◌, ℕ, ◌+◌, ◌<◌, ℤ, List, Option, Some, None}
 use Rattle.b4_core.specs.declared.bit.Bit4.{Bit4}
 use Rattle.row_machine.specs.Valuation.{Valuation}
 use Rattle.row_machine.specs.Places.{vector_at}
-use Rattle.picks.specs.Windows.{whole, picked, seen}
+use Rattle.picks.specs.Windows.{whole, nowhere, part, picked, seen}
 use Rattle.sv_types.specs.Surroundings.{Around}
 use Rattle.sv_types.specs.Meanings as S
 use Rattle.v_meaning.specs.Scopes.{Named}
@@ -24,3 +24,8 @@ Names e a low w = (j : ℕ) → j < S.wide e → picked (e.window a) j ≡ picke
 -- all of the path's bits are out of range
 abbrev pub NamesNone : S.Meaning → Around → Type 0
 NamesNone e a = (j : ℕ) → j < S.wide e → picked (e.window a) j ≡ None
+
+-- a part of another path, from an offset that is known or not
+pub record IsSlide (e from : S.Meaning) (a : Around) (z : Option ℤ) : Type 0 where
+  pub base : e.base a ≡ from.base a
+  pub window : e.window a ≡ elim z [ None ↦ nowhere | Some k ↦ part k (S.wide e) (from.window a) ]

@@ -1,5 +1,5 @@
 -- What reads and what writes the bits of a select path in the target.
-use Rattle.std.specs.Prelude.{◌≡◌, ℕ, ◌+◌, ◌≤◌, Bool, true, false, cond, ⊤, List, [], ◌∷◌, length, take, drop, Option}
+use Rattle.std.specs.Prelude.{◌≡◌, ℕ, ◌+◌, ◌≤◌, true, false, cond, ⊤, List, [], ◌∷◌, length, take, drop, Option}
 use Rattle.b4_core.specs.declared.bit.Bit4.{Bit4}
 use Rattle.row_machine.specs.Valuation.{Place, Valuation, Changes}
 use Rattle.row_machine.specs.Steps.{unchanged, then_changes}
