@@ -25,9 +25,11 @@ pub mod Indices
 pub mod Slides
 pub mod SlideCalls
 pub mod Inside
+pub mod Logarithms
 pub mod Runs
 pub mod Changes
 pub mod Splits
 pub mod SlideTargets
 pub mod Assignments
 pub mod Cases
+pub mod Bounds

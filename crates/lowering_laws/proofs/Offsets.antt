@@ -16,15 +16,10 @@ use Rattle.v_meaning.specs.Scopes.{Scope}
 use Rattle.v_meaning.specs.Values as T
 use Rattle.lowering_laws.specs.Images.{Names, NamesNone}
 use Rattle.lowering_laws.specs.Placed.{holds, IsRank, IsPlaced, IsSure}
+use Rattle.lowering_laws.specs.Terms.{and_guard, moved}
 use Rattle.lowering_laws.proofs.Extensions.{ext-at}
 use Rattle.lowering_laws.proofs.Numbers.{HasNumber, literal-number, sum-number, product-number, number-alone, known-digits, length-digits}
 use Rattle.lowering_laws.proofs.PathSteps.{IsElement, rows-fit, element-names, element-names-none, step-from-none}
-
--- two guards as one
-abbrev pub and_guard : Option T.Meaning → Option T.Meaning → Option T.Meaning
-and_guard None h = h
-and_guard (Some g) None = Some g
-and_guard (Some g) (Some h) = Some (T.both g h)
 
 and-is-one : (p q : Bit4) → is_one (and4 p q) ≡ (is_one p && is_one q)
 and-is-one Zero q = refl
@@ -74,10 +69,6 @@ arithmetic-known f a b true some is =
     ap (λ c. known (if c then vec (length a) (f (number false a) (number false b)) else unknown (length a))) is ∙ known-vec (length a) (f (number false a) (number false b))
 arithmetic-known f a b false some is =
     ap (λ c. known (if c then vec (length a) (f (number false a) (number false b)) else unknown (length a))) is ∙ unknown-bits (length a) some
-
--- o + r * item, where the item has all w bits
-abbrev pub moved : T.Meaning → T.Meaning → ℕ → ℕ → T.Meaning
-moved o r item w = T.binary Add o (T.binary Mul r (T.literal (digits w item)))
 
 module _ (o r : T.Meaning) (item w : ℕ) (sc : Scope) (v : Valuation) (some : 1 ≤ w) (narrow : w ≤ 128)
     (width : o.width sc ≡ w) (unsigned : o.signed ≡ false) (long : length (T.alone o sc v) ≡ w)

@@ -16,14 +16,10 @@ use Rattle.lowering_laws.specs.Same.{Same, HasBits}
 use Rattle.lowering_laws.specs.Helpers.{Stores}
 use Rattle.lowering_laws.specs.Images.{NamesNone, raw}
 use Rattle.lowering_laws.specs.Reached.{IsRead}
+use Rattle.lowering_laws.specs.Terms.{guarded}
 use Rattle.lowering_laws.proofs.Assigned.{helper-alone, call-width, given-alone}
 use Rattle.lowering_laws.proofs.Constants.{resigned-same, length-fill, bits-alone}
 use Rattle.lowering_laws.proofs.Paths.{length-raw, IsPath, path-alone, path-itself, AllFour, stored-four-bits}
-
--- an expression, and under a guard another one where it doesn't hold
-abbrev pub guarded : Option T.Meaning → T.Meaning → T.Meaning → T.Meaning
-guarded None m d = m
-guarded (Some g) m d = T.choose g m d
 
 -- where nothing is named, x is read
 fill-tabulated : (n : ℕ) → tabulated n (λ j. X) ≡ replicate n X

@@ -11,7 +11,6 @@ use Rattle.sv_types.specs.Meanings as S
 use Rattle.sv_types.proofs.OperatorLengths.{length-ext}
 use Rattle.sv_types.proofs.Picks.{pick, picked-part, nothing-there}
 use Rattle.v_tree.specs.Names.{Name}
-use Rattle.v_tree.specs.declared.expressions.VExtent.TheVariants.{Up, Down}
 use Rattle.v_meaning.specs.Scopes.{Scope, Named, named}
 use Rattle.v_meaning.specs.Selects.{SelMeaning}
 use Rattle.v_meaning.specs.Values as T
@@ -19,26 +18,10 @@ use Rattle.v_meaning.specs.Values.{decimal_base, expression_base, number_of}
 use Rattle.lowering_laws.specs.Images.{IsImage, IsSlide, Names, NamesNone}
 use Rattle.lowering_laws.specs.Placed.{holds, IsPlaced, IsSure}
 use Rattle.lowering_laws.specs.Reached.{IsRead}
+use Rattle.lowering_laws.specs.Terms.{slide, bit_at_offset, range, bit_at_number}
 use Rattle.lowering_laws.proofs.Slides.{picked-slide, far}
 use Rattle.lowering_laws.proofs.WriteAt.{IsTight, whole-tight}
 use Rattle.lowering_laws.proofs.Paths.{one-window, one-width, no-window, no-width, reference-alone}
-
--- `name[o +: n]` and `name[o]`
-abbrev pub slide : T.Meaning → ℕ → SelMeaning
-slide o n = expression_base o (Some (Up n))
-
-abbrev pub at-offset : Name → T.Meaning → ℕ → T.Meaning
-at-offset name o n = T.reference name (slide o n ∷ [])
-
-abbrev pub one-bit : T.Meaning → SelMeaning
-one-bit o = expression_base o None
-
--- `name[low + n - 1:low]` and `name[low]`
-abbrev pub range : ℕ → ℕ → SelMeaning
-range low n = decimal_base (low + n - 1) (Some (Down low))
-
-abbrev pub one-decimal : ℕ → SelMeaning
-one-decimal low = decimal_base low None
 
 -- A name with selects that names the bits of the path where the guard holds.
 pub record NamesSame (e : S.Meaning) (a : Around) (g : Option T.Meaning) (name : Name) (sels : List SelMeaning) (sc : Scope) (v : Valuation) : Type 0 where
@@ -110,15 +93,15 @@ module _ (e : S.Meaning) (a : Around) (g : Option T.Meaning) (o : T.Meaning) (w 
   }
 
   -- one bit
-  bit-window : n ≡ 1 → (T.path_of held (slide o n ∷ []) sc v).window ≡ (T.path_of held (one-bit o ∷ []) sc v).window
+  bit-window : n ≡ 1 → (T.path_of held (slide o n ∷ []) sc v).window ≡ (T.path_of held (bit_at_offset o ∷ []) sc v).window
   bit-window one =
       one-window held (slide o n) sc v vector
       ∙ ap (λ k. elim (number_of o.signed (T.alone o sc v)) [ None ↦ nowhere | Some z ↦ part z k (whole held.width) ]) one
-      ∙ sym (one-window held (one-bit o) sc v vector)
+      ∙ sym (one-window held (bit_at_offset o) sc v vector)
 
-  pub bit-names : n ≡ 1 → NamesSame e a g name (one-bit o ∷ []) sc v
+  pub bit-names : n ≡ 1 → NamesSame e a g name (bit_at_offset o ∷ []) sc v
   bit-names one = record {
-    width = one-width held (one-bit o) vector ∙ sym one;
+    width = one-width held (bit_at_offset o) vector ∙ sym one;
     yes = λ h j less. bits-by h (known (T.alone o sc v)) refl j less ∙ ap (λ x. picked x j) (bit-window one);
     no = placed.no;
   }
@@ -169,11 +152,11 @@ module _ (e : S.Meaning) (a : Around) (low : ℕ) (name : Name) (sc : Scope) (v 
   }
 
   -- `[low]`
-  pub decimal-names : S.wide e ≡ 1 → NamesSame e a None name (one-decimal low ∷ []) sc v
+  pub decimal-names : S.wide e ≡ 1 → NamesSame e a None name (bit_at_number low ∷ []) sc v
   decimal-names one = record {
-    width = one-width kept (one-decimal low) vector ∙ sym one;
+    width = one-width kept (bit_at_number low) vector ∙ sym one;
     yes = λ h j less.
-        names j less ∙ sym (picked-part low 1 (whole kept.width) j (omega arith)) ∙ ap (λ x. picked x j) (sym (one-window kept (one-decimal low) sc v vector));
+        names j less ∙ sym (picked-part low 1 (whole kept.width) j (omega arith)) ∙ ap (λ x. picked x j) (sym (one-window kept (bit_at_number low) sc v vector));
     no = never;
   }
 

@@ -1,5 +1,6 @@
 pub mod Same
 pub mod Helpers
+pub mod Terms
 pub mod Images
 pub mod Placed
 pub mod Reached
