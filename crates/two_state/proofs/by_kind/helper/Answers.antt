@@ -1,0 +1,5 @@
+use Rattle.two_state.proofs.Helping.{all-help}
+use Rattle.two_state.proofs.by_kind.helper.Goals as goal
+
+pub returns-clause-helps : goal.returns-clause-helps
+returns-clause-helps c = all-help c.args.kind c.args.width c.in_ok-name.name c.made.result c.requires.some c.requires.sizes c.in_ok-name.ensures c.made.ensures
