@@ -14,7 +14,7 @@ use Rattle.v_tree.specs.declared.items.VFunction.{VFunction}
 use Rattle.v_tree.specs.declared.items.VLocal.{VLocal}
 use Rattle.v_meaning.specs.Functions.{called, bound, inputs_of, locals_of, result_of, scope_in}
 use Rattle.v_meaning.specs.Runs.{State, begun, cleared, assign_now, current}
-use Rattle.v_meaning.specs.Scopes.{Scope, Named, named, bits_of_range, local_number}
+use Rattle.v_meaning.specs.Scopes.{Scope, Named, named, bits_of_range, is_signal, local_number}
 use Rattle.v_meaning.specs.Statements.{Doing, declared, doing, assignment, name_target}
 use Rattle.v_meaning.specs.Values.{Meaning, given, path_of, width_of}
 use Rattle.two_state.specs.Kinds.{Gives, input_of, vector, other}
@@ -78,6 +78,7 @@ module _ (f : VFunction) (name : Name) (n : ℕ) (ins : List VLocal) (m : Meanin
 -- An input that is bound to a vector of its width.
 pub record IsBound (name : Name) (w : ℕ) (x : List Bit4) (sc : Scope) (u : Valuation) : Type 0 where
   pub number : ℕ
+  pub local : is_signal number ≡ false
   pub own : Name
   pub is : named sc.names name ≡ record { name = own; number = number; width = w; words = None }
   pub holds : vector_at u number w ≡ x
@@ -101,6 +102,7 @@ module _ (f : VFunction) (name : Name) (n : ℕ) (m : Meaning) (some : 0 < n) (s
     pub one-bound : IsBound vector w x (scope_in f sc) u
     one-bound = record {
       number = local_number 1;
+      local = refl;
       own = l.name;
       is =
           ap (λ (k : Name). cond (bytes_eq k vector) (result_of f) (named (inputs_of f ++ declared (suc (length f.inputs)) f.locals ++ sc.names) vector)) g.0
@@ -148,6 +150,7 @@ module _ (f : VFunction) (name : Name) (n : ℕ) (m : Meaning) (some : 0 < n) (s
     pub first-bound : IsBound vector w x (scope_in f sc) u2
     first-bound = record {
       number = local_number 1;
+      local = refl;
       own = l2.name;
       is =
           ap (λ (z : Name). cond (bytes_eq z vector) (result_of f) (named (rest-of f.inputs) vector)) g.0
@@ -163,6 +166,7 @@ module _ (f : VFunction) (name : Name) (n : ℕ) (m : Meaning) (some : 0 < n) (s
     pub second-bound : IsBound other d y (scope_in f sc) u2
     second-bound = record {
       number = local_number 2;
+      local = refl;
       own = k.name;
       is =
           ap (λ (z : Name). cond (bytes_eq z other) (result_of f) (named (rest-of f.inputs) other)) g.0

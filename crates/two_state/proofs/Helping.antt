@@ -2,6 +2,7 @@
 use Rattle.std.proofs.Common.{◌≡◌, ℕ, zero, suc, ◌+◌, ◌-◌, ◌<◌, Bool, true, false, length, map, drop, replicate, List, [], ◌∷◌, Result, Ok, Err, IfOk, refl, arith, sym, ◌∙◌, ap}
 use Rattle.std.specs.Str.{bytes_eq}
 use Rattle.b4_core.specs.declared.bit.Bit4.{Bit4}
+use Rattle.b4_core.specs.declared.bit.Bit4.TheVariants.{X}
 use Rattle.b4_core.specs.declared.operators.EqOp.TheVariants.{Wild}
 use Rattle.b4_core.specs.Compare.{equality}
 use Rattle.row_machine.specs.Valuation.{Valuation}
@@ -47,11 +48,15 @@ run-is f name n ins m g some sc v args c alone long =
     called-gives f name n ins m g some sc v args (ap length is ∙ long) ∙ is
 
 -- names of helpers aren't those of their inputs
-no-vector : (name rest : Name) → name ≡ 115 ∷ rest → bytes_eq name vector ≡ false
+pub no-vector : (name rest : Name) → name ≡ 115 ∷ rest → bytes_eq name vector ≡ false
 no-vector name rest is = ap (λ k. bytes_eq k vector) is
 
-no-other : (name rest : Name) → name ≡ 115 ∷ rest → bytes_eq name other ≡ false
+pub no-other : (name rest : Name) → name ≡ 115 ∷ rest → bytes_eq name other ≡ false
 no-other name rest is = ap (λ k. bytes_eq k other) is
+
+pub length-x : (w : ℕ) → length (replicate w X) ≡ w
+length-x zero = refl
+length-x (suc w) = ap suc (length-x w)
 
 length-all : (w : ℕ) (b : Bool) → length (replicate w b) ≡ w
 length-all zero b = refl
@@ -110,7 +115,7 @@ helps WildEq w f name rest sc some sizes is g =
     }
 
 -- so is what is made for a name of a helper
-starts : (h : Helper) → helper_text h ≡ 115 ∷ drop 1 (helper_text h)
+pub starts : (h : Helper) → helper_text h ≡ 115 ∷ drop 1 (helper_text h)
 starts h = refl
 
 pub all-help : {E : Type 0} (kind : HelperKind) (w : ℕ) (name : Name) (r : Result VFunction E) → 0 < w → HasBits kind → name ≡ helper_text (record { kind = kind; width = w })

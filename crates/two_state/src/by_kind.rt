@@ -82,6 +82,7 @@ pub fn helper(alloc: Global, kind: HelperKind, width: u32) -> Result<VFunction, 
     requires sizes { HasBits kind }
     ensures named { IfOk result (λ f. f.name ≡ helper_text (record { kind = kind; width = width })) }
     ensures helps { IfOk result (λ f. (sc : Scope) → Helps kind width (callee_of sc f)) }
+    ensures quiet { IfOk result (λ f. (sc : Scope) → (callee_of sc f).reads ≡ []) }
 {
     let name = helper_name(alloc, &Helper { kind, width })?;
     made(alloc, kind, name, width)
