@@ -19,15 +19,13 @@ use Rattle.sv_types.specs.Windows.{rank, falls}
 use Rattle.sv_types.proofs.OperatorLengths.{length-ext}
 use Rattle.v_meaning.specs.Scopes.{Scope}
 use Rattle.v_meaning.specs.Values as T
+use Rattle.lowering_laws.specs.Terms.{bound}
+use Rattle.lowering_laws.specs.Terms as terms
 use Rattle.lowering_laws.specs.Placed.{HasRank, NoRank, IsRank, unknown as no_index, outside}
 use Rattle.lowering_laws.proofs.Extensions.{ext-at}
 use Rattle.lowering_laws.proofs.Numbers.{num-digits}
 use Rattle.lowering_laws.proofs.Offsets.{truth-one, and-cases, and-false, both-holds, unknown-bits}
 use Rattle.lowering_laws.proofs.SignedNumbers.{snum-ext, known-ext-signed, unknown-ext-signed, FitsSigned, literal-signed, known-vec, length-vec}
-
--- a signed number of the target, of w bits
-abbrev pub bound : ℕ → ℤ → T.Meaning
-bound w n = T.signing true (T.literal (vec w n))
 
 -- An index as a signed number: what has its bits, and where they are known its number.
 pub record IsIndex (i : Option ℤ) (m : T.Meaning) (w : ℕ) (sc : Scope) (v : Valuation) : Type 0 where
@@ -68,7 +66,7 @@ module _ (i : Option ℤ) (m : T.Meaning) (w : ℕ) (sc : Scope) (v : Valuation)
 
   -- between two bounds
   abbrev between : ℤ → ℤ → T.Meaning
-  between low high = T.both (T.order GreaterEqual z (bound w low)) (T.order LessEqual z (bound w high))
+  between low high = terms.between z w low high
 
   between-is : (low high : ℤ) → snum (vec w low) ≡ low → snum (vec w high) ≡ high
       → is_one (T.truth (between low high) sc v) ≡ (known bits && (int_le low (snum bits) && int_le (snum bits) high))
@@ -84,10 +82,10 @@ module _ (i : Option ℤ) (m : T.Meaning) (w : ℕ) (sc : Scope) (v : Valuation)
 
   -- the difference of the index and a bound, either way, in braces
   abbrev above : ℤ → T.Meaning
-  above n = T.concatenation (T.binary Sub z (bound w n) ∷ [])
+  above n = terms.above z w n
 
   abbrev under : ℤ → T.Meaning
-  under n = T.concatenation (T.binary Sub (bound w n) z ∷ [])
+  under n = terms.under z w n
 
   difference-above : (n : ℤ) → ((T.binary Sub z (bound w n)).width sc ≡ w) × (T.alone (T.binary Sub z (bound w n)) sc v ≡ arithmetic (λ x y. x -ℤ y) true (ext w true bits) (vec w n))
   unfolding T.binary T.signing T.literal
@@ -139,13 +137,13 @@ unfolding T.concatenation
 braced-bits e w u sc v width is long = (omega arith, refl, ap (ext w false) is ∙ ext-at w false u long)
 
 -- comparisons of whole numbers
-le-yes : (a b : ℤ) → int_le a b ≡ true → a ≤ℤ b
+pub le-yes : (a b : ℤ) → int_le a b ≡ true → a ≤ℤ b
 le-yes (pos a) (pos b) h = (let n : a ≤ b = grind (arith, nat_tests) in omega (arith, ints))
 le-yes (pos a) (negsuc b) h = absurd (cc)
 le-yes (negsuc a) (pos b) h = omega (arith, ints)
 le-yes (negsuc a) (negsuc b) h = (let n : b ≤ a = grind (arith, nat_tests) in omega (arith, ints))
 
-le-no : (a b : ℤ) → int_le a b ≡ false → b <ℤ a
+pub le-no : (a b : ℤ) → int_le a b ≡ false → b <ℤ a
 le-no (pos a) (pos b) h = (let n : b < a = grind (arith, nat_tests) in omega (arith, ints))
 le-no (pos a) (negsuc b) h = omega (arith, ints)
 le-no (negsuc a) (pos b) h = absurd (cc)

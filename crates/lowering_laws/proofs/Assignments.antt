@@ -1,191 +1,221 @@
--- An assignment through a select path is one to its image, under the path's guard.
-use Rattle.std.proofs.Common.{◌≡◌, ℕ, ◌==◌, Bool, true, false, ◌&&◌, ◌||◌, ◌-◌, cond, pos, ◌-ℤ◌, length, take, drop, List, [], ◌∷◌, Option, Some, None, refl, arith, sym, ◌∙◌, subst, ap}
-use Rattle.std.specs.Prelude.{slice_index_or}
-use Rattle.std.proofs.lemmas.Bool.Decides.{nat_tests}
+-- An assignment is made piece by piece, under guards.
+use Rattle.std.proofs.Common.{◌≡◌, Bool, true, false, cond, take, drop, List, [], ◌∷◌, Option, Some, None, refl, sym, ◌∙◌, subst, ap}
 use Rattle.b4_core.specs.declared.bit.Bit4.{Bit4}
-use Rattle.b4_core.specs.declared.bit.Bit4.TheVariants.{X}
-use Rattle.row_machine.specs.Valuation.{Place, Valuation, Changes, put}
-use Rattle.row_machine.specs.Steps.{then_changes, later_or}
-use Rattle.picks.specs.Windows.{Window, within, written, at_least_0}
-use Rattle.sv_types.specs.Layouts.{stored}
+use Rattle.row_machine.specs.Valuation.{Place, Valuation, Changes, put, changed}
+use Rattle.row_machine.specs.Steps.{unchanged, then_changes, later_or}
 use Rattle.sv_types.specs.Surroundings.{Around}
 use Rattle.sv_types.specs.Meanings as M
-use Rattle.sv_types.specs.Operators.{puts_all, width_of_all}
 use Rattle.sv_types.specs.Runs as S
-use Rattle.v_tree.specs.Names.{Name}
-use Rattle.v_meaning.specs.Scopes.{Scope, named}
+use Rattle.v_meaning.specs.Scopes.{Scope}
 use Rattle.v_meaning.specs.Values as V
 use Rattle.v_meaning.specs.Statements as D
 use Rattle.v_meaning.specs.Runs as T
-use Rattle.lowering_laws.specs.Agreeing.{Images, AreDistinct, Agree, SameChanges, SameState, SameRun}
-use Rattle.lowering_laws.specs.Images.{IsImage}
-use Rattle.lowering_laws.specs.Placed.{holds, IsPlaced}
-use Rattle.lowering_laws.proofs.Extensions.{take-whole}
-use Rattle.lowering_laws.proofs.Paths.{IsPath, one-width}
-use Rattle.lowering_laws.proofs.ReadAt.{slide}
-use Rattle.lowering_laws.proofs.Runs.{then-same, current-agrees}
-use Rattle.lowering_laws.proofs.Targets.{at-offset, target-same, target-none}
-use Rattle.lowering_laws.proofs.WriteAt.{IsTight, bit-written, written-bit}
+use Rattle.lowering_laws.specs.Agreeing.{Images, Agree, SameChanges, SameRun}
+use Rattle.lowering_laws.specs.Placed.{holds}
+use Rattle.lowering_laws.specs.Reached.{Piece, piece_puts, pieces_put, AreWide}
+use Rattle.lowering_laws.proofs.Runs.{then-same, then-agrees}
 
--- a write to another signal or local
-other-number : (n r : ℕ) → (n ≡ r → ⊥) → (n == r) ≡ false
-other-number n r apart = by (n == r) refl
-  where
-    by : (b : Bool) → (n == r) ≡ b → (n == r) ≡ false
-    by true h = absurd (apart (grind (arith, nat_tests)))
-    by false h = h
+-- `to = value`, under a guard if there is one
+abbrev pub under : Option V.Meaning → D.Doing → D.Doing
+under None d = d
+under (Some g) d = D.conditional g d D.nothing
 
-pub written-other : (r : ℕ) (path : Window) (bits : List Bit4) (n b : ℕ) → (n ≡ r → ⊥) → written r path bits (record { signal = n; bit = b }) ≡ None
-written-other r path bits n b apart = ap (λ c. cond (c && within path b) (Some (slice_index_or bits (at_least_0 (pos b -ℤ path.shift)) X)) None) (other-number n r apart)
+abbrev pub guarded-assignment : Bool → Piece → V.Meaning → D.Doing
+guarded-assignment later p m = under p.guard (D.assignment later p.to m)
 
--- changes of one image, bit by bit
-pub image-changes : (im : Images) (r : ℕ) (path : Window) (bits : List Bit4) (d : Changes) → AreDistinct im
-    → ((b : ℕ) → d (record { signal = im.number r; bit = b }) ≡ bit-written path bits b)
-    → ((k b : ℕ) → (k ≡ im.number r → ⊥) → d (record { signal = k; bit = b }) ≡ None)
-    → SameChanges im (written r path bits) d
-image-changes im r path bits d distinct there elsewhere n b h = by (n == r) refl
-  where
-    by : (c : Bool) → (n == r) ≡ c → d (record { signal = im.number n; bit = b }) ≡ written r path bits (record { signal = n; bit = b })
-    by true e =
-        let same : n ≡ r = grind (arith, nat_tests) in
-        subst (λ k. d (record { signal = im.number k; bit = b }) ≡ written r path bits (record { signal = k; bit = b })) (sym same) (there b ∙ sym (written-bit r path bits b))
-    by false e = elsewhere (im.number n) b (λ f. apart e (distinct n r f)) ∙ sym (written-other r path bits n b (apart e))
-      where
-        apart : (n == r) ≡ false → n ≡ r → ⊥
-        apart g f = grind (arith, nat_tests)
+-- piece by piece, each with an expression for its bits
+abbrev pub assignments : Bool → List Piece → List V.Meaning → List D.Doing
+assignments later [] ms = []
+assignments later (p ∷ ps) [] = []
+assignments later (p ∷ ps) (m ∷ ms) = guarded-assignment later p m ∷ assignments later ps ms
 
--- What is known of a target that is a select path, at a point of both runs.
-pub record IsReached (to value : M.Meaning) (g : Option V.Meaning) (o mv : V.Meaning) (w : ℕ) (name : Name) (a : Around) (sc : Scope) (v : Valuation) : Type 0 where
-  pub path : IsPath to a
-  pub image : IsImage to a (named sc.names name) v
-  pub tight : IsTight (to.window a) (M.wide to)
-  pub placed : IsPlaced to a g o w (named sc.names name).width sc v
-  -- the value of the target is that of the source, as the path's type stores it
-  pub given : V.given mv (M.wide to) sc v ≡ stored to.of.two_state (value.given (M.wide to) a)
-  pub long : length (value.given (M.wide to) a) ≡ M.wide to
+-- each expression gives its piece the piece's bits of a value
+abbrev pub AreGiven : List Piece → List V.Meaning → List Bit4 → Scope → Valuation → Type 0
+AreGiven [] [] bits sc v = Unit {0}
+AreGiven [] (m ∷ ms) bits sc v = ⊥
+AreGiven (p ∷ ps) [] bits sc v = ⊥
+AreGiven (p ∷ ps) (m ∷ ms) bits sc v = (V.given m p.width sc v ≡ take p.width (drop p.low bits)) × AreGiven ps ms bits sc v
 
--- `name[o +: n] = mv`, under a guard if there is one
-abbrev pub guarded-assignment : Bool → Option V.Meaning → Name → V.Meaning → ℕ → V.Meaning → D.Doing
-guarded-assignment later None name o n mv = D.assignment later (at-offset name o n) mv
-guarded-assignment later (Some g) name o n mv = D.conditional g (D.assignment later (at-offset name o n) mv) D.nothing
+-- what a piece and its value are doesn't hang on what is written
+pub record IsSteady (c : Changes) (p : Piece) (m : V.Meaning) (sc : Scope) (v : Valuation) : Type 0 where
+  pub guard : (w : Valuation) → ((q : Place) → c q ≡ None → w q ≡ v q) → holds p.guard sc w ≡ holds p.guard sc v
+  pub puts : (w : Valuation) → ((q : Place) → c q ≡ None → w q ≡ v q) → (bits : List Bit4) → p.to.puts sc w bits ≡ p.to.puts sc v bits
+  pub given : (w : Valuation) → ((q : Place) → c q ≡ None → w q ≡ v q) → V.given m p.width sc w ≡ V.given m p.width sc v
 
-abbrev choose-run : Bool → T.Run → T.Run
-choose-run b r = T.one_of b r T.idle
+abbrev pub AreSteady : Changes → List Piece → List V.Meaning → Scope → Valuation → Type 0
+AreSteady c [] ms sc v = Unit {0}
+AreSteady c (p ∷ ps) [] sc v = Unit {0}
+AreSteady c (p ∷ ps) (m ∷ ms) sc v = IsSteady c p m sc v × AreSteady c ps ms sc v
 
-guarded-run : (later : Bool) (g : Option V.Meaning) (name : Name) (o : V.Meaning) (n : ℕ) (mv : V.Meaning) (sc : Scope) (v : Valuation) (u : T.State)
-    → (guarded-assignment later g name o n mv).run sc v u
-    ≡ T.one_of (holds g sc (T.current v u)) (λ c x t. T.assign_as later (D.changes_of (at-offset name o n) mv c (T.current x t)) t) T.idle sc v u
+guarded-run : (later : Bool) (p : Piece) (m : V.Meaning) (sc : Scope) (v : Valuation) (u : T.State)
+    → (guarded-assignment later p m).run sc v u
+    ≡ T.one_of (holds p.guard sc (T.current v u)) (λ c x t. T.assign_as later (D.changes_of p.to m c (T.current x t)) t) T.idle sc v u
 unfolding D.assignment D.conditional
-guarded-run later None name o n mv sc v u = refl
-guarded-run later (Some g) name o n mv sc v u = refl
+guarded-run later p m sc v u = by p.guard
+  where
+    by : (g : Option V.Meaning) → (under g (D.assignment later p.to m)).run sc v u
+        ≡ T.one_of (holds g sc (T.current v u)) (λ c x t. T.assign_as later (D.changes_of p.to m c (T.current x t)) t) T.idle sc v u
+    by None = refl
+    by (Some k) = refl
 
--- what the source changes
-source-changes : (to value : M.Meaning) (r : ℕ) (a : Around) → to.streams ≡ false → length (value.given (M.wide to) a) ≡ M.wide to
-    → ((bits : List Bit4) → to.puts a bits ≡ written r (to.window a) (stored to.of.two_state bits))
-    → (q : Place) → S.changes_of (to ∷ []) value a q ≡ written r (to.window a) (stored to.of.two_state (value.given (M.wide to) a)) q
-source-changes to value r a plain long puts q =
-    let n = M.wide to in
-    let width : width_of_all (to ∷ []) ≡ n = omega arith in
-    ap (λ b. puts_all (to ∷ []) a (cond (b || false) (drop (M.wide value - width_of_all (to ∷ [])) (M.alone value a)) (value.given (width_of_all (to ∷ [])) a)) q) plain
-    ∙ ap (λ k. to.puts a (take n (value.given k a)) q) width
-    ∙ ap (λ x. to.puts a x q) (take-whole n (value.given n a) (omega arith))
-    ∙ ap (λ (c : Changes). c q) (puts (value.given n a))
+-- what one piece does
+piece-changes : (p : Piece) (m : V.Meaning) (bits : List Bit4) (sc : Scope) (v : Valuation) → p.to.width sc ≡ p.width → V.given m p.width sc v ≡ take p.width (drop p.low bits)
+    → D.changes_of p.to m sc v ≡ p.to.puts sc v (take p.width (drop p.low bits))
+piece-changes p m bits sc v width given = ap (λ k. p.to.puts sc v (V.given m k sc v)) width ∙ ap (p.to.puts sc v) given
 
-target-width : (name : Name) (o : V.Meaning) (n : ℕ) (sc : Scope) → (named sc.names name).words ≡ None → (at-offset name o n).width sc ≡ n
-unfolding D.name_target
-target-width name o n sc vector = one-width (named sc.names name) (slide o n) vector
+pub record IsMadeLater (c : Changes) (u t : T.State) : Type 0 where
+  pub written : t.written ≡ u.written
+  pub pending : (q : Place) → t.pending q ≡ then_changes u.pending c q
 
-target-elsewhere : (name : Name) (o : V.Meaning) (n : ℕ) (sc : Scope) (v : Valuation) (bits : List Bit4) (k b : ℕ) → (k ≡ (named sc.names name).number → ⊥)
-    → (at-offset name o n).puts sc v bits (record { signal = k; bit = b }) ≡ None
-unfolding D.name_target
-target-elsewhere name o n sc v bits k b apart = written-other (named sc.names name).number (V.path_of (named sc.names name) (slide o n ∷ []) sc v).window bits k b apart
+pub record IsMadeNow (c : Changes) (u t : T.State) : Type 0 where
+  pub pending : t.pending ≡ u.pending
+  pub written : (q : Place) → t.written q ≡ then_changes u.written c q
 
-module _ (im : Images) (distinct : AreDistinct im) (a : Around) (sc : Scope) (to value : M.Meaning) (r : ℕ) (g : Option V.Meaning) (o mv : V.Meaning) (w : ℕ) (name : Name)
-    (plain : to.streams ≡ false) (number_is : (named sc.names name).number ≡ im.number r)
-    (puts : (now : Valuation) (bits : List Bit4) → to.puts (record a { now = now }) bits ≡ written r (to.window (record a { now = now })) (stored to.of.two_state bits))
-    (reached : (now v : Valuation) → Agree im now v → IsReached to value g o mv w name (record a { now = now }) sc v) where
-  abbrev n : ℕ
-  n = M.wide to
+piece-later : (p : Piece) (m : V.Meaning) (bits : List Bit4) (sc : Scope) (v : Valuation) (u : T.State) → p.to.width sc ≡ p.width
+    → V.given m p.width sc (T.current v u) ≡ take p.width (drop p.low bits) → IsMadeLater (piece_puts p sc (T.current v u) bits) u ((guarded-assignment true p m).run sc v u)
+piece-later p m bits sc v u width given = subst (IsMadeLater (piece_puts p sc (T.current v u) bits) u) (sym (guarded-run true p m sc v u)) (by (holds p.guard sc (T.current v u)) refl)
+  where
+    by : (b : Bool) → holds p.guard sc (T.current v u) ≡ b
+        → IsMadeLater (piece_puts p sc (T.current v u) bits) u (T.one_of b (λ c x t. T.assign_as true (D.changes_of p.to m c (T.current x t)) t) T.idle sc v u)
+    by true h = record {
+      written = refl;
+      pending = λ q.
+          ap (λ (c : Changes). then_changes u.pending c q) (piece-changes p m bits sc (T.current v u) width given)
+          ∙ sym (ap (λ b. later_or (cond b (p.to.puts sc (T.current v u) (take p.width (drop p.low bits))) unchanged q) (u.pending q)) h);
+    }
+    by false h = record {
+      written = refl;
+      pending = λ q. sym (ap (λ b. later_or (cond b (p.to.puts sc (T.current v u) (take p.width (drop p.low bits))) unchanged q) (u.pending q)) h);
+    }
 
-  abbrev t : D.Target
-  t = at-offset name o n
+piece-now : (p : Piece) (m : V.Meaning) (bits : List Bit4) (sc : Scope) (v : Valuation) (u : T.State) → p.to.width sc ≡ p.width
+    → V.given m p.width sc (T.current v u) ≡ take p.width (drop p.low bits) → IsMadeNow (piece_puts p sc (T.current v u) bits) u ((guarded-assignment false p m).run sc v u)
+piece-now p m bits sc v u width given = subst (IsMadeNow (piece_puts p sc (T.current v u) bits) u) (sym (guarded-run false p m sc v u)) (by (holds p.guard sc (T.current v u)) refl)
+  where
+    by : (b : Bool) → holds p.guard sc (T.current v u) ≡ b
+        → IsMadeNow (piece_puts p sc (T.current v u) bits) u (T.one_of b (λ c x t. T.assign_as false (D.changes_of p.to m c (T.current x t)) t) T.idle sc v u)
+    by true h = record {
+      pending = refl;
+      written = λ q.
+          ap (λ (c : Changes). then_changes u.written c q) (piece-changes p m bits sc (T.current v u) width given)
+          ∙ sym (ap (λ b. later_or (cond b (p.to.puts sc (T.current v u) (take p.width (drop p.low bits))) unchanged q) (u.written q)) h);
+    }
+    by false h = record {
+      pending = refl;
+      written = λ q. sym (ap (λ b. later_or (cond b (p.to.puts sc (T.current v u) (take p.width (drop p.low bits))) unchanged q) (u.written q)) h);
+    }
 
-  abbrev around : Valuation → Around
-  around now = record a { now = now }
+later-again : (x y z : Option Bit4) → later_or (later_or x y) z ≡ later_or x (later_or y z)
+later-again None y z = refl
+later-again (Some b) y z = refl
 
-  abbrev bits : Valuation → List Bit4
-  bits now = stored to.of.two_state (value.given n (around now))
+-- all pieces, one after the other: of nonblocking assignments no one sees what another one did
+pub pieces-later : (ps : List Piece) (ms : List V.Meaning) (bits : List Bit4) (sc : Scope) (v : Valuation) (u : T.State) → AreWide ps sc → AreGiven ps ms bits sc (T.current v u)
+    → IsMadeLater (pieces_put ps sc (T.current v u) bits) u ((D.sequence (assignments true ps ms)).run sc v u)
+pieces-later [] [] bits sc v u wide given = record { written = refl; pending = λ q. refl }
+pieces-later [] (m ∷ ms) bits sc v u wide given = absurd given
+pieces-later (p ∷ ps) [] bits sc v u wide given = absurd given
+pieces-later (p ∷ ps) (m ∷ ms) bits sc v u wide given =
+    let t = (guarded-assignment true p m).run sc v u in
+    let first = piece-later p m bits sc v u wide.0 given.0 in
+    let same : T.current v t ≡ T.current v u = ap (λ (c : Changes). put c v) first.written in
+    let rest = pieces-later ps ms bits sc v t wide.1 (subst (AreGiven ps ms bits sc) (sym same) given.1) in
+    record {
+      written = rest.written ∙ first.written;
+      pending = λ q.
+          rest.pending q
+          ∙ (λ i. later_or (pieces_put ps sc (same i) bits q) (first.pending q i))
+          ∙ sym (later-again (pieces_put ps sc (T.current v u) bits q) (piece_puts p sc (T.current v u) bits q) (u.pending q));
+    }
 
-  source : (now v : Valuation) (agree : Agree im now v) (q : Place) → S.changes_of (to ∷ []) value (around now) q ≡ written r (to.window (around now)) (bits now) q
-  source now v agree q = source-changes to value r (around now) plain (reached now v agree).long (puts now) q
+-- of blocking ones the indices and values of those behind the first don't hang on what is written
+none-behind : (x y : Option Bit4) → later_or x y ≡ None → (x ≡ None) × (y ≡ None)
+none-behind None y h = (refl, h)
+none-behind (Some b) y h = absurd (cc)
 
-  -- the same bits of the image are changed
-  there : (now v : Valuation) (agree : Agree im now v) → holds g sc v ≡ true → SameChanges im (S.changes_of (to ∷ []) value (around now)) (D.changes_of t mv sc v)
-  there now v agree yes_holds k b h =
-      image-changes im r (to.window (around now)) (bits now) (D.changes_of t mv sc v) distinct at-image elsewhere k b h ∙ sym (source now v agree (record { signal = k; bit = b }))
-    where
-      at : IsReached to value g o mv w name (around now) sc v
-      at = reached now v agree
+steady-puts : (c : Changes) (p : Piece) (m : V.Meaning) (bits : List Bit4) (sc : Scope) (v w : Valuation) → IsSteady c p m sc v → ((q : Place) → c q ≡ None → w q ≡ v q)
+    → (q : Place) → piece_puts p sc w bits q ≡ piece_puts p sc v bits q
+steady-puts c p m bits sc v w steady same q = λ i. cond (steady.guard w same i) (steady.puts w same (take p.width (drop p.low bits)) i) unchanged q
 
-      given-is : V.given mv (t.width sc) sc v ≡ bits now
-      given-is = ap (λ x. V.given mv x sc v) (target-width name o n sc at.image.vector) ∙ at.given
+-- v is what was current before all of them, and c all that they change
+steady-now : (c : Changes) (ps : List Piece) (ms : List V.Meaning) (bits : List Bit4) (sc : Scope) (x : Valuation) (u : T.State) (v : Valuation) → AreWide ps sc → AreGiven ps ms bits sc v
+    → AreSteady c ps ms sc v → ((q : Place) → c q ≡ None → T.current x u q ≡ v q) → ((q : Place) → c q ≡ None → pieces_put ps sc v bits q ≡ None)
+    → IsMadeNow (pieces_put ps sc v bits) u ((D.sequence (assignments false ps ms)).run sc x u)
+steady-now c [] [] bits sc x u v wide given steady same inside = record { pending = refl; written = λ q. refl }
+steady-now c [] (m ∷ ms) bits sc x u v wide given steady same inside = absurd given
+steady-now c (p ∷ ps) [] bits sc x u v wide given steady same inside = absurd given
+steady-now c (p ∷ ps) (m ∷ ms) bits sc x u v wide given steady same inside =
+    let t = (guarded-assignment false p m).run sc x u in
+    let first = piece-now p m bits sc x u wide.0 (steady.0.given (T.current x u) same ∙ given.0) in
+    let puts = steady-puts c p m bits sc v (T.current x u) steady.0 same in
+    let both : (q : Place) → c q ≡ None → (pieces_put ps sc v bits q ≡ None) × (piece_puts p sc v bits q ≡ None) = λ q h. none-behind (pieces_put ps sc v bits q) (piece_puts p sc v bits q) (inside q h) in
+    let rest = steady-now c ps ms bits sc x t v wide.1 given.1 steady.1
+    (λ q h. ap (λ o. changed o (x q)) (first.written q ∙ ap (λ o. later_or o (u.written q)) (puts q ∙ (both q h).1)) ∙ same q h) (λ q h. (both q h).0) in
+    record {
+      pending = rest.pending ∙ first.pending;
+      written = λ q.
+          rest.written q
+          ∙ ap (λ o. later_or (pieces_put ps sc v bits q) o) (first.written q ∙ ap (λ o. later_or o (u.written q)) (puts q))
+          ∙ sym (later-again (pieces_put ps sc v bits q) (piece_puts p sc v bits q) (u.written q));
+    }
 
-      at-image : (c : ℕ) → D.changes_of t mv sc v (record { signal = im.number r; bit = c }) ≡ bit-written (to.window (around now)) (bits now) c
-      at-image c =
-          ap (λ x. t.puts sc v x (record { signal = im.number r; bit = c })) given-is
-          ∙ ap (λ x. t.puts sc v (bits now) (record { signal = x; bit = c })) (sym number_is)
-          ∙ target-same to (around now) g o w name sc v at.path at.image at.tight at.placed yes_holds (bits now) c
+pub pieces-now : (p : Piece) (ps : List Piece) (m : V.Meaning) (ms : List V.Meaning) (bits : List Bit4) (sc : Scope) (v : Valuation) (u : T.State)
+    → AreWide (p ∷ ps) sc → AreGiven (p ∷ ps) (m ∷ ms) bits sc (T.current v u) → AreSteady (pieces_put (p ∷ ps) sc (T.current v u) bits) ps ms sc (T.current v u)
+    → IsMadeNow (pieces_put (p ∷ ps) sc (T.current v u) bits) u ((D.sequence (assignments false (p ∷ ps) (m ∷ ms))).run sc v u)
+pieces-now p ps m ms bits sc v u wide given steady =
+    let w = T.current v u in
+    let t = (guarded-assignment false p m).run sc v u in
+    let all = pieces_put (p ∷ ps) sc (T.current v u) bits in
+    let first = piece-now p m bits sc v u wide.0 given.0 in
+    let both : (q : Place) → pieces_put (p ∷ ps) sc (T.current v u) bits q ≡ None → (pieces_put ps sc (T.current v u) bits q ≡ None) × (piece_puts p sc (T.current v u) bits q ≡ None) = λ q h. none-behind (pieces_put ps sc (T.current v u) bits q) (piece_puts p sc (T.current v u) bits q) h in
+    let rest = steady-now (pieces_put (p ∷ ps) sc (T.current v u) bits) ps ms bits sc v t (T.current v u) wide.1 given.1 steady
+    (λ q h. ap (λ o. changed o (v q)) (first.written q ∙ ap (λ o. later_or o (u.written q)) (both q h).1)) (λ q h. (both q h).0) in
+    record {
+      pending = rest.pending ∙ first.pending;
+      written = λ q.
+          rest.written q
+          ∙ ap (λ o. later_or (pieces_put ps sc (T.current v u) bits q) o) (first.written q)
+          ∙ sym (later-again (pieces_put ps sc (T.current v u) bits q) (piece_puts p sc (T.current v u) bits q) (u.written q));
+    }
 
-      elsewhere : (x c : ℕ) → (x ≡ im.number r → ⊥) → D.changes_of t mv sc v (record { signal = x; bit = c }) ≡ None
-      elsewhere x c apart = target-elsewhere name o n sc v (V.given mv (t.width sc) sc v) x c (λ e. apart (e ∙ number_is))
+-- What is known of an assignment at a point of both runs: the pieces change the images as the source changes what they stand
+-- for, and each gets its bits of the value.
+pub record IsAssigned (im : Images) (later : Bool) (to : List M.Meaning) (value : M.Meaning) (p : Piece) (ps : List Piece) (m : V.Meaning) (ms : List V.Meaning) (a : Around) (sc : Scope) (v : Valuation) : Type 0 where
+  pub bits : List Bit4
+  pub wide : AreWide (p ∷ ps) sc
+  pub given : AreGiven (p ∷ ps) (m ∷ ms) bits sc v
+  pub changes : SameChanges im (S.changes_of to value a) (pieces_put (p ∷ ps) sc v bits)
+  pub steady : later ≡ false → AreSteady (pieces_put (p ∷ ps) sc v bits) ps ms sc v
 
-  -- where the guard isn't 1, the source changes nothing
-  nowhere-changed : (now v : Valuation) (agree : Agree im now v) → holds g sc v ≡ false → (k b : ℕ) → S.changes_of (to ∷ []) value (around now) (record { signal = k; bit = b }) ≡ None
-  nowhere-changed now v agree no_holds k b = source now v agree (record { signal = k; bit = b }) ∙ by (k == r) refl
-    where
-      at : IsReached to value g o mv w name (around now) sc v
-      at = reached now v agree
+module _ (im : Images) (a : Around) (sc : Scope) (to : List M.Meaning) (value : M.Meaning) (p : Piece) (ps : List Piece) (m : V.Meaning) (ms : List V.Meaning) where
+  moved-changes : (c d e : Changes) → ((q : Place) → e q ≡ d q) → SameChanges im c d → SameChanges im c e
+  moved-changes c d e h same = record { same = λ n b less. h (record { signal = im.number n; bit = b }) ∙ same.same n b less; stored = same.stored }
 
-      by : (c : Bool) → (k == r) ≡ c → written r (to.window (around now)) (bits now) (record { signal = k; bit = b }) ≡ None
-      by true e =
-          let same : k ≡ r = grind (arith, nat_tests) in
-          ap (λ x. written r (to.window (around now)) (bits now) (record { signal = x; bit = b })) same
-          ∙ written-bit r (to.window (around now)) (bits now) b
-          ∙ target-none to (around now) g o w name sc v at.path at.image at.tight at.placed no_holds (bits now) b
-      by false e = written-other r (to.window (around now)) (bits now) k b (apart e)
-        where
-          apart : (k == r) ≡ false → k ≡ r → ⊥
-          apart h f = grind (arith, nat_tests)
+  moved-agree : (now v w : Valuation) → ((q : Place) → w q ≡ v q) → Agree im now v → Agree im now w
+  moved-agree now v w h agree = record { same = λ n b less. h (record { signal = im.number n; bit = b }) ∙ agree.same n b less; stored = agree.stored }
 
-  none-same : (c d : Changes) (now v : Valuation) (agree : Agree im now v) → holds g sc v ≡ false → SameChanges im c d
-      → SameChanges im (then_changes c (S.changes_of (to ∷ []) value (around now))) d
-  none-same c d now v agree no_holds same k b h =
-      same k b h ∙ sym (ap (λ (x : Option Bit4). later_or x (c (record { signal = k; bit = b }))) (nowhere-changed now v agree no_holds k b))
-
-  by-guard : (later : Bool) (now v : Valuation) (s : S.State) (u : T.State) (c : Bool) → Agree im now v → SameState im s u → holds g sc (T.current v u) ≡ c
-      → SameState im (S.assign later (to ∷ []) value (around now) s) (T.one_of c (λ x y z. T.assign_as later (D.changes_of t mv x (T.current y z)) z) T.idle sc v u)
-  by-guard false now v s u true agree same h = record {
-    written = then-same im s.written u.written (S.changes_of (to ∷ []) value (around (put s.written now))) (D.changes_of t mv sc (T.current v u)) same.written (there (put s.written now) (T.current v u) (current-agrees im a sc now v s u agree same) h);
-    pending = same.pending;
-    goes_on = same.goes_on;
-  }
-  by-guard true now v s u true agree same h = record {
-    written = same.written;
-    pending = then-same im s.pending u.pending (S.changes_of (to ∷ []) value (around (put s.written now))) (D.changes_of t mv sc (T.current v u)) same.pending (there (put s.written now) (T.current v u) (current-agrees im a sc now v s u agree same) h);
-    goes_on = same.goes_on;
-  }
-  by-guard false now v s u false agree same h = record {
-    written = none-same s.written u.written (put s.written now) (T.current v u) (current-agrees im a sc now v s u agree same) h same.written;
-    pending = same.pending;
-    goes_on = same.goes_on;
-  }
-  by-guard true now v s u false agree same h = record {
-    written = same.written;
-    pending = none-same s.pending u.pending (put s.written now) (T.current v u) (current-agrees im a sc now v s u agree same) h same.pending;
-    goes_on = same.goes_on;
-  }
-
-  pub assign-same : (later : Bool) → SameRun im a sc (S.assign later (to ∷ []) value) (guarded-assignment later g name o n mv).run
-  assign-same later now v s u agree same =
-      subst (SameState im (S.assign later (to ∷ []) value (around now) s)) (sym (guarded-run later g name o n mv sc v u))
-      (by-guard later now v s u (holds g sc (T.current v u)) agree same refl)
+  pub assign-same : (later : Bool) → ((now v : Valuation) → Agree im now v → IsAssigned im later to value p ps m ms (record a { now = now }) sc v)
+      → SameRun im a sc (S.assign later to value) (D.sequence (assignments later (p ∷ ps) (m ∷ ms))).run
+  assign-same true assigned now v s u same =
+      let at = assigned (put s.written now) (T.current v u) same.current in
+      let made = pieces-later (p ∷ ps) (m ∷ ms) at.bits sc v u at.wide at.given in
+      record {
+        written = subst (SameChanges im s.written) (sym made.written) same.written;
+        pending = moved-changes _ (then_changes u.pending (pieces_put (p ∷ ps) sc (T.current v u) at.bits)) _ made.pending
+            (then-same im s.pending u.pending (S.changes_of to value (record a { now = put s.written now })) (pieces_put (p ∷ ps) sc (T.current v u) at.bits) same.pending at.changes);
+        current = subst (λ (c : Changes). Agree im (put s.written now) (put c v)) (sym made.written) same.current;
+        goes_on = same.goes_on;
+      }
+  assign-same false assigned now v s u same =
+      let at = assigned (put s.written now) (T.current v u) same.current in
+      let made = pieces-now p ps m ms at.bits sc v u at.wide at.given (at.steady refl) in
+      let c = S.changes_of to value (record a { now = put s.written now }) in
+      let d = pieces_put (p ∷ ps) sc (T.current v u) at.bits in
+      record {
+        written = moved-changes _ (then_changes u.written (pieces_put (p ∷ ps) sc (T.current v u) at.bits)) _ made.written
+            (then-same im s.written u.written (S.changes_of to value (record a { now = put s.written now })) (pieces_put (p ∷ ps) sc (T.current v u) at.bits) same.written at.changes);
+        pending = subst (SameChanges im s.pending) (sym made.pending) same.pending;
+        current = moved-agree _ (put (then_changes u.written (pieces_put (p ∷ ps) sc (T.current v u) at.bits)) v) _ (λ q. ap (λ o. changed o (v q)) (made.written q))
+            (then-agrees im s.written u.written (S.changes_of to value (record a { now = put s.written now })) (pieces_put (p ∷ ps) sc (T.current v u) at.bits) now v at.changes same.current);
+        goes_on = same.goes_on;
+      }

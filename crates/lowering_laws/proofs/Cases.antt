@@ -15,7 +15,6 @@ use Rattle.v_meaning.specs.Values as V
 use Rattle.v_meaning.specs.Statements as D
 use Rattle.v_meaning.specs.Runs as T
 use Rattle.lowering_laws.specs.Agreeing.{Images, Agree, SameState, Stands, SameRun}
-use Rattle.lowering_laws.proofs.Runs.{current-agrees}
 
 -- the same kind of `case`
 abbrev pub kind_of : CaseKind → VCaseKind
@@ -94,19 +93,19 @@ module _ (im : Images) (a : Around) (sc : Scope) (kind : CaseKind) (w : ℕ) (s 
 
   pub items-same : (x : List Bit4) (is : List S.ItemRun) (other : S.Run) (ks : List D.Item) → SameItems im a sc w s is other ks
       → SameRun im a sc (S.first_match (source_on x) is other) (target_runs ks (target_on x))
-  items-same x [] other [] h now v st u agree same = h now v st u agree same
-  items-same x [] other (k ∷ ks) h now v st u agree same =
-      subst (λ (l : List D.Item). SameState im (other (around now) st) (target_runs (k ∷ l) (target_on x) sc v u)) (sym h.1)
-      (subst (λ (r : T.Run). SameState im (other (around now) st) (r sc v u)) (sym (run-none (target_on x) k h.0)) (h.2 now v st u agree same))
-  items-same x (i ∷ is) other [] h now v st u agree same = absurd h
-  items-same x (i ∷ is) other (k ∷ ks) h now v st u agree same =
+  items-same x [] other [] h now v st u same = h now v st u same
+  items-same x [] other (k ∷ ks) h now v st u same =
+      subst (λ (l : List D.Item). SameState im now v (other (around now) st) (target_runs (k ∷ l) (target_on x) sc v u)) (sym h.1)
+      (subst (λ (r : T.Run). SameState im now v (other (around now) st) (r sc v u)) (sym (run-none (target_on x) k h.0)) (h.2 now v st u same))
+  items-same x (i ∷ is) other [] h now v st u same = absurd h
+  items-same x (i ∷ is) other (k ∷ ks) h now v st u same =
       let ms = (h.0).0 in
-      let here = current-agrees im a sc now v st u agree same in
+      let here : Agree im (put st.written now) (T.current v u) = same.current in
       let test = any-matches x i.values ms (put st.written now) (T.current v u) here (h.0).2 in
       let rest = items-same x is other ks (h.1).1 in
-      subst (λ (r : T.Run). SameState im (S.first_match (source_on x) (i ∷ is) other (around now) st) (r sc v u)) (sym (run-some (target_on x) k ks ms (h.0).1))
-      (subst (λ b. SameState im (S.first_match (source_on x) (i ∷ is) other (around now) st) (T.one_of b k.body.run (target_runs ks (target_on x)) sc v u)) (sym test)
-      (one-of-same (list_any (S.matches (source_on x) (around (put st.written now))) i.values) i.run (S.first_match (source_on x) is other) k.body.run (target_runs ks (target_on x)) (h.1).0 rest now v st u agree same))
+      subst (λ (r : T.Run). SameState im now v (S.first_match (source_on x) (i ∷ is) other (around now) st) (r sc v u)) (sym (run-some (target_on x) k ks ms (h.0).1))
+      (subst (λ b. SameState im now v (S.first_match (source_on x) (i ∷ is) other (around now) st) (T.one_of b k.body.run (target_runs ks (target_on x)) sc v u)) (sym test)
+      (one-of-same (list_any (S.matches (source_on x) (around (put st.written now))) i.values) i.run (S.first_match (source_on x) is other) k.body.run (target_runs ks (target_on x)) (h.1).0 rest now v st u same))
 
 -- all values of the items together
 stand-both : (im : Images) (a : Around) (sc : Scope) (w : ℕ) (s : Bool) (es fs : List M.Meaning) (ms ns : List V.Meaning)
@@ -176,11 +175,11 @@ pub case-same : (im : Images) (a : Around) (sc : Scope) (kind : CaseKind) (on : 
     → Stands im a sc on (S.widest_of (on ∷ flat_map (λ (i : S.ItemRun). i.values) is)) (S.all_signed (on ∷ flat_map (λ (i : S.ItemRun). i.values) is)) m
     → SameItems im a sc (S.widest_of (on ∷ flat_map (λ (i : S.ItemRun). i.values) is)) (S.all_signed (on ∷ flat_map (λ (i : S.ItemRun). i.values) is)) is other ks
     → SameRun im a sc (S.select kind on (flat_map (λ (i : S.ItemRun). i.values) is) is other) (D.cases (kind_of kind) m ks).run
-case-same im a sc kind on m is other ks stands h now v st u agree same =
+case-same im a sc kind on m is other ks stands h now v st u same =
     let values = flat_map (λ (i : S.ItemRun). i.values) is in
     let w = S.widest_of (on ∷ values) in
     let s = S.all_signed (on ∷ values) in
-    let here = current-agrees im a sc now v st u agree same in
+    let here : Agree im (put st.written now) (T.current v u) = same.current in
     let all : AllStand im a sc w s (on ∷ values) (m ∷ D.item_values ks) = (stands, items-stand im a sc w s is other ks h) in
     let wide = widest-same im a sc w s (put st.written now) (T.current v u) here (on ∷ values) (m ∷ D.item_values ks) all (omega arith) in
     let most = wide.0 in
@@ -192,6 +191,6 @@ case-same im a sc kind on m is other ks stands h now v st u agree same =
     let selector : T.selector (kind_of kind) m (D.item_values ks) sc (T.current v u) ≡ record { kind = kind_of kind; width = w; signed = s; value = x } =
     (λ i. record { kind = kind_of kind; width = width i; signed = sign i; value = m.value (width i) (sign i) sc (T.current v u) })
     ∙ ap (λ (b : List Bit4). record { kind = kind_of kind; width = w; signed = s; value = b }) value in
-    subst (SameState im (S.select kind on values is other (record a { now = now }) st)) (sym (cases-run (kind_of kind) m ks sc v u))
-    (subst (λ (f : T.Selector). SameState im (S.select kind on values is other (record a { now = now }) st) (T.first_match f (D.item_runs ks) (D.otherwise ks).run sc v u)) (sym selector)
-    (items-same im a sc kind w s x is other ks h now v st u agree same))
+    subst (SameState im now v (S.select kind on values is other (record a { now = now }) st)) (sym (cases-run (kind_of kind) m ks sc v u))
+    (subst (λ (f : T.Selector). SameState im now v (S.select kind on values is other (record a { now = now }) st) (T.first_match f (D.item_runs ks) (D.otherwise ks).run sc v u)) (sym selector)
+    (items-same im a sc kind w s x is other ks h now v st u same))

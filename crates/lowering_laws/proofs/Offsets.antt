@@ -8,23 +8,18 @@ use Rattle.b4_core.specs.Bitwise.{truth_of}
 use Rattle.b4_core.specs.Vectors.{known, unknown, num, number, digits, vec, ext}
 use Rattle.b4_core.specs.Binary.{arithmetic, binary_value}
 use Rattle.row_machine.specs.Valuation.{Valuation}
-use Rattle.sv_types.specs.Layouts.{Layout, count_of}
+use Rattle.sv_types.specs.Layouts.{count_of}
 use Rattle.sv_types.specs.Surroundings.{Around}
+use Rattle.sv_types.proofs.OperatorLengths.{length-binary, length-ext}
 use Rattle.sv_types.specs.Meanings as S
-use Rattle.sv_types.specs.Paths as P
 use Rattle.v_meaning.specs.Scopes.{Scope}
 use Rattle.v_meaning.specs.Values as T
 use Rattle.lowering_laws.specs.Images.{Names, NamesNone}
-use Rattle.lowering_laws.specs.Placed.{holds, IsRank, IsPlaced}
+use Rattle.lowering_laws.specs.Placed.{holds, IsRank, IsPlaced, IsSure}
+use Rattle.lowering_laws.specs.Terms.{and_guard, moved}
 use Rattle.lowering_laws.proofs.Extensions.{ext-at}
 use Rattle.lowering_laws.proofs.Numbers.{HasNumber, literal-number, sum-number, product-number, number-alone, known-digits, length-digits}
-use Rattle.lowering_laws.proofs.PathSteps.{rows-fit, element-names, element-names-none, step-from-none}
-
--- two guards as one
-abbrev pub and_guard : Option T.Meaning → Option T.Meaning → Option T.Meaning
-and_guard None h = h
-and_guard (Some g) None = Some g
-and_guard (Some g) (Some h) = Some (T.both g h)
+use Rattle.lowering_laws.proofs.PathSteps.{IsElement, rows-fit, element-names, element-names-none, step-from-none}
 
 and-is-one : (p q : Bit4) → is_one (and4 p q) ≡ (is_one p && is_one q)
 and-is-one Zero q = refl
@@ -74,10 +69,6 @@ arithmetic-known f a b true some is =
     ap (λ c. known (if c then vec (length a) (f (number false a) (number false b)) else unknown (length a))) is ∙ known-vec (length a) (f (number false a) (number false b))
 arithmetic-known f a b false some is =
     ap (λ c. known (if c then vec (length a) (f (number false a) (number false b)) else unknown (length a))) is ∙ unknown-bits (length a) some
-
--- o + r * item, where the item has all w bits
-abbrev pub moved : T.Meaning → T.Meaning → ℕ → ℕ → T.Meaning
-moved o r item w = T.binary Add o (T.binary Mul r (T.literal (digits w item)))
 
 module _ (o r : T.Meaning) (item w : ℕ) (sc : Scope) (v : Valuation) (some : 1 ≤ w) (narrow : w ≤ 128)
     (width : o.width sc ≡ w) (unsigned : o.signed ≡ false) (long : length (T.alone o sc v) ≡ w)
@@ -153,24 +144,17 @@ and-false true false h = inr (refl, refl)
 and-false false q h = inl refl
 
 -- The element by an index of a path that is placed is placed by the moved offset, under both guards.
-module _ (of : Layout) (at : ℕ) (from i : S.Meaning) (a : Around) (g c : Option T.Meaning) (o r : T.Meaning) (w bits : ℕ) (sc : Scope) (v : Valuation)
-    (some : 1 ≤ w) (narrow : w ≤ 128) (fits : bits < 2 ^ w)
-    (element : length of.two_state ≡ length from.of.element.two_state)
-    (all : count_of from.of.left from.of.right * length from.of.element.two_state ≡ S.wide from)
-    (long : length (T.alone o sc v) ≡ w) (rank_long : length (bits-at r w sc v) ≡ w)
-    (placed : IsPlaced from a g o w bits sc v) (is_rank : IsRank from.of (P.index_of i a) c r w sc v) where
+module _ (e from : S.Meaning) (a : Around) (z : Option ℤ) (g c : Option T.Meaning) (o r : T.Meaning) (w bits : ℕ) (sc : Scope) (v : Valuation)
+    (some : 1 ≤ w) (narrow : w ≤ 128) (fits : bits < 2 ^ w) (is_element : IsElement e from a z)
+    (rank_long : length (bits-at r w sc v) ≡ w) (placed : IsPlaced from a g o w bits sc v) (is_rank : IsRank from.of z c r w sc v) where
   abbrev n : ℕ
   n = length from.of.element.two_state
 
   abbrev new : T.Meaning
   new = moved o r n w
 
-  abbrev e : S.Meaning
-  e = P.index of at from i
-
-  wide-is : S.wide e ≡ n
-  unfolding P.index
-  wide-is = element
+  long : length (T.alone o sc v) ≡ w
+  long = placed.long
 
   known-is : known (T.alone new sc v) ≡ (known (T.alone o sc v) && known (bits-at r w sc v))
   known-is = moved-known o r n w sc v some narrow placed.width placed.unsigned long is_rank.width is_rank.unsigned rank_long
@@ -183,25 +167,37 @@ module _ (of : Layout) (at : ℕ) (from i : S.Meaning) (a : Around) (g c : Optio
       let k = num (T.alone o sc v) in
       let before = placed.yes guarded known_o in
       let has = is_rank.yes in_range known_r in
-      let room = rows-fit q (count_of from.of.left from.of.right) n (S.wide from) has.below all in
+      let room = rows-fit q (count_of from.of.left from.of.right) n (S.wide from) has.below is_element.all in
       let within = before.1 in
       let number = moved-number o r n w sc v some narrow placed.width placed.unsigned long is_rank.width is_rank.unsigned rank_long known_o known_r (omega arith) (omega arith) in
-      let names = element-names of at from i a q k bits has element all before.0 in
-      let wide = wide-is in
+      let names = element-names e from a z q k bits is_element has before.0 in
+      let wide = is_element.wide in
       (subst (λ x. Names e a x bits) (sym number) names, omega arith)
 
   by-guards : (holds g sc v ≡ false) ⊎ ((holds g sc v ≡ true) × (holds c sc v ≡ false)) → NamesNone e a
-  by-guards (inl h) = step-from-none of at from i a element all (placed.no h)
-  by-guards (inr h) = element-names-none of at from i a (is_rank.no h.1)
+  by-guards (inl h) = step-from-none e from a z is_element (placed.no h)
+  by-guards (inr h) = element-names-none e from a z is_element (is_rank.no h.1)
 
   by-known : holds g sc v ≡ true → holds c sc v ≡ true → (known (T.alone o sc v) ≡ false) ⊎ ((known (T.alone o sc v) ≡ true) × (known (bits-at r w sc v) ≡ false)) → NamesNone e a
-  by-known guarded in_range (inl h) = step-from-none of at from i a element all (placed.lost guarded h)
-  by-known guarded in_range (inr h) = element-names-none of at from i a (is_rank.lost in_range h.1)
+  by-known guarded in_range (inl h) = step-from-none e from a z is_element (placed.lost guarded h)
+  by-known guarded in_range (inr h) = element-names-none e from a z is_element (is_rank.lost in_range h.1)
+
+  new-long : length (T.alone new sc v) ≡ w
+  new-long =
+      ap length (moved-alone o r n w sc v some narrow placed.width placed.unsigned long is_rank.width is_rank.unsigned rank_long)
+      ∙ length-binary Add false (T.alone o sc v) _ w long (length-binary Mul false (bits-at r w sc v) (ext w false (digits w n)) w rank_long (length-ext w false (digits w n)))
+
+  -- the new offset is known where the old one and the rank are
+  pub index-sure : IsSure g o sc v → (holds c sc v ≡ true → known (bits-at r w sc v) ≡ true) → IsSure (and_guard g c) new sc v
+  index-sure sure rank_sure h =
+      let both = and-cases (holds g sc v) (holds c sc v) (sym (holds-both g c sc v) ∙ h) in
+      known-is ∙ (λ i. sure both.0 i && rank_sure both.1 i)
 
   pub index-placed : IsPlaced e a (and_guard g c) new w bits sc v
   index-placed = record {
     width = moved-width o r n w sc v some narrow placed.width placed.unsigned long is_rank.width is_rank.unsigned rank_long;
     unsigned = moved-unsigned o r n w sc v some narrow placed.width placed.unsigned long is_rank.width is_rank.unsigned rank_long;
+    long = new-long;
     yes = λ h k.
         let both = and-cases (holds g sc v) (holds c sc v) (sym (holds-both g c sc v) ∙ h) in
         let knows = and-cases (known (T.alone o sc v)) (known (bits-at r w sc v)) (sym known-is ∙ k) in

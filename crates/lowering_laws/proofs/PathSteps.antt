@@ -57,15 +57,24 @@ rows-fit q n w all h is =
     let most = mul-le (suc q) w n w (omega arith) (omega arith) in
     omega arith
 
-pub element-names : (of : Layout) (at : ℕ) (from i : S.Meaning) (a : Around) (q low w : ℕ)
-    → HasRank from.of (P.index_of i a) q → length of.two_state ≡ length from.of.element.two_state
-    → count_of from.of.left from.of.right * length from.of.element.two_state ≡ S.wide from
-    → Names from a low w → Names (P.index of at from i) a (low + q * length from.of.element.two_state) w
+-- A step by an index, known or not, of which the number is z.
+pub record IsElement (e from : S.Meaning) (a : Around) (z : Option ℤ) : Type 0 where
+  pub window : e.window a ≡ element_of from.of z (from.window a)
+  pub wide : S.wide e ≡ length from.of.element.two_state
+  pub all : count_of from.of.left from.of.right * length from.of.element.two_state ≡ S.wide from
+
+pub index-is-element : (of : Layout) (at : ℕ) (from i : S.Meaning) (a : Around) → length of.two_state ≡ length from.of.element.two_state
+    → count_of from.of.left from.of.right * length from.of.element.two_state ≡ S.wide from → IsElement (P.index of at from i) from a (P.index_of i a)
 unfolding P.index
-element-names of at from i a q low w has wide all names j h =
+index-is-element of at from i a wide all = record { window = refl; wide = wide; all = all }
+
+pub element-names : (e from : S.Meaning) (a : Around) (z : Option ℤ) (q low w : ℕ) → IsElement e from a z → HasRank from.of z q
+    → Names from a low w → Names e a (low + q * length from.of.element.two_state) w
+element-names e from a z q low w is has names j h =
     let n = length from.of.element.two_state in
-    let fits = rows-fit q (count_of from.of.left from.of.right) n (S.wide from) has.below all in
-    ap (λ x. picked x j) (element-window from.of (P.index_of i a) q (from.window a) has)
+    let fits = rows-fit q (count_of from.of.left from.of.right) n (S.wide from) has.below is.all in
+    let wide = is.wide in
+    ap (λ x. picked x j) (is.window ∙ element-window from.of z q (from.window a) has)
     ∙ ap (λ k. picked (part (pos (q * n)) k (from.window a)) j) (omega arith)
     ∙ part-names from a low w (q * n) n names fits j (omega arith)
 
@@ -74,9 +83,8 @@ no-element : (of : Layout) (i : Option ℤ) (path : Window) (j : ℕ) → NoRank
 no-element of None path j unknown = nothing-there (pos j +ℤ pos 0)
 no-element of (Some k) path j (outside _ h) = ap (λ b. picked (cond b (elements of (rank of k) 1 path) nowhere) j) h ∙ nothing-there (pos j +ℤ pos 0)
 
-pub element-names-none : (of : Layout) (at : ℕ) (from i : S.Meaning) (a : Around) → NoRank from.of (P.index_of i a) → NamesNone (P.index of at from i) a
-unfolding P.index
-element-names-none of at from i a none j h = no-element from.of (P.index_of i a) (from.window a) j none
+pub element-names-none : (e from : S.Meaning) (a : Around) (z : Option ℤ) → IsElement e from a z → NoRank from.of z → NamesNone e a
+element-names-none e from a z is none j h = ap (λ x. picked x j) is.window ∙ no-element from.of z (from.window a) j none
 
 -- an index has a rank or none
 ranked-by : (of : Layout) (k r : ℤ) → rank of k ≡ r → (b : Bool) → (int_le (pos 0) r && int_lt r (pos (count_of of.left of.right))) ≡ b
@@ -90,19 +98,16 @@ ranked of None = inr unknown
 ranked of (Some k) = ranked-by of k (rank of k) refl _ refl
 
 -- a step from nothing names nothing
-pub step-from-none : (of : Layout) (at : ℕ) (from i : S.Meaning) (a : Around)
-    → length of.two_state ≡ length from.of.element.two_state
-    → count_of from.of.left from.of.right * length from.of.element.two_state ≡ S.wide from
-    → NamesNone from a → NamesNone (P.index of at from i) a
-unfolding P.index
-step-from-none of at from i a wide all none j h = by_rank (ranked from.of (P.index_of i a))
+pub step-from-none : (e from : S.Meaning) (a : Around) (z : Option ℤ) → IsElement e from a z → NamesNone from a → NamesNone e a
+step-from-none e from a z is none j h = ap (λ x. picked x j) is.window ∙ by_rank (ranked from.of z)
   where
-    by_rank : ((q : ℕ) × HasRank from.of (P.index_of i a) q) ⊎ NoRank from.of (P.index_of i a) → picked (element_of from.of (P.index_of i a) (from.window a)) j ≡ None
-    by_rank (inr k) = no-element from.of (P.index_of i a) (from.window a) j k
+    by_rank : ((q : ℕ) × HasRank from.of z q) ⊎ NoRank from.of z → picked (element_of from.of z (from.window a)) j ≡ None
+    by_rank (inr k) = no-element from.of z (from.window a) j k
     by_rank (inl (q, has)) =
         let n = length from.of.element.two_state in
-        let fits = rows-fit q (count_of from.of.left from.of.right) n (S.wide from) has.below all in
-        ap (λ x. picked x j) (element-window from.of (P.index_of i a) q (from.window a) has)
+        let fits = rows-fit q (count_of from.of.left from.of.right) n (S.wide from) has.below is.all in
+        let wide = is.wide in
+        ap (λ x. picked x j) (element-window from.of z q (from.window a) has)
         ∙ ap (λ k. picked (part (pos (q * n)) k (from.window a)) j) (omega arith)
         ∙ picked-part (q * n) n (from.window a) j (omega arith)
         ∙ none (q * n + j) (omega arith)

@@ -16,14 +16,9 @@ use Rattle.v_meaning.specs.Scopes.{Scope, Named, named, all_bits}
 use Rattle.v_meaning.specs.Selects.{SelMeaning, select, taken, lowest, bits_named}
 use Rattle.v_meaning.specs.Values as T
 use Rattle.v_meaning.specs.Values.{decimal_base, expression_base}
-use Rattle.lowering_laws.specs.Same.{Same}
-use Rattle.lowering_laws.specs.Images.{IsImage}
+use Rattle.lowering_laws.specs.Images.{IsImage, raw}
 use Rattle.lowering_laws.proofs.Extensions.{ext-at}
-use Rattle.lowering_laws.proofs.Constants.{IsItself, resigned-same}
-
--- the bits that a path reads, before they are stored
-abbrev pub raw : S.Meaning → Around → List Bit4
-raw e a = seen (e.base a) (e.window a) (S.wide e)
+use Rattle.lowering_laws.proofs.Constants.{IsItself}
 
 -- A path: its value is what it reads, as its type stores it.
 pub record IsPath (e : S.Meaning) (a : Around) : Type 0 where
@@ -68,15 +63,14 @@ pub one-width : (n : Named) (s : SelMeaning) → n.words ≡ None → T.width_of
 one-width n s is =
     ap (λ (ws : Option ℕ). bits_named (select s None (record { window = whole (elim ws [ None ↦ n.width | Some count ↦ count * n.width ]); width = n.width; words = ws })) (elim ws [ None ↦ n.width | Some count ↦ count * n.width ])) is
 
-no-window : (n : Named) (sc : Scope) (v : Valuation) → n.words ≡ None → (T.path_of n [] sc v).window ≡ whole n.width
+pub no-window : (n : Named) (sc : Scope) (v : Valuation) → n.words ≡ None → (T.path_of n [] sc v).window ≡ whole n.width
 no-window n sc v is = ap whole (all-bits n is)
 
-no-width : (n : Named) → n.words ≡ None → T.width_of n [] ≡ n.width
+pub no-width : (n : Named) → n.words ≡ None → T.width_of n [] ≡ n.width
 no-width n is = ap (λ (ws : Option ℕ). bits_named (record { window = whole 0; width = n.width; words = ws }) (elim ws [ None ↦ n.width | Some c ↦ c * n.width ])) is
 
 -- A name with selects that names the same bits reads what the path reads.
 pub record SameBits (e : S.Meaning) (a : Around) (name : Name) (sels : List SelMeaning) (sc : Scope) (v : Valuation) : Type 0 where
-  pub path : IsPath e a
   pub image : IsImage e a (named sc.names name) v
   pub width : T.width_of (named sc.names name) sels ≡ S.wide e
   pub bits : (j : ℕ) → j < S.wide e → picked (e.window a) j ≡ picked (T.path_of (named sc.names name) sels sc v).window j
@@ -95,10 +89,3 @@ pub reference-alone : (e : S.Meaning) (a : Around) (name : Name) (sels : List Se
 unfolding T.reference
 reference-alone e a name sels sc v h =
     (h.width, (λ i. ext (h.width i) false (value-same e a name sels sc v h i)) ∙ ext-at (S.wide e) false (raw e a) (length-raw e a))
-
-pub path-same : (e : S.Meaning) (w : ℕ) (s : Bool) (a : Around) (name : Name) (sels : List SelMeaning) (sc : Scope) (v : Valuation)
-    → SameBits e a name sels sc v → AllFour e.of.two_state → Same e w s a (T.signing (S.signed e) (T.reference name sels)) sc v
-path-same e w s a name sels sc v h four =
-    let r = reference-alone e a name sels sc v h in
-    resigned-same e w s a (T.reference name sels) sc v (path-itself e a h.path) r.0
-    (r.1 ∙ sym (stored-four-bits e.of.two_state (raw e a) four (length-raw e a)) ∙ sym (path-alone e a h.path))

@@ -11,11 +11,12 @@ use Rattle.sv_types.specs.Surroundings.{Around}
 use Rattle.sv_types.specs.Meanings as S
 use Rattle.sv_types.specs.Paths as P
 use Rattle.sv_types.specs.Windows.{member_of}
+use Rattle.sv_types.proofs.OperatorLengths.{length-binary}
 use Rattle.sv_types.proofs.Picks.{picked-part}
 use Rattle.v_meaning.specs.Scopes.{Scope}
 use Rattle.v_meaning.specs.Values as T
 use Rattle.lowering_laws.specs.Images.{Names, NamesNone}
-use Rattle.lowering_laws.specs.Placed.{holds, IsPlaced}
+use Rattle.lowering_laws.specs.Placed.{holds, IsPlaced, IsSure}
 use Rattle.lowering_laws.proofs.Extensions.{ext-at}
 use Rattle.lowering_laws.proofs.Numbers.{HasNumber, literal-number, sum-number, number-alone, known-digits, num-digits, length-digits}
 use Rattle.lowering_laws.proofs.Offsets.{arithmetic-known, and-true}
@@ -37,10 +38,14 @@ literal-placed e a k w bits sc v names fits small =
     record {
       width = (literal-shape w k sc).0;
       unsigned = (literal-shape w k sc).1;
+      long = ap length (literal-alone w k sc v) ∙ length-digits w k;
       yes = λ h g. (subst (λ x. Names e a x bits) (sym is) names, omega arith);
       no = λ h. absurd (true≢false h);
       lost = λ h g. absurd (true≢false (sym (ap known (literal-alone w k sc v) ∙ known-digits w k) ∙ g));
     }
+
+pub literal-sure : (g : Option T.Meaning) (w k : ℕ) (sc : Scope) (v : Valuation) → IsSure g (T.literal (digits w k)) sc v
+literal-sure g w k sc v h = ap known (literal-alone w k sc v) ∙ known-digits w k
 
 -- a whole signal or local
 pub signal-placed : (of : Layout) (at n w : ℕ) (a : Around) (sc : Scope) (v : Valuation) → length of.two_state < 2 ^ w
@@ -78,7 +83,7 @@ member-is-part of at from k p a is wide fits = record {
 
 -- the offset moves by so many bits
 module _ (e from : S.Meaning) (a : Around) (below : ℕ) (g : Option T.Meaning) (o : T.Meaning) (w bits : ℕ) (sc : Scope) (v : Valuation)
-    (some : 1 ≤ w) (narrow : w ≤ 128) (small : bits < 2 ^ w) (long : length (T.alone o sc v) ≡ w)
+    (some : 1 ≤ w) (narrow : w ≤ 128) (small : bits < 2 ^ w)
     (is_part : IsPart e from a below) (placed : IsPlaced from a g o w bits sc v) where
   abbrev new : T.Meaning
   new = T.binary Add o (T.literal (digits w below))
@@ -103,6 +108,9 @@ module _ (e from : S.Meaning) (a : Around) (below : ℕ) (g : Option T.Meaning) 
   new-alone =
       (λ i. new.value (new-width i) (new-unsigned i) sc v)
       ∙ (λ i. binary_value Add false (sym same-context i) (literal-there i))
+
+  long : length (T.alone o sc v) ≡ w
+  long = placed.long
 
   new-known : known (T.alone new sc v) ≡ known (T.alone o sc v)
   new-known =
@@ -130,10 +138,15 @@ module _ (e from : S.Meaning) (a : Around) (below : ℕ) (g : Option T.Meaning) 
       let number = new-number knows (omega arith) in
       (subst (λ x. Names e a x bits) (sym number) (part-there e from a below (num (T.alone o sc v)) bits is_part before.0), omega arith)
 
+  -- a step by a known number keeps the offset known
+  pub part-sure : IsSure g o sc v → IsSure g new sc v
+  part-sure sure h = new-known ∙ sure h
+
   pub part-placed : IsPlaced e a g new w bits sc v
   part-placed = record {
     width = new-width;
     unsigned = new-unsigned;
+    long = ap length new-alone ∙ length-binary Add false (T.alone o sc v) (digits w below) w long (length-digits w below);
     yes = λ h k. there h (sym new-known ∙ k);
     no = λ h. part-none e from a below is_part (placed.no h);
     lost = λ h k. part-none e from a below is_part (placed.lost h (sym new-known ∙ k));

@@ -1,5 +1,5 @@
 -- The rank of an unsigned index of an array `[last:0]`, and the guard that it needs.
-use Rattle.std.proofs.Common.{◌≡◌, ◌⊎◌, inl, inr, ℕ, ◌+◌, ◌<◌, ◌≤◌, ◌^◌, max, Bool, true, false, ◌&&◌, cond, if◌then◌else◌, ℤ, pos, ◌-ℤ◌, length, List, [], ◌∷◌, Some, None, refl, arith, sym, ◌∙◌, subst, ap, true≢false}
+use Rattle.std.proofs.Common.{◌≡◌, ◌⊎◌, inl, inr, ℕ, ◌+◌, ◌<◌, ◌≤◌, ◌^◌, max, Bool, true, false, ◌&&◌, cond, if◌then◌else◌, ℤ, pos, ◌-ℤ◌, length, List, Some, None, refl, arith, sym, ◌∙◌, subst, ap, true≢false}
 use Rattle.std.specs.Prelude.{int_le, int_lt, nat_le, unsigned_abs}
 use Rattle.std.proofs.lemmas.Int.{ints}
 use Rattle.std.proofs.lemmas.Bool.Decides.{nat_tests}
@@ -20,6 +20,7 @@ use Rattle.v_meaning.specs.Scopes.{Scope}
 use Rattle.v_meaning.specs.Values as T
 use Rattle.lowering_laws.specs.Same.{SameAlone}
 use Rattle.lowering_laws.specs.Placed.{HasRank, NoRank, unknown, outside, IsRank}
+use Rattle.lowering_laws.specs.Terms.{braced, at_most}
 use Rattle.lowering_laws.proofs.Contexts.{alone-width, alone-value}
 use Rattle.lowering_laws.proofs.Extensions.{ext-at}
 use Rattle.lowering_laws.proofs.Numbers.{num-ext, known-ext, num-digits, known-digits, length-digits}
@@ -46,12 +47,6 @@ rank-down of last k h =
 
     same : k -ℤ pos 0 ≡ k
     same = omega (arith, ints)
-
-abbrev pub braced : T.Meaning → T.Meaning
-braced y = T.concatenation (y ∷ [])
-
-abbrev pub at_most : T.Meaning → ℕ → ℕ → T.Meaning
-at_most y w last = T.order LessEqual y (T.literal (digits w last))
 
 -- what an unsigned index is
 index-known : (i : S.Meaning) (a : Around) → S.signed i ≡ false → known (S.alone i a) ≡ true → P.index_of i a ≡ Some (pos (num (S.alone i a)))

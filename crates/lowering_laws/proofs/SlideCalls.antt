@@ -12,16 +12,12 @@ use Rattle.v_meaning.specs.Scopes.{Scope}
 use Rattle.v_meaning.specs.Values as T
 use Rattle.lowering_laws.specs.Same.{Same}
 use Rattle.lowering_laws.specs.Helpers.{Slices, from_offset}
+use Rattle.lowering_laws.specs.Images.{raw, IsSlide}
 use Rattle.lowering_laws.proofs.Extensions.{ext-at}
 use Rattle.lowering_laws.proofs.Constants.{resigned-same}
-use Rattle.lowering_laws.proofs.Paths.{raw, length-raw, IsPath, path-alone, path-itself, AllFour, stored-four-bits}
+use Rattle.lowering_laws.proofs.Paths.{length-raw, IsPath, path-alone, path-itself, AllFour, stored-four-bits}
 use Rattle.lowering_laws.proofs.Slides.{slide-read}
 use Rattle.lowering_laws.proofs.WriteAt.{IsTight}
-
--- a part of another path, from an offset that is known or not
-pub record IsSlide (e from : S.Meaning) (a : Around) (z : Option ℤ) : Type 0 where
-  pub base : e.base a ≡ from.base a
-  pub window : e.window a ≡ elim z [ None ↦ nowhere | Some k ↦ part k (S.wide e) (from.window a) ]
 
 nothing-read : (x y : List Bit4) (n : ℕ) → seen x nowhere n ≡ seen y nowhere n
 nothing-read x y n = tabulated-same n _ _ (λ j h. ap (bit_at x) (nothing-there (pos j +ℤ pos 0)) ∙ sym (ap (bit_at y) (nothing-there (pos j +ℤ pos 0))))

@@ -41,7 +41,7 @@ far-by path w d (pos b) true tight is far test = absurd (far (at_least_0 (pos b 
     same : d ≡ pos (at_least_0 (pos b -ℤ path.shift))
     same = back d (pos b) path.shift is (pos (at_least_0 (pos b -ℤ path.shift))) (tight.at_it b inside)
 
-far : (path : Window) (w : ℕ) (d : ℤ) → IsTight path w → ((m : ℕ) → d ≡ pos m → m < w → ⊥) → pick path.low path.high (d +ℤ path.shift) ≡ None
+pub far : (path : Window) (w : ℕ) (d : ℤ) → IsTight path w → ((m : ℕ) → d ≡ pos m → m < w → ⊥) → pick path.low path.high (d +ℤ path.shift) ≡ None
 far path w d tight h = far-by path w d (d +ℤ path.shift) _ tight refl h refl
 
 -- the bits from z on of what a path reads

@@ -5,6 +5,7 @@ use Rattle.std.proofs.lemmas.Int.{ints}
 use Rattle.std.proofs.lemmas.Bool.Decides.{nat_tests}
 use Rattle.b4_core.specs.declared.bit.Bit4.{Bit4}
 use Rattle.b4_core.specs.declared.bit.Bit4.TheVariants.{X}
+use Rattle.row_machine.specs.Valuation.{Place}
 use Rattle.picks.specs.Windows.{Window, whole, nowhere, part, within, picked, written, at_least_0}
 
 -- each bit of a window of n bits is one of the path's
@@ -75,7 +76,7 @@ part-tight o n path =
     trimmed-tight (record { shift = s; low = low; high = high }) n (nat_lt low high) (raw-tight s low high n (omega arith) (omega arith))
 
 -- the bit of a path that is bit b
-tight-picked : (path : Window) (n b : ℕ) → IsTight path n → within path b ≡ true → picked path (at_least_0 (pos b -ℤ path.shift)) ≡ Some b
+pub tight-picked : (path : Window) (n b : ℕ) → IsTight path n → within path b ≡ true → picked path (at_least_0 (pos b -ℤ path.shift)) ≡ Some b
 tight-picked path n b h is =
     ap (λ k. cond (int_le (pos path.low) k && int_lt k (pos path.high)) (Some (at_least_0 k)) None) (h.at_it b is)
     ∙ ap (λ c. cond c (Some b) None) (tests path.low path.high b is)
@@ -108,7 +109,7 @@ picked-by path j b (pos m) true is test h =
     back : (x : ℕ) (s : ℤ) (y : ℕ) → pos x +ℤ s ≡ pos y → pos y -ℤ s ≡ pos x
     back x s y e = omega (arith, ints)
 
-is-picked : (path : Window) (j b : ℕ) → picked path j ≡ Some b → IsPicked path j b
+pub is-picked : (path : Window) (j b : ℕ) → picked path j ≡ Some b → IsPicked path j b
 is-picked path j b h = picked-by path j b (pos j +ℤ path.shift) _ refl refl h
 
 -- what is written of one bit
@@ -161,3 +162,43 @@ same-number n = grind (arith, nat_tests)
 
 pub written-bit : (root : ℕ) (path : Window) (bits : List Bit4) (b : ℕ) → written root path bits (record { signal = root; bit = b }) ≡ bit-written path bits b
 written-bit root path bits b = ap (λ c. cond (c && within path b) (Some (slice_index_or bits (at_least_0 (pos b -ℤ path.shift)) X)) None) (same-number root)
+
+-- of another signal or local nothing is written
+other-number : (n r : ℕ) → (n ≡ r → ⊥) → (n == r) ≡ false
+other-number n r apart = by (n == r) refl
+  where
+    by : (b : Bool) → (n == r) ≡ b → (n == r) ≡ false
+    by true h = absurd (apart (grind (arith, nat_tests)))
+    by false h = h
+
+pub written-other : (r : ℕ) (path : Window) (bits : List Bit4) (n b : ℕ) → (n ≡ r → ⊥) → written r path bits (record { signal = n; bit = b }) ≡ None
+written-other r path bits n b apart = ap (λ c. cond (c && within path b) (Some (slice_index_or bits (at_least_0 (pos b -ℤ path.shift)) X)) None) (other-number n r apart)
+
+-- so a write to one image is known by what is written of its bits
+pub at-image : (image : ℕ) (path : Window) (bits : List Bit4) (c : Option Bit4) (q : Place) → (q.signal ≡ image → c ≡ bit-written path bits q.bit) → ((q.signal ≡ image → ⊥) → c ≡ None)
+    → c ≡ written image path bits q
+at-image image path bits c q there elsewhere = by (q.signal == image) refl
+  where
+    by : (b : Bool) → (q.signal == image) ≡ b → c ≡ written image path bits q
+    by true h =
+        let same : q.signal ≡ image = grind (arith, nat_tests) in
+        there same ∙ sym (written-bit image path bits q.bit) ∙ ap (λ n. written image path bits (record { signal = n; bit = q.bit })) (sym same)
+    by false h = elsewhere (apart h) ∙ sym (written-other image path bits q.signal q.bit (apart h))
+      where
+        apart : (q.signal == image) ≡ false → q.signal ≡ image → ⊥
+        apart g f = grind (arith, nat_tests)
+
+pub written-at : (image : ℕ) (path : Window) (bits : List Bit4) (q : Place) → q.signal ≡ image → written image path bits q ≡ bit-written path bits q.bit
+written-at image path bits q same = ap (λ n. written image path bits (record { signal = n; bit = q.bit })) same ∙ written-bit image path bits q.bit
+
+-- two windows that name the same bits write the same of an image
+pub same-written-at : (image : ℕ) (path other : Window) (n : ℕ) → IsTight path n → IsTight other n → ((j : ℕ) → j < n → picked path j ≡ picked other j)
+    → (bits : List Bit4) (q : Place) → written image other bits q ≡ written image path bits q
+same-written-at image path other n tight other_tight same bits q =
+    at-image image path bits (written image other bits q) q
+    (λ e. written-at image other bits q e ∙ sym (same-written path other n tight other_tight same bits q.bit))
+    (λ apart. written-other image other bits q.signal q.bit apart)
+
+pub none-written-at : (image : ℕ) (path : Window) (n : ℕ) → IsTight path n → ((j : ℕ) → j < n → picked path j ≡ None) → (bits : List Bit4) (q : Place) → written image path bits q ≡ None
+none-written-at image path n tight none bits q =
+    sym (at-image image path bits None q (λ e. sym (none-written path n tight none bits q.bit)) (λ apart. refl))

@@ -1,6 +1,9 @@
 pub mod Same
 pub mod Helpers
+pub mod Terms
 pub mod Images
 pub mod Placed
+pub mod Reached
 pub mod NamedImages
 pub mod Agreeing
+pub mod Held

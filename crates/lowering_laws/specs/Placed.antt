@@ -1,5 +1,5 @@
 -- Where a select path with indices stands in its image: a guard that holds where all indices are in range, and an offset.
-use Rattle.std.specs.Prelude.{◌≡◌, ℕ, ◌+◌, ◌≤◌, ◌<◌, ℤ, pos, Bool, true, false, ◌&&◌, int_le, int_lt, Option, Some, None}
+use Rattle.std.specs.Prelude.{◌≡◌, ℕ, ◌+◌, ◌≤◌, ◌<◌, ℤ, pos, Bool, true, false, ◌&&◌, int_le, int_lt, length, Option, Some, None}
 use Rattle.b4_core.specs.Bits.{is_one}
 use Rattle.b4_core.specs.Vectors.{known, num}
 use Rattle.row_machine.specs.Valuation.{Valuation}
@@ -41,6 +41,11 @@ pub record IsRank (of : Layout) (i : Option ℤ) (guard : Option T.Meaning) (r :
 pub record IsPlaced (e : S.Meaning) (a : Around) (guard : Option T.Meaning) (o : T.Meaning) (w bits : ℕ) (sc : Scope) (v : Valuation) : Type 0 where
   pub width : o.width sc ≡ w
   pub unsigned : o.signed ≡ false
+  pub long : length (T.alone o sc v) ≡ w
   pub yes : holds guard sc v ≡ true → known (T.alone o sc v) ≡ true → Names e a (num (T.alone o sc v)) bits × (num (T.alone o sc v) + S.wide e ≤ bits)
   pub no : holds guard sc v ≡ false → NamesNone e a
   pub lost : holds guard sc v ≡ true → known (T.alone o sc v) ≡ false → NamesNone e a
+
+-- the offset is known where the guard holds
+abbrev pub IsSure : Option T.Meaning → T.Meaning → Scope → Valuation → Type 0
+IsSure guard o sc v = holds guard sc v ≡ true → known (T.alone o sc v) ≡ true

@@ -1,0 +1,4 @@
+pub mod Calls
+pub mod Results
+pub mod Helping
+pub mod Quiet
