@@ -26,11 +26,11 @@ pub data Each {A B : Type 0} (P : A → B → Type 0) : List A → List B → Ty
   more : {x : A} {y : B} {xs : List A} {ys : List B} → P x y → Each P xs ys → Each P (x ∷ xs) (y ∷ ys)
 
 -- the tokens of these items, with a comma behind each
-abbrev before : List Rules → ℕ
+abbrev pub before : List Rules → ℕ
 before [] = 0
 before (r ∷ rs) = suc (r.size + before rs)
 
-listed-push : (rs : List Rules) (r : Rules) → listed_size (rs ++ (r ∷ [])) ≡ before rs + r.size
+pub listed-push : (rs : List Rules) (r : Rules) → listed_size (rs ++ (r ∷ [])) ≡ before rs + r.size
 listed-push [] r = omega arith
 listed-push (q ∷ []) r = omega arith
 listed-push (q ∷ p ∷ rs) r = let h = listed-push (p ∷ rs) r in omega (arith, h)
@@ -45,7 +45,7 @@ not-first n size = ap (λ b. if b then 0 else plus size 1) (suc-test n)
     suc-test : (n : ℕ) → (suc n == 0) ≡ false
     suc-test n = grind (arith, nat_tests)
 
-commas-before : (rs : List Rules) (size : ℕ) → size ≡ cap (listed_size rs) → commas (length rs) size ≡ cap (before rs)
+pub commas-before : (rs : List Rules) (size : ℕ) → size ≡ cap (listed_size rs) → commas (length rs) size ≡ cap (before rs)
 commas-before [] size e = refl
 commas-before (q ∷ rs) size e = not-first (length rs) size ∙ (λ i. plus (e i) 1) ∙ plus-cap (listed_size (q ∷ rs)) 1 ∙ ap cap (sym (before-listed q rs))
 
@@ -55,7 +55,7 @@ here at = omega arith
 behind : (at size further : ℕ) → (at + suc size) + further ≡ at + suc (size + further)
 behind at size further = omega arith
 
-each-push : (f : Rules → ℕ → List ℕ) (rs : List Rules) (r : Rules) (at : ℕ) → each_from f (rs ++ (r ∷ [])) at ≡ each_from f rs at ++ f r (at + before rs)
+pub each-push : (f : Rules → ℕ → List ℕ) (rs : List Rules) (r : Rules) (at : ℕ) → each_from f (rs ++ (r ∷ [])) at ≡ each_from f rs at ++ f r (at + before rs)
 each-push f [] r at = append-nil (f r at) ∙ ap (f r) (here at)
 each-push f (q ∷ rs) r at =
     ap (λ (ts : List ℕ). f q at ++ ts) (each-push f rs r (at + suc q.size) ∙ ap (λ n. each_from f rs (at + suc q.size) ++ f r n) (behind at q.size (before rs)))
@@ -149,7 +149,7 @@ one-item ls l rs s r a at k f = record {
       ∙ ap first (sym (each-push (λ r from. r.driven a from) rs r at));
 }
 
-push-length : (rs : List Rules) (r : Rules) → length (rs ++ (r ∷ [])) ≡ suc (length rs)
+pub push-length : (rs : List Rules) (r : Rules) → length (rs ++ (r ∷ [])) ≡ suc (length rs)
 push-length [] r = refl
 push-length (q ∷ rs) r = ap suc (push-length rs r)
 

@@ -112,16 +112,22 @@ binary-fits o s t r q a at f g = record {
   where
     token : ℕ
     token = plus (cap at) s.size
+
     token-is : token ≡ cap (at + r.size)
     token-is = sum-of (cap at) s.size at r.size refl f.size
+
     l-is : is_wide s.width ≡ is_wide (r.width a)
     l-is = wide-of s r a at f
+
     r-is : is_wide t.width ≡ is_wide (q.width a)
     r-is = wide-of t q a (at + suc r.size) g
+
     left : (w : ℕ) → in_context s (S.left_wide o (is_wide w) (is_wide s.width) (is_wide t.width)) ≡ first (r.broken a (left_width o w (r.width a) (q.width a)) at)
     left w = ap (in_context s) ((λ i. S.left_wide o (is_wide w) (l-is i) (r-is i)) ∙ left-of o w (r.width a) (q.width a)) ∙ f.broken (left_width o w (r.width a) (q.width a))
+
     right : (w : ℕ) → in_context t (S.right_wide o (is_wide w) (is_wide s.width) (is_wide t.width)) ≡ first (q.broken a (right_width o w (r.width a) (q.width a)) (at + suc r.size))
     right w = ap (in_context t) ((λ i. S.right_wide o (is_wide w) (l-is i) (r-is i)) ∙ right-of o w (r.width a) (q.width a)) ∙ g.broken (right_width o w (r.width a) (q.width a))
+
     too : (w : ℕ) → S.is_too_wide o (is_wide w) (is_wide s.width) (is_wide t.width) ≡ too_wide o w (r.width a) (q.width a)
     too w = (λ i. S.is_too_wide o (is_wide w) (l-is i) (r-is i)) ∙ too-of o w (r.width a) (q.width a)
 
@@ -153,7 +159,7 @@ pub choose-fits : (u s t : Seen) (o r q : Rules) (a : Around) (at : ℕ) → Fit
     → Fits (choose_seen u s t) (expr_rules (VExpr-F.Choose o r q)) a at
 choose-fits u s t o r q a at e f g = record {
   size = sum-of u.size (plus (plus 1 s.size) (plus 1 t.size)) o.size (suc r.size + suc q.size) e.size
-  (sum-of (plus 1 s.size) (plus 1 t.size) (suc r.size) (suc q.size) (one-more s.size r.size f.size) (one-more t.size q.size g.size)) ∙ ap (λ n. cap (o.size + n)) same_size;
+      (sum-of (plus 1 s.size) (plus 1 t.size) (suc r.size) (suc q.size) (one-more s.size r.size f.size) (one-more t.size q.size g.size)) ∙ ap (λ n. cap (o.size + n)) same_size;
   width = (λ i. max (f.width i) (g.width i)) ∙ max-capped (r.width a) (q.width a);
   broken = λ w.
       in-operand (plus u.size (plus (plus 1 s.size) (plus 1 t.size))) (max s.width t.width) (λ b. earlier (S.alone u) (earlier (in_context s b) (in_context t b))) (is_wide w)

@@ -291,6 +291,7 @@ name-fits env items name ss rs at k = record {
     in_both : (s : Seen) (w : Bool) → s.narrow ≡ s.wide → in_context s w ≡ s.wide
     in_both s true e = refl
     in_both s false e = e
+
     firsts : earlier (name_mark (env name) ss (cap at)) ss.first ≡ first (name_broken (thing_in items (env name)) rs at ++ sels_broken rs (around env items) (suc at))
     firsts =
         (λ i. earlier (name-marks items (env name) ss rs (around env items) (suc at) at k i) (k.broken i))

@@ -38,7 +38,7 @@ pub(crate) fn no_items() -> ListSeen
 }
 
 /// How many tokens stand before the item with this number, behind items of so many.
-pub(crate) fn commas(number: usize, size: u32) -> u32
+pub fn commas(number: usize, size: u32) -> u32
     ensures { result ≡ means.commas number size }
 {
     if number == 0 { 0 } else { plus(size, 1) }

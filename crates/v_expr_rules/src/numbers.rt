@@ -42,7 +42,11 @@ pub fn bits_times(count: u32, bits: u32) -> u32
 pub fn bits_capped(bits: u64) -> u32
     ensures { result ≡ means.bits_capped bits }
 {
-    if bits < WIDE { bits as u32 } else { WIDE as u32 }
+    if bits < WIDE {
+        bits as u32
+    } else {
+        WIDE as u32
+    }
 }
 
 /// The bits of `[left:0]`, or one without a range.

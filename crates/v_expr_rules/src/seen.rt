@@ -76,10 +76,5 @@ pub(crate) fn paren_seen(inner: Seen) -> Seen
 pub(crate) fn sign_seen(inner: Seen) -> Seen
     ensures { result ≡ means.sign_seen inner }
 {
-    operand(
-        plus(3, inner.size),
-        inner.width,
-        alone(inner),
-        alone(inner),
-    )
+    operand(plus(3, inner.size), inner.width, alone(inner), alone(inner))
 }

@@ -146,11 +146,7 @@ fn first_sel(first: Option<SelSeen>, sel: SelSeen) -> Option<SelSeen>
     }
 }
 
-fn second_sel(
-    first: Option<SelSeen>,
-    second: Option<SelSeen>,
-    sel: SelSeen,
-) -> Option<SelSeen>
+fn second_sel(first: Option<SelSeen>, second: Option<SelSeen>, sel: SelSeen) -> Option<SelSeen>
     ensures { result ≡ means.second_sel first second sel }
 {
     match first {

@@ -53,7 +53,11 @@ fn sel_seen(scope: &Scope, items: &[VItem], sel: &VSel, at: u32) -> SelSeen
     match sel {
         VSel::Decimal { base, extent } => decimal_sel(*base, *extent, at),
         VSel::Expr { base, extent } => {
-            moving_sel(expr_seen(scope, items, base.get(), plus(at, 1)), *extent, at)
+            moving_sel(
+                expr_seen(scope, items, base.get(), plus(at, 1)),
+                *extent,
+                at,
+            )
         }
     }
 }
@@ -134,9 +138,7 @@ pub fn expr_seen(scope: &Scope, items: &[VItem], expr: &VExpr, at: u32) -> Seen
 {
     match expr {
         VExpr::Prim(a) => prim_seen(scope, items, a, at),
-        VExpr::Unary { op, of } => {
-            unary_seen(*op, prim_seen(scope, items, of, plus(at, 1)), at)
-        }
+        VExpr::Unary { op, of } => { unary_seen(*op, prim_seen(scope, items, of, plus(at, 1)), at) }
         VExpr::Binary { op, left, right } => {
             let a = prim_seen(scope, items, left, at);
             let b = prim_seen(scope, items, right, plus(at, plus(1, a.size)));

@@ -1,0 +1,3 @@
+pub mod TargetsExact
+pub mod Declared
+pub mod StmtsExact
