@@ -57,11 +57,11 @@ pub record StmtExact (t : StmtTold) (r : StmtRules) : Type 0 where
       → StmtFits (t.walk p env items (cap at) met) r (procedure_of p) (around env items) at ds
 
 -- values
-record ValuesFit (v : ValuesSeen) (rs : List Rules) (a : Around) (at : ℕ) : Type 0 where
-  size : v.size ≡ cap (listed_size rs)
-  width : v.width ≡ bits_capped (widest rs a)
-  narrow : (w : ℕ) → is_wide w ≡ false → v.narrow ≡ first (values_at w rs a at)
-  wide : (w : ℕ) → is_wide w ≡ true → v.wide ≡ first (values_at w rs a at)
+pub record ValuesFit (v : ValuesSeen) (rs : List Rules) (a : Around) (at : ℕ) : Type 0 where
+  pub size : v.size ≡ cap (listed_size rs)
+  pub width : v.width ≡ bits_capped (widest rs a)
+  pub narrow : (w : ℕ) → is_wide w ≡ false → v.narrow ≡ first (values_at w rs a at)
+  pub wide : (w : ℕ) → is_wide w ≡ true → v.wide ≡ first (values_at w rs a at)
 
 in-narrow : (s : Seen) (r : Rules) (a : Around) (at w : ℕ) → Fits s r a at → is_wide w ≡ false → s.narrow ≡ first (r.broken a w at)
 in-narrow s r a at w f e = ap (in_context s) (sym e) ∙ f.broken w
@@ -115,7 +115,7 @@ each-exact : (xs : List VExpr) → Each Exact (map expr_seen xs) (map rules_of x
 each-exact [] = none
 each-exact (x ∷ xs) = more (expr-exact x) (each-exact xs)
 
-values-fit : (xs : List VExpr) (env : Env) (items : List VItem) (at : ℕ) → ValuesFit (values_from (map expr_seen xs) env items (cap at) 0 no_values) (map rules_of xs) (around env items) at
+pub values-fit : (xs : List VExpr) (env : Env) (items : List VItem) (at : ℕ) → ValuesFit (values_from (map expr_seen xs) env items (cap at) 0 no_values) (map rules_of xs) (around env items) at
 values-fit xs env items at =
     from-values (map expr_seen xs) (map rules_of xs) env items at no_values [] (each-exact xs)
     (record { size = refl; width = no-bits; narrow = λ w e. refl; wide = λ w e. refl })
@@ -181,7 +181,7 @@ stmts-fit ts rs p env items at met ds es h =
     zero_more : (n : ℕ) → 0 + n ≡ n
     zero_more n = omega arith
 
-plain-exact : (ts : List StmtTold) (rs : List StmtRules) → Each StmtExact ts rs → StmtExact (block_step None ts) (block_rules None rs)
+pub plain-exact : (ts : List StmtTold) (rs : List StmtRules) → Each StmtExact ts rs → StmtExact (block_step None ts) (block_rules None rs)
 plain-exact ts rs es = record {
   labels = λ to at. labels-of ts rs to (suc at) es;
   parts = λ at. parts-of ts rs (suc at) es;
@@ -206,7 +206,7 @@ same-around items ts rs ls from at env es =
     ∙ sym (inside-append (R.locals_from ls from) (blocks_in rs at) (things items env)) in
     λ i. record { scope = scopes i; leads_back = λ name. false }
 
-swap : (a m n : Option ℕ) → earlier a (earlier m n) ≡ earlier m (earlier a n)
+pub swap : (a m n : Option ℕ) → earlier a (earlier m n) ≡ earlier m (earlier a n)
 swap a m n = sym (earlier-assoc a m n) ∙ ap (λ x. earlier x n) (earlier-comm a m) ∙ earlier-assoc m a n
 
 named-fits : (l : VLabel) (ts : List StmtTold) (rs : List StmtRules) → Each StmtExact ts rs → (p : Procedure) (env : Env) (items : List VItem) (at : ℕ) (met : Env) (ds : List Declared) → Meets met ds
@@ -247,7 +247,7 @@ named-fits l ts rs es p env items at met ds h =
       met = meets-more met ds d h;
     }
 
-named-exact : (l : VLabel) (ts : List StmtTold) (rs : List StmtRules) → Each StmtExact ts rs → StmtExact (block_step (Some l) ts) (block_rules (Some l) rs)
+pub named-exact : (l : VLabel) (ts : List StmtTold) (rs : List StmtRules) → Each StmtExact ts rs → StmtExact (block_step (Some l) ts) (block_rules (Some l) rs)
 named-exact l ts rs es = record {
   labels = λ to at. refl;
   parts = λ at. (refl, tt);
@@ -255,7 +255,7 @@ named-exact l ts rs es = record {
 }
 
 -- branches
-abbrev ElseExact : Option StmtTold → Option StmtRules → Type 0
+abbrev pub ElseExact : Option StmtTold → Option StmtRules → Type 0
 ElseExact None None = Unit {0}
 ElseExact (Some t) (Some r) = StmtExact t r
 ElseExact None (Some r) = ⊥
@@ -282,10 +282,10 @@ else-fits (Some t) (Some r) e p env items at met ds h =
     let f = subst (λ n. StmtFits (t.walk p env items n met) r (procedure_of p) (around env items) (suc at) ds) (sym (next-token at)) (e.walk p env items (suc at) met ds h) in
     record { size = one-more (t.walk p env items (plus (cap at) 1) met).seen.size r.size f.size; broken = f.broken; met = f.met }
 
-expr-at : (x : VExpr) (env : Env) (items : List VItem) (n at : ℕ) → n ≡ cap at → Fits (expr_seen x env items n) (rules_of x) (around env items) at
+pub expr-at : (x : VExpr) (env : Env) (items : List VItem) (n at : ℕ) → n ≡ cap at → Fits (expr_seen x env items n) (rules_of x) (around env items) at
 expr-at x env items n at e = subst (λ m. Fits (expr_seen x env items m) (rules_of x) (around env items) at) (sym e) (expr-exact x env items at)
 
-stmt-at : (t : StmtTold) (r : StmtRules) → StmtExact t r → (p : Procedure) (env : Env) (items : List VItem) (n at : ℕ) (met : Env) (ds : List Declared) → n ≡ cap at → Meets met ds
+pub stmt-at : (t : StmtTold) (r : StmtRules) → StmtExact t r → (p : Procedure) (env : Env) (items : List VItem) (n at : ℕ) (met : Env) (ds : List Declared) → n ≡ cap at → Meets met ds
     → StmtFits (t.walk p env items n met) r (procedure_of p) (around env items) at ds
 stmt-at t r e p env items n at met ds is h = subst (λ m. StmtFits (t.walk p env items m met) r (procedure_of p) (around env items) at ds) (sym is) (e.walk p env items at met ds h)
 
@@ -328,7 +328,7 @@ if-fits on t r o q e g p env items at met ds h =
       met = subst (λ (es : List Declared). Meets two.met es) (sym (afters-append (r.blocks (at + (3 + tr.size))) (er.blocks (at + (3 + (tr.size + r.size)))) ds)) m.met;
     }
 
-if-exact : (on : VExpr) (t : StmtTold) (r : StmtRules) (o : Option StmtTold) (q : Option StmtRules) → StmtExact t r → ElseExact o q
+pub if-exact : (on : VExpr) (t : StmtTold) (r : StmtRules) (o : Option StmtTold) (q : Option StmtRules) → StmtExact t r → ElseExact o q
     → StmtExact (stmt_step (VStmt-F.If on t o)) (stmt_rules (VStmt-F.If on r q))
 if-exact on t r o q e g = record {
   labels = λ to at.
@@ -370,5 +370,5 @@ assign-fits target value later p env items at met ds h =
       met = h;
     }
 
-assign-exact : (target : VLval) (value : VExpr) (later : Bool) → StmtExact (stmt_step (VStmt-F.Assign target value later)) (stmt_rules (VStmt-F.Assign target value later))
+pub assign-exact : (target : VLval) (value : VExpr) (later : Bool) → StmtExact (stmt_step (VStmt-F.Assign target value later)) (stmt_rules (VStmt-F.Assign target value later))
 assign-exact target value later = record { labels = λ to at. sym (append-nil to); parts = λ at. tt; walk = assign-fits target value later }
