@@ -11,7 +11,7 @@ mod walk;
 
 pub use lists::{ListSeen, commas, is_function};
 pub use names::{is_net, name_bits, name_mark};
-pub use numbers::{bits_plus, earlier, mark, plus, range_bits};
+pub use numbers::{bits_of, bits_plus, earlier, mark, plus, range_bits};
 pub use operations::Operation;
 pub use seen::{Seen, alone, in_context, is_wide};
 pub use sels::{SelSeen, SelsSeen};

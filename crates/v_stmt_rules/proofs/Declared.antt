@@ -117,7 +117,7 @@ inside-append xs ys o = λ i n. inside-at xs ys o n i
 abbrev pub things : List VItem → Env → Scope
 things items env = λ n. thing_in items (env n)
 
-thing-if : (items : List VItem) (b : Bool) (e : Entry) (o : Option Entry) (t : Thing) (u : Option Thing) → thing_in items (Some e) ≡ Some t → thing_in items o ≡ u
+pub thing-if : (items : List VItem) (b : Bool) (e : Entry) (o : Option Entry) (t : Thing) (u : Option Thing) → thing_in items (Some e) ≡ Some t → thing_in items o ≡ u
     → thing_in items (if b then Some e else o) ≡ (if b then Some t else u)
 thing-if items true e o t u is rest = is
 thing-if items false e o t u is rest = rest
