@@ -19,12 +19,11 @@ pub leave-step : (mark : ℕ) (now rest : List Hidden) (last : Hidden) (env new 
     → (undone (drop mark rest) new ≡ undone (drop mark now) env) × (take mark rest ≡ take mark now)
 leave-step mark now rest last env new more now_is new_is =
     let long : length now ≡ length rest + 1 = ap length now_is ∙ length-append rest (last ∷ []) in
-    let low : mark ≤ length rest = omega (arith, more, long) in
-    (
+    let low : mark ≤ length rest = omega (arith, more, long) in (
       ap (undone (drop mark rest)) new_is
-      ∙ sym (undone-push (drop mark rest) last env)
-      ∙ sym (ap (λ (hs : List Hidden). undone hs env) (drop-append-le mark rest (last ∷ []) low))
-      ∙ sym (ap (λ (hs : List Hidden). undone (drop mark hs) env) now_is),
+          ∙ sym (undone-push (drop mark rest) last env)
+          ∙ sym (ap (λ (hs : List Hidden). undone hs env) (drop-append-le mark rest (last ∷ []) low))
+          ∙ sym (ap (λ (hs : List Hidden). undone (drop mark hs) env) now_is),
       sym (take-append-le mark rest (last ∷ []) low) ∙ sym (ap (take mark) now_is),
     )
 
@@ -69,7 +68,7 @@ pub left : (outer inner after : Scope) → Within outer inner → found after �
     → hidden_in after ≡ take (length (hidden_in outer)) (hidden_in inner) → (found after ≡ found outer) × (hidden_in after ≡ hidden_in outer)
 left outer inner after w is kept = (
   is
-  ∙ ap (λ (hs : List Hidden). undone hs (found inner)) (ap (drop (length (hidden_in outer))) w.further ∙ drop-append_seam (hidden_in outer) w.names)
-  ∙ w.back,
+      ∙ ap (λ (hs : List Hidden). undone hs (found inner)) (ap (drop (length (hidden_in outer))) w.further ∙ drop-append_seam (hidden_in outer) w.names)
+      ∙ w.back,
   kept ∙ ap (take (length (hidden_in outer))) w.further ∙ take-append_seam (hidden_in outer) w.names,
 )

@@ -75,19 +75,19 @@ values-item xs t r e = record {
   labels = λ to at. e.labels to (at + suc (listed_size (map rules_of xs)));
   parts = λ at. e.parts (at + suc (listed_size (map rules_of xs)));
   walk = λ p env items at met ds h. (
-    let k = values-fit xs env items at in
-    let v = values_from (map expr_seen xs) env items (cap at) 0 no_values in
-    let from = plus (cap at) (plus 1 v.size) in
-    let from_is : from ≡ cap (at + suc (listed_size (map rules_of xs))) = sum-of (cap at) (plus 1 v.size) at (suc (listed_size (map rules_of xs))) refl (one-more v.size (listed_size (map rules_of xs)) k.size) in
-    let f = stmt-at t r e p env items from (at + suc (listed_size (map rules_of xs))) met ds from_is h in
-    let one = t.walk p env items from met in
-    record {
-      size_is = sum-of v.size (plus 1 one.seen.size) (listed_size (map rules_of xs)) (suc r.size) k.size (one-more one.seen.size r.size f.size);
-      width_is = k.width;
-      values_are = λ w. chosen v one.seen (map rules_of xs) (around env items) at k w (is_wide w) refl;
-      bodies_are = f.broken;
-      met = f.met;
-    });
+      let k = values-fit xs env items at in
+      let v = values_from (map expr_seen xs) env items (cap at) 0 no_values in
+      let from = plus (cap at) (plus 1 v.size) in
+      let from_is : from ≡ cap (at + suc (listed_size (map rules_of xs))) = sum-of (cap at) (plus 1 v.size) at (suc (listed_size (map rules_of xs))) refl (one-more v.size (listed_size (map rules_of xs)) k.size) in
+      let f = stmt-at t r e p env items from (at + suc (listed_size (map rules_of xs))) met ds from_is h in
+      let one = t.walk p env items from met in
+      record {
+        size_is = sum-of v.size (plus 1 one.seen.size) (listed_size (map rules_of xs)) (suc r.size) k.size (one-more one.seen.size r.size f.size);
+        width_is = k.width;
+        values_are = λ w. chosen v one.seen (map rules_of xs) (around env items) at k w (is_wide w) refl;
+        bodies_are = f.broken;
+        met = f.met;
+      });
 }
 
 default-item : (t : StmtTold) (r : StmtRules) → StmtExact t r → ItemExact (item_step (VCaseItem-F.Default t)) (item_rules (VCaseItem-F.Default r))
@@ -95,15 +95,15 @@ default-item t r e = record {
   labels = λ to at. e.labels to (at + 2);
   parts = λ at. e.parts (at + 2);
   walk = λ p env items at met ds h. (
-    let f = stmt-at t r e p env items (plus (cap at) 2) (at + 2) met ds (plus-cap at 2) h in
-    let one = t.walk p env items (plus (cap at) 2) met in
-    record {
-      size_is = sum-of 2 one.seen.size 2 r.size refl f.size;
-      width_is = no-bits;
-      values_are = λ w. no-values one.seen (is_wide w);
-      bodies_are = f.broken;
-      met = f.met;
-    });
+      let f = stmt-at t r e p env items (plus (cap at) 2) (at + 2) met ds (plus-cap at 2) h in
+      let one = t.walk p env items (plus (cap at) 2) met in
+      record {
+        size_is = sum-of 2 one.seen.size 2 r.size refl f.size;
+        width_is = no-bits;
+        values_are = λ w. no-values one.seen (is_wide w);
+        bodies_are = f.broken;
+        met = f.met;
+      });
 }
 
 -- items one behind the other

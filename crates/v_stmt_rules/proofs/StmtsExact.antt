@@ -178,6 +178,7 @@ stmts-fit ts rs p env items at met ds es h =
   where
     at_zero : (n : ℕ) → n + 0 ≡ n
     at_zero n = omega arith
+
     zero_more : (n : ℕ) → 0 + n ≡ n
     zero_more n = omega arith
 
@@ -237,7 +238,7 @@ named-fits l ts rs es p env items at met ds h =
     let broken = stmts_broken rs (procedure_of p) a (at + (3 + locals_size l.locals)) in
     record {
       size = sum-of 4 (plus locals.seen.size body.seen.size) 4 (locals_size l.locals + stmts_size rs) refl
-      (sum-of locals.seen.size body.seen.size (locals_size l.locals) (stmts_size rs) k.size_is f.size_is);
+          (sum-of locals.seen.size body.seen.size (locals_size l.locals) (stmts_size rs) k.size_is f.size_is);
       broken =
           (λ i. earlier (named i) (earlier ((k.first_is ∙ none-earlier (first (repeated [] own))) i) ((f.broken ∙ none-earlier (earlier (first (repeated (afters own []) bs)) (first broken))) i)))
           ∙ ap (earlier (first (repeated ds (d ∷ []))))
@@ -316,7 +317,7 @@ if-fits on t r o q e g p env items at met ds h =
     let z = first (alone tr (around env items) (at + 2)) in
     record {
       size = sum-of 3 (plus test.size (plus one.seen.size two.seen.size)) 3 (tr.size + (r.size + er.size)) refl
-      (sum-of test.size (plus one.seen.size two.seen.size) tr.size (r.size + er.size) f.size (sum-of one.seen.size two.seen.size r.size er.size k.size m.size));
+          (sum-of test.size (plus one.seen.size two.seen.size) tr.size (r.size + er.size) f.size (sum-of one.seen.size two.seen.size r.size er.size k.size m.size));
       broken =
           (λ i. earlier (alone-of test tr (around env items) (at + 2) f i) (earlier (k.broken i) (m.broken i)))
           ∙ ap (earlier z) (weave b c x y)
