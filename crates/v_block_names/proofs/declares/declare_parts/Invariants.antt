@@ -1,0 +1,11 @@
+use Rattle.std.proofs.Common.{◌≡◌, ◌≤◌, length, drop}
+use Rattle.v_scopes.specs.Env.{found, Within}
+use Rattle.v_block_names.specs.Blocks.{parts_given}
+use Rattle.v_block_names.proofs.declares.declare_parts.Given as goal
+
+abbrev pub invariant-loop-at : goal.invariant-loop-at
+invariant-loop-at l =
+    (l.at ≤ length l.names) × (found l.scope ≡ parts_given (drop l.at l.names) (found l.fn.scope)) × Within l.fn.scope l.scope
+
+abbrev pub decreases-loop-at : goal.decreases-loop-at
+decreases-loop-at l = l.at

@@ -1,0 +1,4 @@
+pub mod SignalsExact
+pub mod ProcessesExact
+pub mod FunctionsExact
+pub mod InstancesExact

@@ -1,0 +1,3 @@
+pub mod NamesExact
+pub mod ModulesExact
+pub mod Tabling

@@ -1,0 +1,4 @@
+pub mod ModuleNames
+pub mod Tables
+pub mod Items
+pub mod Plain

@@ -1,0 +1,4 @@
+pub mod TargetsExact
+pub mod Declared
+pub mod StmtsExact
+pub mod CasesExact
