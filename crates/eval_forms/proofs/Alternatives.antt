@@ -1,6 +1,6 @@
 -- `inside`: what its alternatives ask, and what they give.
-use Rattle.std.proofs.Common.{◌≡◌, ℕ, ◌+◌, ◌<◌, ◌≤◌, suc, Bool, List, [], ◌∷◌, ◌++◌, map, flat_map, drop, length, get_or, Option, Some, None, refl, arith, ap, sym, ◌∙◌, subst, rules}
-use Rattle.std.proofs.lemmas.List.{map-append, length-map, length-append, drop-map}
+use Rattle.std.proofs.Common.{◌≡◌, ℕ, ◌+◌, ◌<◌, ◌≤◌, suc, ◌-◌, Bool, List, [], ◌∷◌, ◌++◌, map, flat_map, take, drop, length, get_or, Option, Some, None, refl, arith, ap, sym, ◌∙◌, subst, rules}
+use Rattle.std.proofs.lemmas.List.{map-append, length-map, length-append, length-drop, drop-map, take_all}
 use Rattle.std.proofs.Math.Seq.{drop-append_seam, drop-cons}
 use Rattle.std.proofs.Math.Numerals.{add-one}
 use Rattle.b4_core.specs.declared.bit.Bit4.{Bit4}
@@ -17,7 +17,7 @@ use Rattle.sv_types.specs.declared.expression.Choice.{Choice, Choice-F, out-Choi
 use Rattle.sv_types.specs.declared.expression.Choice.TheVariants as C
 use Rattle.sv_types.specs.Layouts.{Layout, layout}
 use Rattle.sv_types.specs.Surroundings.{Around, Tally, Stop, Parameter, onward}
-use Rattle.sv_types.specs.Meanings.{Meaning, Operand, values_all}
+use Rattle.sv_types.specs.Meanings.{Meaning, Operand, values_all, wide}
 use Rattle.sv_types.specs.Operators as O
 use Rattle.sv_types.specs.Operators.{Alternative, both_wide, both_signed, is_inside, inside_operands}
 use Rattle.sv_types.specs.Expressions.{meaning}
@@ -212,3 +212,50 @@ later-tests x c cs vs t =
 pub enough-tests : (x : Expr) (c : Choice) (vs : List (List Bit4)) → TestFits x c vs → length (asks x c) ≤ length vs
 enough-tests x c vs t =
     omega (arith, sym (length-map vs length), ap length t.lengths, length-append (widths_asked (asks x c)) t.later, length-map (asks x c) (λ (q : Asked). width_asked q.ask (meaning q.of)))
+
+-- a single value, and a range, by what was asked
+two : (vs : List (List Bit4)) (p q : List Bit4) (m n : ℕ) (ns : List ℕ) → map length vs ≡ m ∷ n ∷ ns → p ≡ get_or vs 0 p → q ≡ get_or vs 1 q → equality Wild p q ≡ wild_test vs
+two [] p q m n ns all isp isq = absurd (cc)
+two (u ∷ []) p q m n ns all isp isq = absurd (let e : [] ≡ n ∷ ns = cc in cc)
+two (u ∷ v ∷ vs) p q m n ns all isp isq = ap (λ (b : List Bit4). equality Wild b q) isp ∙ ap (λ (b : List Bit4). equality Wild u b) isq
+
+four : (l h : Bool) (vs : List (List Bit4)) (p q r u : List Bit4) (m n k j : ℕ) (ns : List ℕ) → map length vs ≡ m ∷ n ∷ k ∷ j ∷ ns → p ≡ get_or vs 0 p → q ≡ get_or vs 1 q → r ≡ get_or vs 2 r → u ≡ get_or vs 3 u
+    → and4 (order_value GreaterEqual l p q) (order_value LessEqual h r u) ≡ range_test l h vs
+four l h [] p q r u m n k j ns all isp isq isr isu = absurd (cc)
+four l h (a ∷ []) p q r u m n k j ns all isp isq isr isu = absurd (let e : [] ≡ n ∷ k ∷ j ∷ ns = cc in cc)
+four l h (a ∷ b ∷ []) p q r u m n k j ns all isp isq isr isu = absurd (let e : length b ∷ [] ≡ n ∷ k ∷ j ∷ ns = cc in let g : [] ≡ k ∷ j ∷ ns = cc in cc)
+four l h (a ∷ b ∷ c ∷ []) p q r u m n k j ns all isp isq isr isu =
+    absurd (let e : length b ∷ length c ∷ [] ≡ n ∷ k ∷ j ∷ ns = cc in let g : length c ∷ [] ≡ k ∷ j ∷ ns = cc in let f : [] ≡ j ∷ ns = cc in cc)
+four l h (a ∷ b ∷ c ∷ d ∷ vs) p q r u m n k j ns all isp isq isr isu =
+    ap (λ (y : List Bit4). and4 (order_value GreaterEqual l y q) (order_value LessEqual h r u)) isp
+    ∙ ap (λ (y : List Bit4). and4 (order_value GreaterEqual l a y) (order_value LessEqual h r u)) isq
+    ∙ ap (λ (y : List Bit4). and4 (order_value GreaterEqual l a b) (order_value LessEqual h y u)) isr
+    ∙ ap (λ (y : List Bit4). and4 (order_value GreaterEqual l a b) (order_value LessEqual h c y)) isu
+
+lens-range : (x low high : Expr) (c : Choice) (vs : List (List Bit4)) → c ≡ C.Range low high → (t : TestFits x c vs)
+    → map length vs ≡ both_wide (meaning x) (meaning low) ∷ both_wide (meaning x) (meaning low) ∷ both_wide (meaning x) (meaning high) ∷ both_wide (meaning x) (meaning high) ∷ t.later
+lens-range x low high c vs is t = t.lengths ∙ ap (λ o. widths_asked (choice_asked x o) ++ t.later) (ap out-Choice is ∙ out-Range low high)
+
+pub test-range : (x low high : Expr) (c : Choice) (vs : List (List Bit4)) (p q r u : List Bit4) (b : Bit4) → c ≡ C.Range low high → TestFits x c vs
+    → p ≡ get_or vs 0 p → q ≡ get_or vs 1 q → r ≡ get_or vs 2 r → u ≡ get_or vs 3 u
+    → b ≡ and4 (order_value GreaterEqual (both_signed (meaning x) (meaning low)) p q) (order_value LessEqual (both_signed (meaning x) (meaning high)) r u) → b ≡ test_of x (out-Choice c) vs
+test-range x low high c vs p q r u b is t isp isq isr isu made =
+    made ∙ four (both_signed (meaning x) (meaning low)) (both_signed (meaning x) (meaning high)) vs p q r u _ _ _ _ t.later (lens-range x low high c vs is t) isp isq isr isu
+    ∙ ap (λ o. test_of x o vs) (sym (ap out-Choice is ∙ out-Range low high))
+
+-- all but the first of what was asked
+all-but-first : (vs : List (List Bit4)) → take (length vs - 1) (drop 1 vs) ≡ drop 1 vs
+all-but-first vs = take_all (length vs - 1) (drop 1 vs) (omega (arith, length-drop 1 vs))
+
+pub inside-ready : (e x : Expr) (cs : List Choice) (w : ℕ) (s : Bool) (vs : List (List Bit4)) (y : Expr) (ds : List Choice) → e.form ≡ V.Inside x cs → y ≡ x → ds ≡ cs → Operands e w s vs → TestsFit y ds (take (length vs - 1) (drop 1 vs))
+inside-ready e x cs w s vs y ds is isx iscs o =
+    subst (λ z. TestsFit z ds (take (length vs - 1) (drop 1 vs))) (sym isx)
+    (subst (λ bs. TestsFit x bs (take (length vs - 1) (drop 1 vs))) (sym iscs) (subst (TestsFit x cs) (sym (all-but-first vs)) (record {
+      formals = o.formals;
+      fits = (I.inside-fits e x cs o.formals w is o.fits).choices;
+      lengths = sym (drop-map length 1 vs)
+          ∙ ap (drop 1) (o.lengths ∙ ap widths_asked (sym (S.asked-by e (V.Inside x cs) (Form-F.Inside x cs) o.formals w s is (out-Inside x cs))));
+    })))
+
+pub tested-by : (x y : Expr) (cs ds : List Choice) (vs : List (List Bit4)) (bs : List Bit4) → y ≡ x → ds ≡ cs → bs ≡ tests_of y ds (take (length vs - 1) (drop 1 vs)) → bs ≡ tests_of x cs (drop 1 vs)
+tested-by x y cs ds vs bs isx iscs is = is ∙ ap (λ z. tests_of z ds (take (length vs - 1) (drop 1 vs))) isx ∙ ap (λ es. tests_of x es (take (length vs - 1) (drop 1 vs))) iscs ∙ ap (tests_of x cs) (all-but-first vs)

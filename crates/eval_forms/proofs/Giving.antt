@@ -30,9 +30,8 @@ slices-keep (suc steps) n (b ∷ v) some h =
     let less : length rest ≤ steps = omega (arith, length-drop n (b ∷ v)) in
     omega (arith, length-append (stacked (slices steps n rest)) (take n (b ∷ v)), slices-keep steps n rest some less, length-drop n (b ∷ v), length-take n (b ∷ v))
 
-some-by : (b : Bool) (n : ℕ) → (n == 0) ≡ b → b ≡ false → 0 < n
-some-by true n is no = absurd (cc)
-some-by false n is no = grind (arith, nat_tests)
+some-by : (n : ℕ) → (n == 0) ≡ false → 0 < n
+some-by n is = grind (arith, nat_tests)
 
 none-by : (n : ℕ) → (n == 0) ≡ true → n ≡ 0
 none-by n is = grind (arith, nat_tests)
@@ -52,10 +51,10 @@ stream-low true slice w c v long low = reversed-low (slice == 0) refl
         ap (λ (q : Bool). cond q [] (take w (ext c false (streamed true slice v)))) is ∙ sym (no-slices v) ∙ ap (λ n. streamed true n v) (sym (none-by slice is))
     reversed-low false is =
         ap (λ (q : Bool). cond q [] (take w (ext c false (streamed true slice v)))) is
-        ∙ at-low-end w c (streamed true slice v) (slices-keep (length v) slice v (some-by false slice is refl) (omega arith) ∙ long) low
+        ∙ at-low-end w c (streamed true slice v) (slices-keep (length v) slice v (some-by slice is) (omega arith) ∙ long) low
 
 -- the type of a stream has its width
-width-by : (b c : Bool) (n w : ℕ) → (n == w) ≡ b → cond (b && c) 0 1 ≡ 0 → n ≡ w
+width-by : (b c : Bool) (n w : ℕ) → (n == w) ≡ b → cond {A = ℕ} (b && c) 0 1 ≡ 0 → n ≡ w
 width-by true c n w is h = grind (arith, nat_tests)
 width-by false c n w is h = absurd (omega arith)
 
@@ -84,7 +83,7 @@ given-in of at reversed slice es n total v bits r typed own low made = record {
       let st = streamed reversed slice (joined ms a) in
       let fits : w ≤ c = omega (arith, same, own) in
       let is : bits ≡ st = low ∙ ap (λ u. cond (reversed && (slice == 0)) [] (take total u)) h ∙ ap (λ k. cond (reversed && (slice == 0)) [] (take k (ext c false st))) same
-          ∙ stream-low reversed slice w c (joined ms a) (all-long es a) fits in
+      ∙ stream-low reversed slice w c (joined ms a) (all-long es a) fits in
       made ∙ ap (λ k. replicate (n - k) Zero ++ drop (k - n) bits) same ∙ ap (λ u. replicate (n - w) Zero ++ drop (w - n) u) is;
 }
 

@@ -83,12 +83,12 @@ turn-next ps es vs i made new e p v g h is there hv isv given more t = record {
       let values : drop i es ≡ e ∷ fs = at-front es i e h is in
       let before = t.value a all in
       let here : drop i vs ≡ m.value (assigned_width p m) (signed m) a ∷ all_bits (assigned_asked qs fs) a =
-          before.0 ∙ ap (λ xs. all_bits (assigned_asked xs (drop i es)) a) places ∙ ap (λ ys. all_bits (assigned_asked (p ∷ qs) ys) a) values in
+      before.0 ∙ ap (λ xs. all_bits (assigned_asked xs (drop i es)) a) places ∙ ap (λ ys. all_bits (assigned_asked (p ∷ qs) ys) a) values in
       let both = split (drop i vs) (drop (i + 1) vs) (all_bits (assigned_asked qs fs) a) v (m.value (assigned_width p m) (signed m) a) (at-front vs i v hv isv) here in
       let later = assigned qs (map meaning fs) a in (
         both.1,
         ap (λ xs. xs ++ later) more ∙ append_assoc made (stored p g ∷ []) later ∙ ap (λ u. made ++ (stored p u ∷ later)) (given.value a both.0)
-        ∙ ap (λ xs. made ++ assigned xs (map meaning (e ∷ fs)) a) (sym places) ∙ ap (λ ys. made ++ assigned (drop i ps) (map meaning ys) a) (sym values) ∙ before.1,
+            ∙ ap (λ xs. made ++ assigned xs (map meaning (e ∷ fs)) a) (sym places) ∙ ap (λ ys. made ++ assigned (drop i ps) (map meaning ys) a) (sym values) ∙ before.1,
       );
 }
 

@@ -1,8 +1,9 @@
 -- Expressions that are neither select paths nor calls.
-use Rattle.std.specs.Prelude.{◌≡◌, true, false, Bool}
+use Rattle.std.specs.Prelude.{◌≡◌, ℕ, true, false, Bool, List, Option, Some, None}
 use Rattle.sv_types.specs.declared.expression.Expr.{Expr}
 use Rattle.sv_types.specs.declared.expression.Choice.{Choice}
 use Rattle.sv_types.specs.declared.expression.Form.{Form, Form-F, out-Form}
+use Rattle.sv_types.specs.declared.expression.Form.TheVariants as V
 use Rattle.eval_parts.specs.Steps.{is_path}
 
 -- whether a form is a call
@@ -39,3 +40,8 @@ is_call (Form-F.Stream reversed n es) = false
 pub record IsOperator (e : Expr) : Type 0 where
   pub no_path : is_path (out-Form e.form) ≡ false
   pub no_call : is_call (out-Form e.form) ≡ false
+
+-- the place of the function that an expression calls, if it is a call
+abbrev pub IsCallOf : Option ℕ → Expr → Type 0
+IsCallOf None e = is_call (out-Form e.form) ≡ false
+IsCallOf (Some f) e = (es : List Expr) × (e.form ≡ V.Call f es)

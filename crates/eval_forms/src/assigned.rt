@@ -31,12 +31,7 @@ fn bits_of_stream(
 
 /// What an expression gives to a target of so many bits, from its value at the larger of this width and its own: the value,
 /// cut; of a stream its bits from the top on, and 0 below them.
-pub fn given_bits(
-    alloc: Global,
-    e: &Expr,
-    width: u32,
-    value: &Vec4,
-) -> Result<Vec4, AllocError>
+pub fn given_bits(alloc: Global, e: &Expr, width: u32, value: &Vec4) -> Result<Vec4, AllocError>
     requires { IsGivenFrom (meaning e.now) width value.now }
     ensures { IfOk result (λ r. GivenBy (meaning e.now) width value.now r) }
 {

@@ -29,8 +29,18 @@ fn test(x: &Expr, choice: &Choice, values: &[Vec4]) -> Bit4
     match choice {
         Choice::Value(_) => equal(EqOp::Wild, &values[0], &values[1]),
         Choice::Range(low, high) => {
-            let above = order(OrdOp::GreaterEqual, &values[0], &values[1], are_signed(x, low));
-            let below = order(OrdOp::LessEqual, &values[2], &values[3], are_signed(x, high));
+            let above = order(
+                OrdOp::GreaterEqual,
+                &values[0],
+                &values[1],
+                are_signed(x, low),
+            );
+            let below = order(
+                OrdOp::LessEqual,
+                &values[2],
+                &values[3],
+                are_signed(x, high),
+            );
             both(above, below)
         }
     }

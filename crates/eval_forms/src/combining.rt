@@ -8,8 +8,8 @@ use crate::assigned::assigned_bits;
 use crate::choices::tests;
 use b4_core::{Vec4, binary, both, either, negate, order, power, reduce, shift, truth, unary};
 use eval_parts::{
-    Places, are_signed, chosen, clog2, converted, equality_bit, extended, filled, in_context, literal,
-    one_bit, own_sign, repeated_in_context, stream_in_context,
+    Places, are_signed, chosen, clog2, converted, equality_bit, extended, filled, in_context,
+    literal, one_bit, own_sign, repeated_in_context, stream_in_context,
 };
 use std::alloc::{AllocError, Global};
 use sv_types::{Expr, Form, bits_of};
@@ -33,9 +33,7 @@ pub fn combine(
     ensures { IfOk result (λ r. Combines e.now width signed values.now r) }
 {
     match &e.form {
-        Form::Literal { bits, goes_on } => {
-            Ok(literal(alloc, bits, *goes_on, width, signed)?)
-        }
+        Form::Literal { bits, goes_on } => { Ok(literal(alloc, bits, *goes_on, width, signed)?) }
         Form::Fill(b) => Ok(filled(alloc, width, *b)?),
         Form::Constant(v) => {
             let held = bits_of(alloc, &e.of, v)?;

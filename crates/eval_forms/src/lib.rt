@@ -12,5 +12,5 @@ mod combining;
 pub use asked::{Ask, Operand};
 pub use asking::operands;
 pub use assigned::{assigned_bits, given_bits};
-pub use callees::formals_of;
+pub use callees::{call_of, formals_of};
 pub use combining::combine;

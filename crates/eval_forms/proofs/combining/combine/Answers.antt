@@ -1,13 +1,17 @@
-use Rattle.std.proofs.Common.{◌∷◌, [], length, ap, sym, ◌∙◌}
+use Rattle.std.proofs.Common.{◌∷◌, [], length, ap, sym, ◌∙◌, subst}
 use Rattle.b4_core.specs.Bits.{and4, or4, not4}
 use Rattle.b4_core.specs.Bitwise.{truth_of}
 use Rattle.b4_core.specs.Vectors.{ext}
 use Rattle.b4_core.specs.Power.{power_value}
 use Rattle.b4_core.specs.Compare.{order_value}
-use Rattle.sv_types.specs.Layouts.{layout, width_of, stored}
+use Rattle.sv_types.specs.Layouts.{layout, width_of, stored, stacked}
 use Rattle.sv_types.specs.Meanings.{signed}
-use Rattle.sv_types.specs.Operators.{both_signed, chosen}
+use Rattle.sv_types.specs.Operators.{both_signed, chosen, parts_of}
 use Rattle.sv_types.specs.Expressions.{meaning}
+use Rattle.eval_parts.specs.Targets.{marks_of_parts}
+use Rattle.eval_forms.specs.Assigned.{PlacesFit, AssignedBy}
+use Rattle.eval_forms.proofs.Alternatives.{inside-ready, tested-by, combines-Inside}
+use Rattle.eval_forms.proofs.Placing.{pattern-narrow, pattern-ready, combines-Pattern}
 use Rattle.eval_forms.proofs.Combined as C
 use Rattle.eval_forms.proofs.combining.combine.Goals as goal
 
@@ -114,3 +118,27 @@ pub returns-in_ok-extended-in-Constant : goal.returns-in_ok-extended-in-Constant
 returns-in_ok-extended-in-Constant c =
     C.combines-Constant c.args.e.now _ c.args.width c.args.signed c.args.values.now c.in_ok-extended-in-Constant.field-0 c.in-Constant.is
     (c.in_ok-extended-in-Constant.ensures ∙ ap (ext c.args.width c.args.signed) c.in_ok-held-in-Constant.ensures)
+
+pub tests-requires : goal.tests-requires
+tests-requires c =
+    inside-ready c.args.e.now _ _ c.args.width c.args.signed c.args.values.now c.get-in-Inside.result.now c.as_slice-in-Inside.result.now c.in-Inside.is c.get-in-Inside.ensures c.as_slice-in-Inside.ensures c.requires.operands
+
+pub returns-in_ok-one_bit-in-Inside : goal.returns-in_ok-one_bit-in-Inside
+returns-in_ok-one_bit-in-Inside c =
+    combines-Inside c.args.e.now c.in-Inside.x c.in-Inside.choices c.args.width c.args.signed c.args.values.now c.in_ok-tested-in-Inside.tested c.in_ok-one_bit-in-Inside.field-0 c.in-Inside.is
+    (tested-by c.in-Inside.x c.get-in-Inside.result.now c.in-Inside.choices c.as_slice-in-Inside.result.now c.args.values.now c.in_ok-tested-in-Inside.tested c.get-in-Inside.ensures c.as_slice-in-Inside.ensures c.in_ok-tested-in-Inside.ensures)
+    (c.in_ok-one_bit-in-Inside.ensures ∙ ap (λ b. ext c.args.width c.args.signed (b ∷ [])) c.truth-in-Inside.ensures)
+
+pub assigned_bits-requires-clause-places : goal.assigned_bits-requires-clause-places
+assigned_bits-requires-clause-places c = pattern-narrow c.args.e.now c.args.width c.args.signed c.args.values.now c.requires.operands
+
+pub assigned_bits-requires-clause-fit : goal.assigned_bits-requires-clause-fit
+assigned_bits-requires-clause-fit c =
+    subst (λ es. PlacesFit (marks_of_parts (parts_of (layout c.args.e.now.of))) es c.args.values.now) (sym c.as_slice-in-Pattern.ensures)
+    (pattern-ready c.args.e.now _ c.args.width c.args.signed c.args.values.now c.in-Pattern.is c.requires.operands)
+
+pub returns-in_ok-in_context-in-Pattern : goal.returns-in_ok-in_context-in-Pattern
+returns-in_ok-in_context-in-Pattern c =
+    combines-Pattern c.args.e.now c.in-Pattern.es c.args.width c.args.signed c.args.values.now c.in_ok-parts-in-Pattern.parts.items c.in_ok-in_context-in-Pattern.field-0 c.in-Pattern.is
+    (subst (λ es. AssignedBy (marks_of_parts (parts_of (layout c.args.e.now.of))) es c.args.values.now c.in_ok-parts-in-Pattern.parts.items) c.as_slice-in-Pattern.ensures c.in_ok-parts-in-Pattern.ensures)
+    (c.in_ok-in_context-in-Pattern.ensures ∙ ap (λ vs. ext c.args.width c.args.signed (stacked vs)) c.deref.ensures.value)
