@@ -1,5 +1,6 @@
 -- From operand to operand.
-use Rattle.std.proofs.Common.{◌≡◌, ℕ, zero, suc, ◌+◌, ◌<◌, Bool, List, [], ◌∷◌, ◌++◌, map, Option, Some, None, Ok, Err, refl, ap, sym, ◌∙◌, subst, append_assoc, append-nil}
+use Rattle.std.proofs.Common.{◌≡◌, ℕ, zero, suc, ◌+◌, ◌<◌, Bool, List, [], ◌∷◌, ◌++◌, map, drop, length, get_or, Option, Some, None, Ok, Err, refl, ap, sym, ◌∙◌, subst, append_assoc, append-nil}
+use Rattle.std.proofs.Math.Seq.{drop-cons}
 use Rattle.std.proofs.Math.Numerals.{add-one}
 use Rattle.b4_core.specs.declared.bit.Bit4.{Bit4}
 use Rattle.sv_types.specs.declared.expression.Expr.{Expr}
@@ -65,3 +66,6 @@ halts-next h q qs a old all halts before = subst (Halts h) before (halts-onward 
 
 pub made-all : (a : Around) (made all : List (List Bit4)) → made ++ all_bits [] a ≡ all → made ≡ all
 made-all a made all is = sym (append-nil made) ∙ is
+
+pub at-front : {A : Type 0} (xs : List A) (i : ℕ) (x : A) → i < length xs → x ≡ get_or xs i x → drop i xs ≡ x ∷ drop (i + 1) xs
+at-front xs i x h is = drop-cons xs i x h ∙ ap (λ y. y ∷ drop (suc i) xs) (sym is) ∙ ap (λ k. x ∷ drop k xs) (sym (add-one i))

@@ -1,7 +1,7 @@
 //! The evaluation of expressions. Operands are valued from left to right, all of them, and the first thing that stops the run
 //! ends it.
 
-ghost use Rattle.std.specs.Prelude.{◌≡◌, ◌≤◌};
+ghost use Rattle.std.specs.Prelude.{◌≡◌, ◌≤◌, false};
 ghost use Rattle.sv_types.specs.declared.expression.Form.{out-Form};
 ghost use Rattle.sv_types.specs.Layouts.{layout};
 ghost use Rattle.sv_types.specs.Meanings.{wide};
@@ -38,7 +38,7 @@ pub fn bits(
     budget: &mut Option<u64>,
 ) -> Result<Vec4, Halt>
     requires { Fits (meaning e.now) no_formals width }
-    ensures { Gives result (meaning e.now) width signed (around held) budget.old budget.new }
+    ensures { Gives result (meaning e.now) width signed (around held.entry) budget.old budget.new }
 {
     match step_of(e) {
         Some(step) => {
@@ -64,7 +64,7 @@ fn form_bits(
 ) -> Result<Vec4, Halt>
     requires kind { is_path (out-Form e.now.form) ≡ false }
     requires fits { Fits (meaning e.now) no_formals width }
-    ensures { Gives result (meaning e.now) width signed (around held) budget.old budget.new }
+    ensures { Gives result (meaning e.now) width signed (around held.entry) budget.old budget.new }
 {
     match call_of(e) {
         Some(_) => Ok(extended(alloc, &Vec4::from_vec(Vec::new(alloc)), width, signed)?),
@@ -87,7 +87,7 @@ fn operand_bits(
 ) -> Result<Vec<Vec4>, Halt>
     requires kind { IsOperator e.now }
     requires fits { Fits (meaning e.now) no_formals width }
-    ensures { AskedGive result (form_asked (layout e.now.of) no_formals width signed (out-Form e.now.form)) (around held) budget.old budget.new }
+    ensures { AskedGive result (form_asked (layout e.now.of) no_formals width signed (out-Form e.now.form)) (around held.entry) budget.old budget.new }
 {
     let asks = operands(alloc, e, width, signed, &[])?;
     let start = *budget;
@@ -109,7 +109,7 @@ fn answer(
 ) -> Result<Vec4, Halt>
     requires fits { Fits (meaning operand.of.now) no_formals (width_asked operand.ask (meaning operand.of.now)) }
     requires ready { IsReady operand.ask (meaning operand.of.now) (around held) start }
-    ensures { AnswerGives result (asked operand) (around held) budget.old budget.new }
+    ensures { AnswerGives result (asked operand.entry) (around held.entry) budget.old budget.new }
 {
     match operand.ask {
         Ask::Bits(width, signed) => bits(alloc, held, operand.of, width, signed, budget),
@@ -133,7 +133,7 @@ pub fn find(
     budget: &mut Option<u64>,
 ) -> Result<Found, Halt>
     requires { FitsAlone (meaning e.now) no_formals }
-    ensures { FindGives result (meaning e.now) (around held) budget.old budget.new }
+    ensures { FindGives result (meaning e.now) (around held.entry) budget.old budget.new }
 {
     match step_of(e) {
         Some(step) => follow(alloc, held, e, step, budget),
@@ -155,7 +155,7 @@ fn follow(
 ) -> Result<Found, Halt>
     requires step { IsStep step e.now }
     requires fits { FitsAlone (meaning e.now) no_formals }
-    ensures { FindGives result (meaning e.now) (around held) budget.old budget.new }
+    ensures { FindGives result (meaning e.now) (around held.entry) budget.old budget.new }
 {
     match step {
         Step::Signal(n) => Ok(Found {
@@ -166,7 +166,10 @@ fn follow(
             root: Root::Local(n),
             window: entire(own_width(e)),
         }),
-        Step::Member(from, k) => member_form(&from.of, k, find(alloc, held, from, budget)),
+        Step::Member(from, k) => {
+            let found = find(alloc, held, from, budget);
+            member_form(&from.of, k, found)
+        }
         Step::Index(from, i) => {
             let found = find(alloc, held, from, budget)?;
             let signed = own_sign(i);
@@ -174,7 +177,8 @@ fn follow(
             index_form(&from.of, found, index, signed)
         }
         Step::Part { from, left, right } => {
-            part_form(&from.of, left, right, find(alloc, held, from, budget))
+            let found = find(alloc, held, from, budget);
+            part_form(&from.of, left, right, found)
         }
         Step::Slide {
             from,

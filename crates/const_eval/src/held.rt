@@ -31,8 +31,9 @@ pub fn read_path(
 ) -> Result<Vec4, AllocError>
     requires narrow { (meaning e.now).widest ≤ 4194304 }
     requires near { IsNear found.now.window.shift }
-    ensures { IfOk result (λ r. r ≡ bits_of_path held e.now found.now width signed) }
+    ensures { IfOk result (λ r. r ≡ bits_of_path held.entry e.now found.now width signed) }
 {
     let bits = read(alloc, found, held.signals, held.locals, own_width(e))?;
-    extended(alloc, &store(alloc, &e.of, &bits)?, width, signed)
+    let stored = store(alloc, &e.of, &bits)?;
+    Ok(extended(alloc, &stored, width, signed)?)
 }

@@ -27,10 +27,10 @@ decreases-find l = 5 * nodes l.e.now + 4
 abbrev pub decreases-follow : goal.decreases-follow
 decreases-follow l = 5 * nodes l.e.now + 2
 
-abbrev pub invariant-loop-operand : goal.invariant-loop-operand
-invariant-loop-operand l =
+abbrev pub invariant-operand_bits-loop-operand : goal.invariant-operand_bits-loop-operand
+invariant-operand_bits-loop-operand l =
     let all = asks l.e l.width l.signed in
-    let qs = map asked (drop l.operand-index l.asks.items) in
+    let qs = map asked (drop l.operand-index l.operand-items) in
     let a = around l.held in
     record {
       fits : AllFitAsked no_formals qs;
