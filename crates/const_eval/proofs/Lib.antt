@@ -1,3 +1,4 @@
 pub mod Turns
 pub mod Operators
 pub mod Paths
+pub mod Valued
