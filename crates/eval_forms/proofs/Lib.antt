@@ -5,3 +5,8 @@ pub mod Narrowness
 pub mod OperandLimits
 pub mod Strict
 pub mod Turns
+pub mod Alternatives
+pub mod Giving
+pub mod Placing
+pub mod Uncalled
+pub mod AskedLaws

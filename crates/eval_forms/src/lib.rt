@@ -4,10 +4,13 @@
 
 mod asked;
 mod asking;
+mod assigned;
 mod callees;
+mod choices;
 mod combining;
 
 pub use asked::{Ask, Operand};
 pub use asking::operands;
-pub use callees::formals_of;
+pub use assigned::{assigned_bits, given_bits};
+pub use callees::{call_of, formals_of};
 pub use combining::combine;

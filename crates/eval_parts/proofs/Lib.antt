@@ -22,3 +22,4 @@ pub mod Insides
 pub mod PathLimits
 pub mod Elements
 pub mod PathLaws
+pub mod Plain

@@ -1,7 +1,9 @@
 -- The last step of a select path, and what stands for itself.
-use Rattle.std.specs.Prelude.{◌≡◌, ℕ, Bool, true, cond, List, Option, Some, None, is_some}
+use Rattle.std.specs.Prelude.{◌≡◌, ⊤, ℕ, Bool, true, false, cond, List, Option, Some, None, is_some}
 use Rattle.b4_core.specs.declared.bit.Bit4.{Bit4}
 use Rattle.sv_types.specs.declared.expression.Expr.{Expr}
+use Rattle.sv_types.specs.declared.expression.Choice.{Choice}
+use Rattle.sv_types.specs.declared.expression.Form.{Form, Form-F, out-Form}
 use Rattle.sv_types.specs.declared.expression.Form.TheVariants as V
 use Rattle.sv_types.specs.Windows.{whole}
 use Rattle.sv_types.specs.Surroundings.{Around, is_signal}
@@ -37,3 +39,39 @@ is_held slots n = is_some (slot slots n)
 abbrev pub can_read : Option ℕ → (ℕ → Bool) → Bool
 can_read None holds = true
 can_read (Some n) holds = cond (is_signal n) (holds n) true
+
+-- whether a form is a select path
+abbrev pub is_path : Form-F Choice Form Expr → Bool
+is_path (Form-F.Literal v goes_on) = false
+is_path (Form-F.Fill b) = false
+is_path (Form-F.Constant v) = false
+is_path (Form-F.Signal n) = true
+is_path (Form-F.Local n) = true
+is_path (Form-F.Member x k) = true
+is_path (Form-F.Index x y) = true
+is_path (Form-F.Part x left right) = true
+is_path (Form-F.Slide x y n up) = true
+is_path (Form-F.Unary op x) = false
+is_path (Form-F.Reduce op x) = false
+is_path (Form-F.Negate x) = false
+is_path (Form-F.Binary op x y) = false
+is_path (Form-F.Shift op x y) = false
+is_path (Form-F.Power x y) = false
+is_path (Form-F.Order op x y) = false
+is_path (Form-F.Equal op negated x y) = false
+is_path (Form-F.Both x y) = false
+is_path (Form-F.Either x y) = false
+is_path (Form-F.Choose z x y) = false
+is_path (Form-F.Concat es) = false
+is_path (Form-F.Repeat n es) = false
+is_path (Form-F.Inside x cs) = false
+is_path (Form-F.Cast x) = false
+is_path (Form-F.Clog2 x) = false
+is_path (Form-F.Pattern es) = false
+is_path (Form-F.Call f es) = false
+is_path (Form-F.Stream reversed n es) = false
+
+-- an expression that has no last step is no select path
+abbrev pub IsPlain : Option Step → Expr → Type 0
+IsPlain None e = is_path (out-Form e.form) ≡ false
+IsPlain (Some s) e = ⊤

@@ -2,7 +2,7 @@
 
 ghost use Rattle.std.specs.Prelude.{◌≡◌, ◌<◌, ◌^◌};
 ghost use Rattle.sv_types.specs.Expressions.{meaning};
-ghost use Rattle.eval_parts.specs.Steps.{IsStepOf, is_held, can_read};
+ghost use Rattle.eval_parts.specs.Steps.{IsStepOf, IsPlain, is_held, can_read};
 
 use b4_core::Vec4;
 use sv_types::{Expr, Form};
@@ -41,9 +41,10 @@ pub enum Step<'a> {
 }
 
 /// The last step of an expression that is a select path.
-#[tactic(auto, using(crate::proofs::Valued::valued))]
+#[tactic(auto, using(crate::proofs::Valued::valued, crate::proofs::Plain::plain))]
 pub fn step_of(e: &Expr) -> Option<Step<'_>>
-    ensures { IsStepOf result e.now }
+    ensures step { IsStepOf result e.now }
+    ensures plain { IsPlain result e.now }
 {
     match &e.form {
         Form::Literal { .. } => None,

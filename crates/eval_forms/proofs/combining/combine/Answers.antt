@@ -1,60 +1,64 @@
-use Rattle.std.proofs.Common.{◌∷◌, [], length, ap, sym, ◌∙◌}
+use Rattle.std.proofs.Common.{◌∷◌, [], length, ap, sym, ◌∙◌, subst}
 use Rattle.b4_core.specs.Bits.{and4, or4, not4}
 use Rattle.b4_core.specs.Bitwise.{truth_of}
 use Rattle.b4_core.specs.Vectors.{ext}
 use Rattle.b4_core.specs.Power.{power_value}
 use Rattle.b4_core.specs.Compare.{order_value}
-use Rattle.sv_types.specs.Layouts.{layout, width_of, stored}
+use Rattle.sv_types.specs.Layouts.{layout, width_of, stored, stacked}
 use Rattle.sv_types.specs.Meanings.{signed}
-use Rattle.sv_types.specs.Operators.{both_signed, chosen}
+use Rattle.sv_types.specs.Operators.{both_signed, chosen, parts_of}
 use Rattle.sv_types.specs.Expressions.{meaning}
+use Rattle.eval_parts.specs.Targets.{marks_of_parts}
+use Rattle.eval_forms.specs.Assigned.{PlacesFit, AssignedBy}
+use Rattle.eval_forms.proofs.Alternatives.{inside-ready, tested-by, combines-Inside}
+use Rattle.eval_forms.proofs.Placing.{pattern-narrow, pattern-ready, combines-Pattern}
 use Rattle.eval_forms.proofs.Combined as C
 use Rattle.eval_forms.proofs.combining.combine.Goals as goal
 
 pub unary-requires-clause-narrow : goal.unary-requires-clause-narrow
-unary-requires-clause-narrow c = C.ready-Unary c.args.e.now _ _ c.args.width c.args.signed c.args.values.now c.index-values-0.result c.in-Unary.is c.requires c.index-values-0.is
+unary-requires-clause-narrow c = C.ready-Unary c.args.e.now _ _ c.args.width c.args.signed c.args.values.now c.index-values-0.result c.in-Unary.is c.requires.operands c.index-values-0.is
 
 pub reduce-requires : goal.reduce-requires
-reduce-requires c = C.ready-Reduce c.args.e.now _ _ c.args.width c.args.signed c.args.values.now c.index-values-0-in-Reduce.result c.in-Reduce.is c.requires c.index-values-0-in-Reduce.is
+reduce-requires c = C.ready-Reduce c.args.e.now _ _ c.args.width c.args.signed c.args.values.now c.index-values-0-in-Reduce.result c.in-Reduce.is c.requires.operands c.index-values-0-in-Reduce.is
 
 pub binary-requires-clause-same : goal.binary-requires-clause-same
-binary-requires-clause-same c = C.same-Binary c.args.e.now _ _ _ c.args.width c.args.signed c.args.values.now c.index-values-0-in-Binary.result c.index-values-1.result c.in-Binary.is c.requires c.index-values-0-in-Binary.is c.index-values-1.is
+binary-requires-clause-same c = C.same-Binary c.args.e.now _ _ _ c.args.width c.args.signed c.args.values.now c.index-values-0-in-Binary.result c.index-values-1.result c.in-Binary.is c.requires.operands c.index-values-0-in-Binary.is c.index-values-1.is
 
 pub binary-requires-clause-narrow : goal.binary-requires-clause-narrow
-binary-requires-clause-narrow c = C.word-Binary c.args.e.now _ _ _ c.args.width c.args.signed c.args.values.now c.index-values-0-in-Binary.result c.in-Binary.is c.requires c.index-values-0-in-Binary.is
+binary-requires-clause-narrow c = C.word-Binary c.args.e.now _ _ _ c.args.width c.args.signed c.args.values.now c.index-values-0-in-Binary.result c.in-Binary.is c.requires.operands c.index-values-0-in-Binary.is
 
 pub shift-requires-clause-amount : goal.shift-requires-clause-amount
-shift-requires-clause-amount c = C.ready-Shift c.args.e.now _ _ _ c.args.width c.args.signed c.args.values.now c.index-values-1-in-Shift.result c.in-Shift.is c.requires c.index-values-1-in-Shift.is
+shift-requires-clause-amount c = C.ready-Shift c.args.e.now _ _ _ c.args.width c.args.signed c.args.values.now c.index-values-1-in-Shift.result c.in-Shift.is c.requires.operands c.index-values-1-in-Shift.is
 
 pub power-requires-clause-base_narrow : goal.power-requires-clause-base_narrow
-power-requires-clause-base_narrow c = C.base-Power c.args.e.now _ _ c.args.width c.args.signed c.args.values.now c.index-values-0-in-Power.result c.in-Power.is c.requires c.index-values-0-in-Power.is
+power-requires-clause-base_narrow c = C.base-Power c.args.e.now _ _ c.args.width c.args.signed c.args.values.now c.index-values-0-in-Power.result c.in-Power.is c.requires.operands c.index-values-0-in-Power.is
 
 pub power-requires-clause-exponent : goal.power-requires-clause-exponent
-power-requires-clause-exponent c = (C.exponent-Power c.args.e.now _ _ c.args.width c.args.signed c.args.values.now c.index-values-1-in-Power.result c.in-Power.is c.requires c.index-values-1-in-Power.is).0
+power-requires-clause-exponent c = (C.exponent-Power c.args.e.now _ _ c.args.width c.args.signed c.args.values.now c.index-values-1-in-Power.result c.in-Power.is c.requires.operands c.index-values-1-in-Power.is).0
 
 pub power-requires-clause-exponent_narrow : goal.power-requires-clause-exponent_narrow
-power-requires-clause-exponent_narrow c = (C.exponent-Power c.args.e.now _ _ c.args.width c.args.signed c.args.values.now c.index-values-1-in-Power.result c.in-Power.is c.requires c.index-values-1-in-Power.is).1
+power-requires-clause-exponent_narrow c = (C.exponent-Power c.args.e.now _ _ c.args.width c.args.signed c.args.values.now c.index-values-1-in-Power.result c.in-Power.is c.requires.operands c.index-values-1-in-Power.is).1
 
 pub order-bit-requires-clause-some : goal.order-bit-requires-clause-some
-order-bit-requires-clause-some c = (C.ready-Order c.args.e.now _ _ _ c.args.width c.args.signed c.args.values.now c.index-values-0-in-Order.result c.index-values-1-in-Order.result c.in-Order.is c.requires c.index-values-0-in-Order.is c.index-values-1-in-Order.is).0
+order-bit-requires-clause-some c = (C.ready-Order c.args.e.now _ _ _ c.args.width c.args.signed c.args.values.now c.index-values-0-in-Order.result c.index-values-1-in-Order.result c.in-Order.is c.requires.operands c.index-values-0-in-Order.is c.index-values-1-in-Order.is).0
 
 pub order-bit-requires-clause-same : goal.order-bit-requires-clause-same
-order-bit-requires-clause-same c = (C.ready-Order c.args.e.now _ _ _ c.args.width c.args.signed c.args.values.now c.index-values-0-in-Order.result c.index-values-1-in-Order.result c.in-Order.is c.requires c.index-values-0-in-Order.is c.index-values-1-in-Order.is).1
+order-bit-requires-clause-same c = (C.ready-Order c.args.e.now _ _ _ c.args.width c.args.signed c.args.values.now c.index-values-0-in-Order.result c.index-values-1-in-Order.result c.in-Order.is c.requires.operands c.index-values-0-in-Order.is c.index-values-1-in-Order.is).1
 
 pub order-bit-requires-clause-narrow : goal.order-bit-requires-clause-narrow
-order-bit-requires-clause-narrow c = (C.ready-Order c.args.e.now _ _ _ c.args.width c.args.signed c.args.values.now c.index-values-0-in-Order.result c.index-values-1-in-Order.result c.in-Order.is c.requires c.index-values-0-in-Order.is c.index-values-1-in-Order.is).2
+order-bit-requires-clause-narrow c = (C.ready-Order c.args.e.now _ _ _ c.args.width c.args.signed c.args.values.now c.index-values-0-in-Order.result c.index-values-1-in-Order.result c.in-Order.is c.requires.operands c.index-values-0-in-Order.is c.index-values-1-in-Order.is).2
 
 pub equality_bit-bit-requires : goal.equality_bit-bit-requires
-equality_bit-bit-requires c = C.ready-Equal c.args.e.now _ _ _ _ c.args.width c.args.signed c.args.values.now c.index-values-0-in-Equal.result c.index-values-1-in-Equal.result c.in-Equal.is c.requires c.index-values-0-in-Equal.is c.index-values-1-in-Equal.is
+equality_bit-bit-requires c = C.ready-Equal c.args.e.now _ _ _ _ c.args.width c.args.signed c.args.values.now c.index-values-0-in-Equal.result c.index-values-1-in-Equal.result c.in-Equal.is c.requires.operands c.index-values-0-in-Equal.is c.index-values-1-in-Equal.is
 
 pub chosen-requires : goal.chosen-requires
-chosen-requires c = ap length (c.in_ok-left-in-Choose.ensures ∙ c.as_slice.ensures) ∙ C.ready-Choose c.args.e.now _ _ _ c.args.width c.args.signed c.args.values.now c.index-values-1-in-Choose.result c.index-values-2.result c.in-Choose.is c.requires c.index-values-1-in-Choose.is c.index-values-2.is ∙ sym (ap length (c.in_ok-right-in-Choose.ensures ∙ c.as_slice-in-Choose.ensures))
+chosen-requires c = ap length (c.in_ok-left-in-Choose.ensures ∙ c.as_slice.ensures) ∙ C.ready-Choose c.args.e.now _ _ _ c.args.width c.args.signed c.args.values.now c.index-values-1-in-Choose.result c.index-values-2.result c.in-Choose.is c.requires.operands c.index-values-1-in-Choose.is c.index-values-2.is ∙ sym (ap length (c.in_ok-right-in-Choose.ensures ∙ c.as_slice-in-Choose.ensures))
 
 pub converted-requires : goal.converted-requires
-converted-requires c = C.ready-Cast c.args.e.now c.args.width c.args.signed c.args.values.now c.requires
+converted-requires c = C.ready-Cast c.args.e.now c.args.width c.args.signed c.args.values.now c.requires.operands
 
 pub clog2-requires : goal.clog2-requires
-clog2-requires c = C.ready-Clog2 c.args.e.now _ c.args.width c.args.signed c.args.values.now c.index-values-0-in-Clog2.result c.in-Clog2.is c.requires c.index-values-0-in-Clog2.is
+clog2-requires c = C.ready-Clog2 c.args.e.now _ c.args.width c.args.signed c.args.values.now c.index-values-0-in-Clog2.result c.in-Clog2.is c.requires.operands c.index-values-0-in-Clog2.is
 
 pub returns-in_ok-unary-in-Unary : goal.returns-in_ok-unary-in-Unary
 returns-in_ok-unary-in-Unary c = C.combines-Unary c.args.e.now _ _ c.args.width c.args.signed c.args.values.now c.index-values-0.result c.in_ok-unary-in-Unary.field-0 c.in-Unary.is c.index-values-0.is (c.in_ok-unary-in-Unary.ensures)
@@ -114,3 +118,27 @@ pub returns-in_ok-extended-in-Constant : goal.returns-in_ok-extended-in-Constant
 returns-in_ok-extended-in-Constant c =
     C.combines-Constant c.args.e.now _ c.args.width c.args.signed c.args.values.now c.in_ok-extended-in-Constant.field-0 c.in-Constant.is
     (c.in_ok-extended-in-Constant.ensures ∙ ap (ext c.args.width c.args.signed) c.in_ok-held-in-Constant.ensures)
+
+pub tests-requires : goal.tests-requires
+tests-requires c =
+    inside-ready c.args.e.now _ _ c.args.width c.args.signed c.args.values.now c.get-in-Inside.result.now c.as_slice-in-Inside.result.now c.in-Inside.is c.get-in-Inside.ensures c.as_slice-in-Inside.ensures c.requires.operands
+
+pub returns-in_ok-one_bit-in-Inside : goal.returns-in_ok-one_bit-in-Inside
+returns-in_ok-one_bit-in-Inside c =
+    combines-Inside c.args.e.now c.in-Inside.x c.in-Inside.choices c.args.width c.args.signed c.args.values.now c.in_ok-tested-in-Inside.tested c.in_ok-one_bit-in-Inside.field-0 c.in-Inside.is
+    (tested-by c.in-Inside.x c.get-in-Inside.result.now c.in-Inside.choices c.as_slice-in-Inside.result.now c.args.values.now c.in_ok-tested-in-Inside.tested c.get-in-Inside.ensures c.as_slice-in-Inside.ensures c.in_ok-tested-in-Inside.ensures)
+    (c.in_ok-one_bit-in-Inside.ensures ∙ ap (λ b. ext c.args.width c.args.signed (b ∷ [])) c.truth-in-Inside.ensures)
+
+pub assigned_bits-requires-clause-places : goal.assigned_bits-requires-clause-places
+assigned_bits-requires-clause-places c = pattern-narrow c.args.e.now c.args.width c.args.signed c.args.values.now c.requires.operands
+
+pub assigned_bits-requires-clause-fit : goal.assigned_bits-requires-clause-fit
+assigned_bits-requires-clause-fit c =
+    subst (λ es. PlacesFit (marks_of_parts (parts_of (layout c.args.e.now.of))) es c.args.values.now) (sym c.as_slice-in-Pattern.ensures)
+    (pattern-ready c.args.e.now _ c.args.width c.args.signed c.args.values.now c.in-Pattern.is c.requires.operands)
+
+pub returns-in_ok-in_context-in-Pattern : goal.returns-in_ok-in_context-in-Pattern
+returns-in_ok-in_context-in-Pattern c =
+    combines-Pattern c.args.e.now c.in-Pattern.es c.args.width c.args.signed c.args.values.now c.in_ok-parts-in-Pattern.parts.items c.in_ok-in_context-in-Pattern.field-0 c.in-Pattern.is
+    (subst (λ es. AssignedBy (marks_of_parts (parts_of (layout c.args.e.now.of))) es c.args.values.now c.in_ok-parts-in-Pattern.parts.items) c.as_slice-in-Pattern.ensures c.in_ok-parts-in-Pattern.ensures)
+    (c.in_ok-in_context-in-Pattern.ensures ∙ ap (λ vs. ext c.args.width c.args.signed (stacked vs)) c.deref.ensures.value)
