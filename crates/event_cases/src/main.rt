@@ -54,6 +54,7 @@ fn ended(alloc: Global, tokens: Tokens) -> Result<Tokens, AllocError>
 fn token_of(event: Event) -> Option<u32> {
     match event {
         Event::Opens { first, .. } => Some(first),
+        Event::Heads => None,
         Event::Closes => None,
         Event::Declares { name, .. } => Some(name),
         Event::ImportsName { name, .. } => Some(name),

@@ -3,6 +3,7 @@ pub mod Outwards
 pub mod Lists
 pub mod Orders
 pub mod Kept
+pub mod Remaining
 pub mod Around
 pub mod Clashing
 pub mod Calls

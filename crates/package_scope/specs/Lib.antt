@@ -6,4 +6,5 @@ pub mod Least
 pub mod Finding
 pub mod Walks
 pub mod Earliest
+pub mod Rests
 pub mod Answers

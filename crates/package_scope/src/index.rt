@@ -38,7 +38,7 @@ fn names_of(alloc: Global, table: &Table) -> Result<Names, AllocError> {
 }
 
 /// Puts a number under a name that has a number.
-fn put(
+pub fn put(
     names: &Names,
     slots: &mut Slots,
     scope: u32,

@@ -15,6 +15,7 @@ mod meaning;
 mod name_table;
 mod named_text;
 mod names;
+mod rests;
 mod scoped;
 mod table;
 mod use_breaks;
@@ -26,5 +27,5 @@ pub use checking::{lookup, scopes};
 pub use name_table::NameTable;
 pub use scoped::Scopes;
 pub use table::{
-    DeclKind, Declaration, Found, LoopRun, NamedImport, Scope, Table, Use, WildcardImport,
+    DeclKind, Declaration, Found, Head, Link, LoopRun, NamedImport, Rest, Scope, Table, Use, WildcardImport,
 };
