@@ -1,54 +1,15 @@
 //! Prints what happens to names in the texts of cases: each event, behind the text of the token that it is about.
 #![tactic(auto)]
 
-ghost use Rattle.std.specs.Prelude.{IfOk};
-ghost use Rattle.sv_build.specs.Reading.{Ends};
-
 use case_files::{Case, escaped, load_cases};
 use name_events::{Event, events_of};
-use std::alloc::{AllocError, Global};
+use plain_text::read_text;
 use std::{env, io};
-use sv_build::read_source;
-use sv_lexer::lex;
-use sv_source::{Fail, Items, Kind, Place, Text, Token, Tokens};
+use sv_source::{Fail, Token};
 use sv_tree::SourceTree;
 
 /// The longest text that is read, in bytes.
 const LONGEST: usize = 1 << 20;
-
-/// The tokens of a text, without its newlines.
-fn tokens_of(alloc: Global, text: &[u8]) -> Result<Tokens, AllocError> {
-    let mut tokens = Items::new(alloc);
-    if text.len() < LONGEST {
-        for token in lex(alloc, 0, text)?.as_slice() {
-            if token.kind != Kind::Line {
-                tokens.push(Token {
-                    kind: token.kind,
-                    text: token.text.copy(alloc)?,
-                    place: token.place,
-                })?;
-            }
-        }
-    }
-    Ok(tokens)
-}
-
-/// The same tokens with the end token behind them.
-fn ended(alloc: Global, tokens: Tokens) -> Result<Tokens, AllocError>
-    ensures { IfOk result (λ ts. Ends ts) }
-{
-    let mut tokens = tokens;
-    tokens.push(Token {
-        kind: Kind::End,
-        text: Text::new(alloc),
-        place: Place {
-            file: 0,
-            line: 0,
-            col: 0,
-        },
-    })?;
-    Ok(tokens)
-}
 
 /// The token that an event is about, if it is about one.
 fn token_of(event: Event) -> Option<u32> {
@@ -96,11 +57,10 @@ fn print_events(rt: &HostRuntime, tree: &SourceTree) -> io::Result<()> {
 
 /// Prints the events of a text.
 fn print_text(rt: &HostRuntime, text: &[u8]) -> io::Result<()> {
-    let tokens = ended(rt.alloc(), tokens_of(rt.alloc(), text)?)?;
-    if tokens.len() > LONGEST {
+    if text.len() > LONGEST {
         return println!(rt; "too long");
     }
-    match read_source(rt.alloc(), tokens) {
+    match read_text(rt.alloc(), text) {
         Ok(tree) => print_events(rt, &tree),
         Err(Fail::Memory) => println!(rt; "out of memory"),
         Err(Fail::Refused(refusal)) => {

@@ -1,6 +1,8 @@
 pub mod Slots
 pub mod Outwards
 pub mod Lists
+pub mod Holding
+pub mod Starting
 pub mod Orders
 pub mod Kept
 pub mod Remaining

@@ -1,7 +1,9 @@
 pub mod Tables
 pub mod Lookup
+pub mod Innermost
 pub mod Rules
 pub mod Index
+pub mod Packages
 pub mod Least
 pub mod Finding
 pub mod Walks

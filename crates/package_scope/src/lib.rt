@@ -15,6 +15,7 @@ mod meaning;
 mod name_table;
 mod named_text;
 mod names;
+mod packages;
 mod rests;
 mod scoped;
 mod table;

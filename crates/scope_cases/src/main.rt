@@ -1,54 +1,16 @@
-//! Prints the declarations of the texts of cases, with what their names stand for, or the refusal.
+//! Prints the declarations of the texts of cases, with what their names stand for, or the refusal; of those in `places.cases` also
+//! the scope of each token.
 #![tactic(auto)]
-
-ghost use Rattle.std.specs.Prelude.{IfOk};
-ghost use Rattle.sv_build.specs.Reading.{Ends};
 
 use case_files::{Case, escaped, load_cases};
 use package_scope::{Found, Scopes, lookup, scopes};
-use std::alloc::{AllocError, Global};
+use plain_text::read_text;
 use std::{env, io};
-use sv_build::read_source;
-use sv_lexer::lex;
-use sv_source::{Fail, Items, Kind, Place, Refusal, Text, Token, Tokens};
+use sv_source::{Fail, Refusal};
 use sv_tree::SourceTree;
 
 /// The longest text that is read, in bytes.
 const LONGEST: usize = 1 << 20;
-
-/// The tokens of a text, without its newlines.
-fn tokens_of(alloc: Global, text: &[u8]) -> Result<Tokens, AllocError> {
-    let mut tokens = Items::new(alloc);
-    if text.len() < LONGEST {
-        for token in lex(alloc, 0, text)?.as_slice() {
-            if token.kind != Kind::Line {
-                tokens.push(Token {
-                    kind: token.kind,
-                    text: token.text.copy(alloc)?,
-                    place: token.place,
-                })?;
-            }
-        }
-    }
-    Ok(tokens)
-}
-
-/// The same tokens with the end token behind them.
-fn ended(alloc: Global, tokens: Tokens) -> Result<Tokens, AllocError>
-    ensures { IfOk result (λ ts. Ends ts) }
-{
-    let mut tokens = tokens;
-    tokens.push(Token {
-        kind: Kind::End,
-        text: Text::new(alloc),
-        place: Place {
-            file: 0,
-            line: 0,
-            col: 0,
-        },
-    })?;
-    Ok(tokens)
-}
 
 /// Prints a refusal.
 fn print_refusal(rt: &HostRuntime, refusal: &Refusal) -> io::Result<()> {
@@ -58,22 +20,24 @@ fn print_refusal(rt: &HostRuntime, refusal: &Refusal) -> io::Result<()> {
 }
 
 /// Prints the declarations of a tree, or its refusal.
-fn print_tree(rt: &HostRuntime, tree: &SourceTree) -> io::Result<()> {
+fn print_tree(rt: &HostRuntime, tree: &SourceTree, with_places: bool) -> io::Result<()> {
     match scopes(rt.alloc(), tree) {
-        Ok(scopes) => print_scopes(rt, &scopes),
+        Ok(scopes) => {
+            print_scopes(rt, &scopes)?;
+            if with_places { print_places(rt, &scopes) } else { Ok(()) }
+        }
         Err(Fail::Memory) => println!(rt; "out of memory"),
         Err(Fail::Refused(refusal)) => print_refusal(rt, &refusal),
     }
 }
 
 /// Prints the declarations of one text, or its refusal.
-fn print_text(rt: &HostRuntime, text: &[u8]) -> io::Result<()> {
-    let tokens = ended(rt.alloc(), tokens_of(rt.alloc(), text)?)?;
-    if tokens.len() > LONGEST {
+fn print_text(rt: &HostRuntime, text: &[u8], with_places: bool) -> io::Result<()> {
+    if text.len() > LONGEST {
         return println!(rt; "too long");
     }
-    match read_source(rt.alloc(), tokens) {
-        Ok(tree) => print_tree(rt, &tree),
+    match read_text(rt.alloc(), text) {
+        Ok(tree) => print_tree(rt, &tree, with_places),
         Err(Fail::Memory) => println!(rt; "out of memory"),
         Err(Fail::Refused(refusal)) => print_refusal(rt, &refusal),
     }
@@ -103,11 +67,22 @@ fn print_scopes(rt: &HostRuntime, scopes: &Scopes) -> io::Result<()> {
     println!(rt; "accepted")
 }
 
+/// Prints the innermost scope that holds each token.
+fn print_places(rt: &HostRuntime, scopes: &Scopes) -> io::Result<()> {
+    print!(rt; "tokens in")?;
+    let mut token = 0;
+    for _ in scopes.tree().tokens.as_slice() {
+        print!(rt; " {}", scopes.scope_at(token))?;
+        token = token.saturating_add(1);
+    }
+    println!(rt;)
+}
+
 /// Prints what is found in the files of one case.
-fn run(rt: &HostRuntime, case: Case) -> io::Result<()> {
+fn run(rt: &HostRuntime, case: Case, with_places: bool) -> io::Result<()> {
     println!(rt; "== {}", case.name)?;
     for file in case.files {
-        print_text(rt, file.bytes.as_bytes())?;
+        print_text(rt, file.bytes.as_bytes(), with_places)?;
     }
     Ok(())
 }
@@ -115,7 +90,7 @@ fn run(rt: &HostRuntime, case: Case) -> io::Result<()> {
 fn main(rt: HostRuntime) -> io::Result<()> {
     for path in env::args(&rt)?.skip(1) {
         for case in load_cases(&rt, path.as_str())? {
-            run(&rt, case)?;
+            run(&rt, case, path.as_str() == "places.cases")?;
         }
     }
     Ok(())
