@@ -3,6 +3,7 @@ use Rattle.std.proofs.Common.{◌≡◌, ℕ, suc, Bool, true, false, ◌&&◌, 
 use Rattle.std.specs.Prelude.{filter}
 use Rattle.std.specs.List.{list_any}
 use Rattle.std.specs.Str.{bytes_eq}
+use Rattle.std.proofs.lemmas.Bool.{false≢true}
 use Rattle.std.proofs.lemmas.Bool.Decides.{nat_tests}
 use Rattle.package_scope.specs.Earliest.{is_before, sooner}
 use Rattle.package_scope.specs.Lookup.{or_later, is_named, is_everywhere, first_from, everywhere_from, or_everywhere, own, in_scope_of, package_scope, stands_in, found, same_or_twice, both, brought, brings, all_bring, by_wildcards}
@@ -68,7 +69,7 @@ four a b c d =
     ∙ sym (both-assoc a c (both b d))
 
 -- over a list of scopes
-over : (ℕ → Found) → List ℕ → Found
+abbrev over : (ℕ → Found) → List ℕ → Found
 over f [] = Absent
 over f (p ∷ ps) = both (f p) (over f ps)
 
@@ -104,8 +105,8 @@ over-picked q o (p ∷ ps) = ap (both (brought (nat_eq q p) o)) (over-picked q o
 -- A scope that doesn't declare a name brings nothing under it.
 or-parts : (a b : Bool) → (a || b) ≡ false → (a ≡ false) × (b ≡ false)
 or-parts false false e = (refl, refl)
-or-parts false true e = absurd cc
-or-parts true b e = absurd cc
+or-parts false true e = absurd (false≢true (sym e))
+or-parts true b e = absurd (false≢true (sym e))
 
 and-false : (b : Bool) → (b && false) ≡ false
 and-false true = refl
@@ -122,13 +123,14 @@ not-here q name d ds none = by (bytes_eq d.name name) refl
     by : (b : Bool) → bytes_eq d.name name ≡ b → (is_named q name d ≡ false) × (list_any (nat_eq q) (holders_from name ds) ≡ false)
     by true h =
         let parts : (nat_eq q d.scope ≡ false) × (list_any (nat_eq q) (holders_from name ds) ≡ false) =
-            or-parts (nat_eq q d.scope) (list_any (nat_eq q) (holders_from name ds))
-            (sym (ap (λ b. list_any (nat_eq q) (cond b (d.scope ∷ holders_from name ds) (holders_from name ds))) h) ∙ none) in
+        or-parts (nat_eq q d.scope) (list_any (nat_eq q) (holders_from name ds))
+        (sym (ap (λ b. list_any (nat_eq q) (cond b (d.scope ∷ holders_from name ds) (holders_from name ds))) h) ∙ none) in
         let other : nat_eq d.scope q ≡ false = grind (arith, nat_tests, parts.0) in
         (ap (λ b. b && bytes_eq d.name name) other, parts.1)
-    by false h =
-        (ap (λ b. nat_eq d.scope q && b) h ∙ and-false (nat_eq d.scope q),
-        sym (ap (λ b. list_any (nat_eq q) (cond b (d.scope ∷ holders_from name ds) (holders_from name ds))) h) ∙ none)
+    by false h = (
+      ap (λ b. nat_eq d.scope q && b) h ∙ and-false (nat_eq d.scope q),
+      sym (ap (λ b. list_any (nat_eq q) (cond b (d.scope ∷ holders_from name ds) (holders_from name ds))) h) ∙ none,
+    )
 
 first-absent : (q : ℕ) (name : List ℕ) (n : ℕ) (ds : List Declaration) → list_any (nat_eq q) (holders_from name ds) ≡ false → first_from n q name ds ≡ None
 first-absent q name n [] none = refl
@@ -198,29 +200,31 @@ one-more : (c : Bool) (a : ℕ) (r : Option ℕ) (at : ℕ) (o : Option ℕ)
 one-more false a r at o = refl
 one-more true a r at o = ap (λ b. brought b o) (sooner-before a r at) ∙ sym (both-brought (nat_lt a at) (is_before r at) o)
 
+-- the import i first, which stands in the scope or doesn't
+abbrev from : Table → ℕ → List ℕ → ℕ → WildcardImport → List WildcardImport → Bool → ℕ → Found
+from t s name at i is b p = brought (is_before (start_if (b && same_scope (package_scope t i.source i.source_at) p) i.at (start_from t s p is)) at) (own t p name at)
+
+abbrev later : Table → ℕ → List ℕ → ℕ → List WildcardImport → ℕ → Found
+later t s name at is p = brought (is_before (start_from t s p is) at) (own t p name at)
+
+abbrev first : Table → List ℕ → ℕ → WildcardImport → ℕ → Found
+first t name at i p = brought (same_scope (package_scope t i.source i.source_at) p && nat_lt i.at at) (own t p name at)
+
+import-first : (t : Table) (s : ℕ) (name : List ℕ) (at : ℕ) (i : WildcardImport) (is : List WildcardImport) (b : Bool) → stands_in s i ≡ b
+    → over (later t s name at is) (holders_from name t.declared) ≡ all_bring t name at (filter (stands_in s) is)
+    → over (from t s name at i is b) (holders_from name t.declared) ≡ all_bring t name at (if b then i ∷ filter (stands_in s) is else filter (stands_in s) is)
+import-first t s name at i is false h so_far = so_far
+import-first t s name at i is true h so_far =
+    over-same (from t s name at i is true) (λ p. both (first t name at i p) (later t s name at is p))
+    (holders_from name t.declared) (λ p. one-more (same_scope (package_scope t i.source i.source_at) p) i.at (start_from t s p is) at (own t p name at))
+    ∙ over-both (first t name at i) (later t s name at is) (holders_from name t.declared)
+    ∙ ap (λ x. both x (over (later t s name at is) (holders_from name t.declared))) (from-package t name at (package_scope t i.source i.source_at) (nat_lt i.at at))
+    ∙ ap (both (brings t name at i)) so_far
+
 by-holders : (t : Table) (s : ℕ) (name : List ℕ) (at : ℕ) (is : List WildcardImport)
-    → over (λ p. brought (is_before (start_from t s p is) at) (own t p name at)) (holders_from name t.declared) ≡ all_bring t name at (filter (stands_in s) is)
+    → over (later t s name at is) (holders_from name t.declared) ≡ all_bring t name at (filter (stands_in s) is)
 by-holders t s name at [] = over-absent (holders_from name t.declared)
-by-holders t s name at (i ∷ is) = by (stands_in s i) refl
-  where
-    scope : Option ℕ
-    scope = package_scope t i.source i.source_at
-    from : Bool → ℕ → Found
-    from b p = brought (is_before (start_if (b && same_scope scope p) i.at (start_from t s p is)) at) (own t p name at)
-    by : (b : Bool) → stands_in s i ≡ b
-        → over (from (stands_in s i)) (holders_from name t.declared) ≡ all_bring t name at (if stands_in s i then i ∷ filter (stands_in s) is else filter (stands_in s) is)
-    by false h =
-        ap (λ b. over (from b) (holders_from name t.declared)) h
-        ∙ by-holders t s name at is
-        ∙ sym (ap (λ b. all_bring t name at (if b then i ∷ filter (stands_in s) is else filter (stands_in s) is)) h)
-    by true h =
-        ap (λ b. over (from b) (holders_from name t.declared)) h
-        ∙ over-same (from true) (λ p. both (brought (same_scope scope p && nat_lt i.at at) (own t p name at)) (brought (is_before (start_from t s p is) at) (own t p name at)))
-        (holders_from name t.declared) (λ p. one-more (same_scope scope p) i.at (start_from t s p is) at (own t p name at))
-        ∙ over-both (λ p. brought (same_scope scope p && nat_lt i.at at) (own t p name at)) (λ p. brought (is_before (start_from t s p is) at) (own t p name at)) (holders_from name t.declared)
-        ∙ ap (λ x. both x (over (λ p. brought (is_before (start_from t s p is) at) (own t p name at)) (holders_from name t.declared))) (from-package t name at scope (nat_lt i.at at))
-        ∙ ap (both (brings t name at i)) (by-holders t s name at is)
-        ∙ sym (ap (λ b. all_bring t name at (if b then i ∷ filter (stands_in s) is else filter (stands_in s) is)) h)
+by-holders t s name at (i ∷ is) = import-first t s name at i is (stands_in s i) refl (by-holders t s name at is)
 
 held-over : (t : Table) (s : ℕ) (name : List ℕ) (at : ℕ) (ps : List ℕ) → all_held t s name at ps ≡ over (held t s name at) ps
 held-over t s name at [] = refl
@@ -228,5 +232,3 @@ held-over t s name at (p ∷ ps) = ap (both (held t s name at p)) (held-over t s
 
 pub held-is : (t : Table) (s : ℕ) (name : List ℕ) (at : ℕ) → all_held t s name at (holders_from name t.declared) ≡ by_wildcards t s name at
 held-is t s name at = held-over t s name at (holders_from name t.declared) ∙ by-holders t s name at t.wildcards
-
-pub ruleset holding = (held-is)

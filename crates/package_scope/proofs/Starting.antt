@@ -2,6 +2,7 @@
 use Rattle.std.proofs.Common.{◌≡◌, ℕ, ◌+◌, ◌<◌, ◌≤◌, Bool, true, false, ◌&&◌, nat_eq, cond, if◌then◌else◌, List, [], ◌∷◌, ◌++◌, length, drop, get_or, Option, Some, None, refl, sym, ap, ◌∙◌, append_assoc, arith}
 use Rattle.std.specs.Prelude.{position}
 use Rattle.std.specs.Str.{bytes_eq}
+use Rattle.std.proofs.lemmas.Bool.{false≢true}
 use Rattle.std.proofs.lemmas.Bool.Decides.{nat_tests}
 use Rattle.std.proofs.lemmas.List.{drop_more, drop_all}
 use Rattle.std.proofs.lemmas.Slice.Eq.{bytes_eq-Decides}
@@ -22,11 +23,11 @@ and-false false = refl
 
 and-left : (a b : Bool) → (a && b) ≡ true → a ≡ true
 and-left true b e = refl
-and-left false b e = absurd cc
+and-left false b e = absurd (false≢true e)
 
 and-right : (a b : Bool) → (a && b) ≡ true → b ≡ true
 and-right true b e = e
-and-right false b e = absurd cc
+and-right false b e = absurd (false≢true e)
 
 -- an import of all names of a package that is there, and of one that isn't
 pub start-put : (t : Table) (before after : Slots) (i : WildcardImport) (q v : ℕ) → package_scope t i.source i.source_at ≡ Some q
@@ -81,17 +82,20 @@ holder-push names before after ds k d n within is has put so_far q =
   where
     further : List ℕ
     further = holders_from q (drop (k + 1) ds)
+
     unnamed : (b : Bool) → bytes_eq d.name q ≡ b → number_in names q ≡ None → further ≡ cond b (d.scope ∷ further) further
     unnamed true h e =
         let same : d.name ≡ q = (bytes_eq-Decides d.name q).0 h in
         let one : None ≡ Some n = sym e ∙ ap (λ x. number_in names x) (sym same) ∙ has in
         absurd cc
     unnamed false h e = refl
+
     numbered : (m : ℕ) (b : Bool) → nat_eq n m ≡ b → (if b then before n ++ d.scope ∷ [] else before m) ++ further ≡ before m ++ cond b (d.scope ∷ further) further
     numbered m true h =
         let same : n ≡ m = grind (arith, nat_tests, h) in
         ap (λ x. (before x ++ d.scope ∷ []) ++ further) same ∙ append_assoc (before m) (d.scope ∷ []) further
     numbered m false h = refl
+
     by_number : (o : Option ℕ) → number_in names q ≡ o
         → of_number (with_holder before n d.scope) o ++ further ≡ of_number before o ++ cond (bytes_eq d.name q) (d.scope ∷ further) further
     by_number None e = unnamed (bytes_eq d.name q) refl e

@@ -214,12 +214,7 @@ fn last_declared(table: &Table) -> Result<u32, AllocError>
 }
 
 /// A port of the last instance is connected by its name.
-fn linked(
-    alloc: Global,
-    tokens: &[Token],
-    port: u32,
-    table: &mut Table,
-) -> Result<(), AllocError>
+fn linked(alloc: Global, tokens: &[Token], port: u32, table: &mut Table) -> Result<(), AllocError>
     ensures { OnOk result (table.new ≡ means.linked tokens.now port table.old) }
 {
     let instance = last_declared(table)?;

@@ -28,5 +28,6 @@ pub use checking::{lookup, scopes};
 pub use name_table::NameTable;
 pub use scoped::Scopes;
 pub use table::{
-    DeclKind, Declaration, Found, Head, Link, LoopRun, NamedImport, Rest, Scope, Table, Use, WildcardImport,
+    DeclKind, Declaration, Found, Head, Link, LoopRun, NamedImport, Rest, Scope, Table, Use,
+    WildcardImport,
 };

@@ -314,7 +314,6 @@ fn all_hold(
 
 /// What the imports of all names in a scope bring together: import by import, or package by package where fewer scopes declare
 /// the name.
-#[tactic(auto, using(crate::proofs::Holding::holding))]
 fn by_wildcards(
     table: &Table,
     index: &Index,

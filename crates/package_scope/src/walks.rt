@@ -91,15 +91,15 @@ pub fn in_function(table: &Table, scope: u32) -> bool
 }
 
 /// Whether a scope holds a token.
-fn is_around(scope: Scope, token: u32) -> bool
-    ensures { result ≡ holds token scope }
+fn is_around(scope: &Scope, token: u32) -> bool
+    ensures { result ≡ holds token scope.now }
 {
     scope.first <= token && token <= scope.last
 }
 
 /// A scope with its number if it holds a token, or else one that is known.
-fn inner(known: u32, number: u32, scope: Scope, token: u32) -> u32
-    ensures { result ≡ cond (holds token scope) number known }
+fn inner(known: u32, number: u32, scope: &Scope, token: u32) -> u32
+    ensures { result ≡ cond (holds token scope.now) number known }
 {
     if is_around(scope, token) {
         number
@@ -115,7 +115,7 @@ pub fn innermost(scopes: &[Scope], token: u32) -> u32
 {
     let mut known = 0;
     for (at, scope) in scopes.iter().enumerate() {
-        known = inner(known, at as u32, *scope, token);
+        known = inner(known, at as u32, scope, token);
     }
     known
 }

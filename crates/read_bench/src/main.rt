@@ -41,7 +41,11 @@ fn run(rt: &HostRuntime, path: &str, with_names: bool) -> io::Result<()> {
                 tree.units.len(),
                 tree.tokens.len()
             )?;
-            if with_names { look_up(rt, &tree) } else { Ok(()) }
+            if with_names {
+                look_up(rt, &tree)
+            } else {
+                Ok(())
+            }
         }
         Err(Fail::Memory) => println!(rt; "out of memory"),
         Err(Fail::Refused(refusal)) => print_refusal(rt, &refusal),

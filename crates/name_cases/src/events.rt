@@ -1,15 +1,10 @@
-//! Prints what happens to names in the texts of cases: each event, behind the text of the token that it is about.
-#![tactic(auto)]
+//! What happens to names in a text: each event, behind the text of the token that it is about.
 
-use case_files::{Case, escaped, load_cases};
+use case_files::escaped;
 use name_events::{Event, events_of};
-use plain_text::read_text;
-use std::{env, io};
-use sv_source::{Fail, Token};
+use std::io;
+use sv_source::Token;
 use sv_tree::SourceTree;
-
-/// The longest text that is read, in bytes.
-const LONGEST: usize = 1 << 20;
 
 /// The token that an event is about, if it is about one.
 fn token_of(event: Event) -> Option<u32> {
@@ -48,42 +43,9 @@ fn print_event(rt: &HostRuntime, tokens: &[Token], event: Event) -> io::Result<(
 }
 
 /// Prints the events of a tree.
-fn print_events(rt: &HostRuntime, tree: &SourceTree) -> io::Result<()> {
+pub fn print_events(rt: &HostRuntime, tree: &SourceTree) -> io::Result<()> {
     for event in events_of(rt.alloc(), tree)?.as_slice() {
         print_event(rt, tree.tokens.as_slice(), *event)?;
-    }
-    Ok(())
-}
-
-/// Prints the events of a text.
-fn print_text(rt: &HostRuntime, text: &[u8]) -> io::Result<()> {
-    if text.len() > LONGEST {
-        return println!(rt; "too long");
-    }
-    match read_text(rt.alloc(), text) {
-        Ok(tree) => print_events(rt, &tree),
-        Err(Fail::Memory) => println!(rt; "out of memory"),
-        Err(Fail::Refused(refusal)) => {
-            let place = refusal.place;
-            println!(rt; "{}:{} E{}", place.line, place.col, refusal.rule)
-        }
-    }
-}
-
-/// Prints the events of the files of one case.
-fn run(rt: &HostRuntime, case: Case) -> io::Result<()> {
-    println!(rt; "== {}", case.name)?;
-    for file in case.files {
-        print_text(rt, file.bytes.as_bytes())?;
-    }
-    Ok(())
-}
-
-fn main(rt: HostRuntime) -> io::Result<()> {
-    for path in env::args(&rt)?.skip(1) {
-        for case in load_cases(&rt, path.as_str())? {
-            run(&rt, case)?;
-        }
     }
     Ok(())
 }
