@@ -38,5 +38,5 @@ pub fn print_places(rt: &HostRuntime, scopes: &Scopes) -> io::Result<()> {
         print!(rt; " {}", scopes.scope_at(token))?;
         token = token.saturating_add(1);
     }
-    println!(rt;)
+    println!(rt; "")
 }
