@@ -26,7 +26,7 @@ enum Wanted {
 }
 
 /// What is printed of the cases of a file.
-fn wanted(path: &str) -> Wanted {
+fn output_of(path: &str) -> Wanted {
     match path {
         "events.cases" => Wanted::Events,
         "places.cases" => Wanted::Places,
@@ -88,7 +88,7 @@ fn run(rt: &HostRuntime, case: Case, wanted: Wanted) -> io::Result<()> {
 fn main(rt: HostRuntime) -> io::Result<()> {
     for path in env::args(&rt)?.skip(1) {
         for case in load_cases(&rt, path.as_str())? {
-            run(&rt, case, wanted(path.as_str()))?;
+            run(&rt, case, output_of(path.as_str()))?;
         }
     }
     Ok(())
