@@ -189,7 +189,7 @@ parameter_ports None = nothing
 parameter_ports (Some l) = parameter_ports_from false l.parameters
 
 abbrev pub header : Header → Part
-header h to = ports h.ports (parameter_ports h.parameters (imports h.imports to))
+header h to = put E.Heads (ports h.ports (parameter_ports h.parameters (imports h.imports to)))
 
 -- continuous assignments and processes
 abbrev pub assignment : NetAssignment → Part

@@ -187,6 +187,8 @@ pub enum Event {
         /// Its last token.
         last: u32,
     },
+    /// The header of the module or interface that is open ends, behind its ports.
+    Heads,
     /// The innermost open scope ends.
     Closes,
     /// A name is declared.

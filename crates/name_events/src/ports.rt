@@ -355,5 +355,6 @@ pub fn header(one: &Header, to: &mut Events) -> Result<(), AllocError>
 {
     imports(one.imports.as_slice(), to)?;
     parameter_ports(&one.parameters, to)?;
-    ports(&one.ports, to)
+    ports(&one.ports, to)?;
+    to.push(Event::Heads)
 }

@@ -1,11 +1,12 @@
 -- What is kept beside a table, one more thing at a time.
-use Rattle.std.proofs.Common.{◌≡◌, ℕ, ◌+◌, ◌<◌, ◌⊎◌, inl, inr, Bool, true, false, nat_eq, if◌then◌else◌, List, [], ◌∷◌, ◌++◌, length, drop, get_or, Option, Some, None, refl, sym, ap, ◌∙◌, append_assoc, arith}
+use Rattle.std.proofs.Common.{◌≡◌, ℕ, suc, ◌+◌, ◌<◌, ◌≤◌, ◌⊎◌, inl, inr, Bool, true, false, nat_eq, if◌then◌else◌, List, [], ◌∷◌, ◌++◌, length, drop, get_or, Option, Some, None, refl, sym, ap, ◌∙◌, append_assoc, arith}
 use Rattle.std.specs.Prelude.{filter, flat_map}
 use Rattle.std.proofs.lemmas.Bool.Decides.{nat_tests}
 use Rattle.std.proofs.lemmas.List.{drop_more, drop_all}
 use Rattle.sv_source.specs.declared.token.Token.{Token}
-use Rattle.package_scope.specs.Finding.{use_found, found_at, put_found, declared_at, is_loop_of, with_loop}
-use Rattle.package_scope.specs.Rules.{finds, use_or, use_at, declaration_of}
+use Rattle.package_scope.specs.Finding.{use_found, found_at, put_found, declared_at, numbered_at, is_loop_of, with_loop}
+use Rattle.package_scope.specs.Rules.{finds, use_or, use_at, declaration_of, number_at}
+use Rattle.package_scope.specs.declared.table.Declaration.{Declaration}
 use Rattle.package_scope.specs.declared.table.Found.{Found}
 use Rattle.package_scope.specs.declared.table.LoopRun.{LoopRun}
 use Rattle.package_scope.specs.declared.table.Table.{Table}
@@ -39,6 +40,10 @@ pub declared-found : (ts : List Token) (t : Table) (o : Option Use) → declared
 declared-found ts t None = refl
 declared-found ts t (Some u) = refl
 
+pub numbered-found : (ts : List Token) (t : Table) (o : Option Use) → numbered_at (use_found ts t o) ≡ number_at ts t o
+numbered-found ts t None = refl
+numbered-found ts t (Some u) = refl
+
 -- one more loop behind those of its scope
 loop-by : (before : ℕ → List LoopRun) (rest : List LoopRun) (l : LoopRun) (s : ℕ) → (nat_eq l.scope s ≡ true) ⊎ (nat_eq l.scope s ≡ false)
     → with_loop before l s ++ filter (is_loop_of s) rest ≡ before s ++ filter (is_loop_of s) (l ∷ rest)
@@ -69,3 +74,5 @@ add-more f xs k d before after within added =
     ∙ ap (λ ys. before ++ flat_map f ys) (sym (drop_more xs k d within))
 
 pub ruleset finding = (declared-found)
+
+pub ruleset numbering = (numbered-found)

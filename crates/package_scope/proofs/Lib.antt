@@ -1,8 +1,11 @@
 pub mod Slots
 pub mod Outwards
 pub mod Lists
+pub mod Holding
+pub mod Starting
 pub mod Orders
 pub mod Kept
+pub mod Remaining
 pub mod Around
 pub mod Clashing
 pub mod Calls

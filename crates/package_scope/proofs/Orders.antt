@@ -12,7 +12,7 @@ use Rattle.package_scope.specs.declared.table.Table.{Table}
 use Rattle.package_scope.specs.Least.{joined, least_over, least_kept, package_or, package_least}
 use Rattle.package_scope.specs.Lookup.{own, package_found}
 use Rattle.package_scope.specs.Tables.{word}
-use Rattle.package_scope.specs.Rules.{breaks_at, breaks_if, package_breaks, is_less, lesser, least, is_kept, kept_breaks, use_breaks, import_breaks, wildcard_breaks, declaration_breaks, repeated_import_breaks, event_breaks, calls_breaks, all_breaks}
+use Rattle.package_scope.specs.Rules.{breaks_at, breaks_if, package_breaks, is_less, lesser, least, is_kept, kept_breaks, use_breaks, import_breaks, wildcard_breaks, declaration_breaks, repeated_import_breaks, event_breaks, calls_breaks, rest_breaks, further_breaks, all_breaks}
 
 true_or_false : (b : Bool) → (b ≡ true) ⊎ (b ≡ false)
 true_or_false true = inl refl
@@ -107,7 +107,11 @@ bytes-swap a b = elim (true_or_false (bytes_eq a b)) [
 over-append : {A : Type 0} (f : A → List Break) (xs : List A) (ys : List Break) → joined (least_over f None xs) (least ys) ≡ least (flat_map f xs ++ ys)
 over-append f xs ys = ap (λ o. joined o (least ys)) (over-is f xs) ∙ sym (least-append (flat_map f xs) ys)
 
-pub all-is : (ts : List Token) (t : Table) (es : List Event) (c : Option Break) → c ≡ least (calls_breaks ts t) →
+pub further-is : (ts : List Token) (t : Table) → joined (least (calls_breaks ts t)) (least_over (rest_breaks ts t) None t.rests) ≡ least (further_breaks ts t)
+further-is ts t =
+    ap (λ o. joined (least (calls_breaks ts t)) o) (over-is (rest_breaks ts t) t.rests) ∙ sym (least-append (calls_breaks ts t) (flat_map (rest_breaks ts t) t.rests))
+
+pub all-is : (ts : List Token) (t : Table) (es : List Event) (c : Option Break) → c ≡ least (further_breaks ts t) →
     joined (least_over (use_breaks ts t) None t.uses)
     (joined (least_over (import_breaks ts t) None t.named)
     (joined (least_over (wildcard_breaks ts t) None t.wildcards)
@@ -125,7 +129,7 @@ all-is ts t es c is =
     (ap (λ o. joined (least_over (repeated_import_breaks t) None t.named) o)
     (ap (λ o. joined (least_over (event_breaks ts t) None es) o)
     (ap (λ o. joined o c) (kept-is ts) ∙ ap (λ o. joined (least (kept_breaks 0 ts)) o) is
-    ∙ sym (least-append (kept_breaks 0 ts) (calls_breaks ts t)))
+    ∙ sym (least-append (kept_breaks 0 ts) (further_breaks ts t)))
     ∙ over-append (event_breaks ts t) es _)
     ∙ over-append (repeated_import_breaks t) t.named _)
     ∙ over-append (declaration_breaks t) t.declared _)
@@ -141,7 +145,7 @@ pub all-from : (ts : List Token) (t : Table) (es : List Event) (u i w d o k c f 
     → d ≡ joined (least_over (declaration_breaks t) None t.declared) (least_over (repeated_import_breaks t) None t.named)
     → o ≡ least_over (event_breaks ts t) None es
     → k ≡ least_kept None 0 ts
-    → c ≡ least (calls_breaks ts t)
+    → c ≡ least (further_breaks ts t)
     → f ≡ joined k c → g ≡ joined o f → h ≡ joined d g → j ≡ joined w h → l ≡ joined i j → r ≡ joined u l
     → r ≡ least (all_breaks ts t es)
 all-from ts t es u i w d o k c f g h j l r is_u is_i is_w is_d is_o is_k is_c is_f is_g is_h is_j is_l is_r =
@@ -156,3 +160,5 @@ all-from ts t es u i w d o k c f g h j l r is_u is_i is_w is_d is_o is_k is_c is
 pub ruleset joining = (least-append)
 
 pub ruleset packaging = (package-is)
+
+pub ruleset covering = (over-is)

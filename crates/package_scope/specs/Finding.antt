@@ -9,7 +9,7 @@ use Rattle.package_scope.specs.declared.table.Found.{Found}
 use Rattle.package_scope.specs.declared.table.LoopRun.{LoopRun}
 use Rattle.package_scope.specs.declared.table.Table.{Table}
 use Rattle.package_scope.specs.declared.table.Use.{Use}
-use Rattle.package_scope.specs.Rules.{finds, use_at, declared_by}
+use Rattle.package_scope.specs.Rules.{finds, use_at, declared_by, number_of}
 
 -- what the first use at a token finds
 abbrev pub use_found : List Token → Table → Option Use → Option Found
@@ -29,6 +29,10 @@ put_found found at f = λ q. if nat_eq at q then Some f else found q
 abbrev pub declared_at : Table → Option Found → Option Declaration
 declared_at t None = None
 declared_at t (Some f) = declared_by t f
+
+abbrev pub numbered_at : Option Found → Option ℕ
+numbered_at None = None
+numbered_at (Some f) = number_of f
 
 -- the loops of a scope
 abbrev pub is_loop_of : ℕ → LoopRun → Bool

@@ -1,9 +1,12 @@
 pub mod Tables
 pub mod Lookup
+pub mod Innermost
 pub mod Rules
 pub mod Index
+pub mod Packages
 pub mod Least
 pub mod Finding
 pub mod Walks
 pub mod Earliest
+pub mod Rests
 pub mod Answers

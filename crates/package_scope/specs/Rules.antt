@@ -1,5 +1,5 @@
 -- The rules on names: E401 to E404 as far as the tokens and the declarations show them, E609 and E610.
-use Rattle.std.specs.Prelude.{ℕ, zero, suc, Bool, true, false, ◌&&◌, ◌||◌, ◌==◌, nat_lt, not, cond, codes, List, [], ◌∷◌, ◌++◌, length, take, flat_map, Option, Some, None, is_some, slice_get}
+use Rattle.std.specs.Prelude.{ℕ, zero, suc, Bool, true, false, ◌&&◌, ◌||◌, ◌==◌, nat_eq, nat_lt, not, cond, codes, List, [], ◌∷◌, ◌++◌, length, take, drop, flat_map, Option, Some, None, is_some, slice_get}
 use Rattle.std.specs.List.{list_any}
 use Rattle.std.specs.Str.{bytes_eq}
 use Rattle.call_circles.specs.Calls.{is_broken}
@@ -30,8 +30,11 @@ use Rattle.package_scope.specs.declared.table.DeclKind.TheVariants as K
 use Rattle.package_scope.specs.declared.table.Declaration.{Declaration}
 use Rattle.package_scope.specs.declared.table.Found.{Found}
 use Rattle.package_scope.specs.declared.table.Found.TheVariants.{Decl, Absent, Twice}
+use Rattle.package_scope.specs.declared.table.Head.{Head}
+use Rattle.package_scope.specs.declared.table.Link.{Link}
 use Rattle.package_scope.specs.declared.table.LoopRun.{LoopRun}
 use Rattle.package_scope.specs.declared.table.NamedImport.{NamedImport}
+use Rattle.package_scope.specs.declared.table.Rest.{Rest}
 use Rattle.package_scope.specs.declared.table.Table.{Table}
 use Rattle.package_scope.specs.declared.table.Use.{Use}
 use Rattle.package_scope.specs.declared.table.WildcardImport.{WildcardImport}
@@ -407,7 +410,66 @@ call_breaks cs ns c = breaks_if (is_broken cs ns c) 609 c.at
 abbrev pub calls_breaks : List Token → Table → List Break
 calls_breaks ts t = flat_map (call_breaks (calls ts t) (needs ts t)) (calls ts t)
 
+-- `.*` connects each port of a module or an interface that isn't named to the declaration of its name. The ports are
+-- declared behind the module's own name, before the end of its header.
+abbrev pub head_of : ℕ → List Head → ℕ
+head_of s [] = 0
+head_of s (h ∷ hs) = cond (nat_eq h.scope s) h.declared (head_of s hs)
+
+abbrev pub in_header : Table → ℕ → ℕ → List Declaration
+in_header t n s = drop (suc n) (take (head_of s t.heads) t.declared)
+
+abbrev pub is_signal_kind : DeclKind → Bool
+is_signal_kind K.Signal = true
+is_signal_kind _ = false
+
+abbrev pub is_port : ℕ → Declaration → Bool
+is_port s d = nat_eq d.scope s && is_signal_kind d.what
+
+abbrev pub is_link_to : ℕ → List ℕ → Link → Bool
+is_link_to n name l = nat_eq l.instance n && bytes_eq l.name name
+
+abbrev pub is_left : Table → ℕ → ℕ → Declaration → Bool
+is_left t n s d = is_port s d && not (list_any (is_link_to n d.name) t.links)
+
+abbrev pub rest_use : ℕ → ℕ → Use
+rest_use s at = record { scope = s; source = None; at = at; role = R.Connection; path = T.Alone }
+
+abbrev pub port_breaks : List Token → Table → Rest → ℕ → ℕ → Declaration → List Break
+port_breaks ts t r around s d = cond (is_left t r.instance s d) (found_breaks ts t (rest_use around r.at) (means t around d.name r.at)) []
+
+abbrev pub ports_breaks : List Token → Table → Rest → ℕ → ℕ → Option Declaration → List Break
+ports_breaks ts t r around n None = []
+ports_breaks ts t r around n (Some m) = cond (is_instantiated m.what) (flat_map (port_breaks ts t r around m.inner) (in_header t n m.inner)) []
+
+abbrev pub number_of : Found → Option ℕ
+number_of (Decl n) = Some n
+number_of Absent = None
+number_of Twice = None
+
+abbrev pub number_at : List Token → Table → Option Use → Option ℕ
+number_at ts t None = None
+number_at ts t (Some u) = number_of (finds ts t u)
+
+abbrev pub found_ports : List Token → Table → Rest → ℕ → Option ℕ → List Break
+found_ports ts t r around None = []
+found_ports ts t r around (Some n) = ports_breaks ts t r around n (slice_get t.declared n)
+
+abbrev pub instance_breaks : List Token → Table → Rest → ℕ → Declared → List Break
+instance_breaks ts t r around (W.Instance of) = found_ports ts t r around (number_at ts t (use_at of t.uses))
+instance_breaks ts t r around _ = []
+
+abbrev pub rest_breaks_of : List Token → Table → Rest → Option Declaration → List Break
+rest_breaks_of ts t r None = []
+rest_breaks_of ts t r (Some i) = instance_breaks ts t r i.scope i.how
+
+abbrev pub rest_breaks : List Token → Table → Rest → List Break
+rest_breaks ts t r = rest_breaks_of ts t r (slice_get t.declared r.instance)
+
 -- All breaks of a text, and the one that is answered.
+abbrev pub further_breaks : List Token → Table → List Break
+further_breaks ts t = calls_breaks ts t ++ flat_map (rest_breaks ts t) t.rests
+
 unfoldable pub all_breaks : List Token → Table → List Event → List Break
 all_breaks ts t es =
     flat_map (use_breaks ts t) t.uses
@@ -417,7 +479,7 @@ all_breaks ts t es =
     ++ (flat_map (repeated_import_breaks t) t.named
     ++ (flat_map (event_breaks ts t) es
     ++ (kept_breaks 0 ts
-    ++ calls_breaks ts t))))))
+    ++ further_breaks ts t))))))
 
 unfoldable pub names_break : SourceTree → Option Break
 names_break tree = least (all_breaks tree.tokens (table_of tree) (events_of tree))

@@ -103,8 +103,22 @@ used holder name role path t = record t {
 abbrev pub run_over : ℕ → ℕ → Table → Table
 run_over name last t = record t { loops = t.loops ++ record { scope = t.current; name = name; last = last } ∷ [] }
 
+-- Ports of an instance are connected behind its own declaration, and no other one stands between.
+abbrev pub headed : Table → Table
+headed t = record t { heads = t.heads ++ record { scope = t.current; declared = length t.declared } ∷ [] }
+
+abbrev pub last_declared : Table → ℕ
+last_declared t = length t.declared - 1
+
+abbrev pub linked : List Token → ℕ → Table → Table
+linked ts port t = record t { links = t.links ++ record { instance = last_declared t; name = word ts port } ∷ [] }
+
+abbrev pub rest_linked : ℕ → Table → Table
+rest_linked mark t = record t { rests = t.rests ++ record { instance = last_declared t; at = mark } ∷ [] }
+
 abbrev pub step : List Token → Event → Table → Table
 step ts (E.Opens kind first last) t = opened kind first last t
+step ts E.Heads t = headed t
 step ts E.Closes t = closed t
 step ts (E.Declares what name last outside) t = declared ts what name last outside t
 step ts (E.ImportsName holder name) t = imported ts holder name t
@@ -115,8 +129,8 @@ step ts (E.Repeats of name) t = t
 step ts (E.Packs of at) t = t
 step ts (E.Undirected name of before) t = t
 step ts (E.TypeArgument function at) t = t
-step ts (E.Connects port) t = t
-step ts (E.ConnectsRest mark) t = t
+step ts (E.Connects port) t = linked ts port t
+step ts (E.ConnectsRest mark) t = rest_linked mark t
 step ts (E.Wrong at) t = t
 
 abbrev pub steps : List Token → List Event → Table → Table
@@ -128,7 +142,18 @@ abbrev pub unit_scope : ℕ → Scope
 unit_scope last = record { kind = S.Unit; first = 0; last = last; outer = 0 }
 
 abbrev pub start : ℕ → Table
-start last = record { current = 0; scopes = unit_scope last ∷ []; declared = []; named = []; wildcards = []; uses = []; loops = [] }
+start last = record {
+  current = 0;
+  scopes = unit_scope last ∷ [];
+  declared = [];
+  named = [];
+  wildcards = [];
+  uses = [];
+  loops = [];
+  heads = [];
+  links = [];
+  rests = [];
+}
 
 -- The table of a text. Scopes are numbered from 0 in the order of their first tokens, the compilation unit first, and
 -- declarations in the order of their tokens.

@@ -4,7 +4,8 @@ ghost use Rattle.std.specs.Prelude.{◌≡◌, [], ◌∷◌, IfOk, OnOk};
 ghost use Rattle.package_scope.specs.Tables as means;
 
 use crate::table::{
-    DeclKind, Declaration, LoopRun, NamedImport, Scope, Table, Use, WildcardImport,
+    DeclKind, Declaration, Head, Link, LoopRun, NamedImport, Rest, Scope, Table, Use,
+    WildcardImport,
 };
 use name_events::{Declared, Event, Role, ScopeKind, SelectPath, events_of};
 use std::alloc::{AllocError, Global};
@@ -196,12 +197,48 @@ fn run_over(name: u32, last: u32, table: &mut Table) -> Result<(), AllocError>
     table.loops.push(LoopRun { scope, name, last })
 }
 
+/// A header ends.
+fn headed(table: &mut Table) -> Result<(), AllocError>
+    ensures { OnOk result (table.new ≡ means.headed table.old) }
+{
+    let scope = table.current;
+    let declared = number(table.declared.len())?;
+    table.heads.push(Head { scope, declared })
+}
+
+/// The number of the last declaration.
+fn last_declared(table: &Table) -> Result<u32, AllocError>
+    ensures { IfOk result (λ n. n ≡ means.last_declared table.now) }
+{
+    number(table.declared.len().saturating_sub(1))
+}
+
+/// A port of the last instance is connected by its name.
+fn linked(alloc: Global, tokens: &[Token], port: u32, table: &mut Table) -> Result<(), AllocError>
+    ensures { OnOk result (table.new ≡ means.linked tokens.now port table.old) }
+{
+    let instance = last_declared(table)?;
+    table.links.push(Link {
+        instance,
+        name: word(alloc, tokens, port)?,
+    })
+}
+
+/// The further ports of the last instance are connected.
+fn rest_linked(mark: u32, table: &mut Table) -> Result<(), AllocError>
+    ensures { OnOk result (table.new ≡ means.rest_linked mark table.old) }
+{
+    let instance = last_declared(table)?;
+    table.rests.push(Rest { instance, at: mark })
+}
+
 /// What one event does.
 fn step(alloc: Global, tokens: &[Token], event: Event, table: &mut Table) -> Result<(), AllocError>
     ensures { OnOk result (table.new ≡ means.step tokens.now event table.old) }
 {
     match event {
         Event::Opens { kind, first, last } => opened(kind, first, last, table),
+        Event::Heads => headed(table),
         Event::Closes => {
             closed(table);
             Ok(())
@@ -225,8 +262,8 @@ fn step(alloc: Global, tokens: &[Token], event: Event, table: &mut Table) -> Res
         Event::Packs { .. } => Ok(()),
         Event::Undirected { .. } => Ok(()),
         Event::TypeArgument { .. } => Ok(()),
-        Event::Connects { .. } => Ok(()),
-        Event::ConnectsRest { .. } => Ok(()),
+        Event::Connects { port } => linked(alloc, tokens, port, table),
+        Event::ConnectsRest { mark } => rest_linked(mark, table),
         Event::Wrong { .. } => Ok(()),
     }
 }
@@ -265,6 +302,9 @@ fn start(alloc: Global, last: u32) -> Result<Table, AllocError>
         wildcards: Items::new(alloc),
         uses: Items::new(alloc),
         loops: Items::new(alloc),
+        heads: Items::new(alloc),
+        links: Items::new(alloc),
+        rests: Items::new(alloc),
     })
 }
 

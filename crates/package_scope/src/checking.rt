@@ -65,7 +65,9 @@ fn first_known(
     let others = names.events_break(events);
     let kept = kept_break(names.tokens());
     let calls = names.calls_break(alloc)?;
-    let further = first(twice, first(others, first(kept, calls)));
+    let rests = names.rests_break(alloc)?;
+    let last = first(calls, rests);
+    let further = first(twice, first(others, first(kept, last)));
     Ok(first(uses, first(imports, first(wildcards, further))))
 }
 

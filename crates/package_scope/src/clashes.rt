@@ -46,7 +46,7 @@ fn shares(one: Option<usize>, other: Option<usize>) -> bool
 }
 
 /// Whether a token stands before another one.
-fn is_before(one: Option<u32>, token: u32) -> bool
+pub fn is_before(one: Option<u32>, token: u32) -> bool
     ensures { result ≡ means.is_before one token }
 {
     match one {
@@ -72,7 +72,7 @@ fn clash(earliest: Option<Earliest>, token: u32, share: Option<usize>) -> bool
 }
 
 /// The first of a token and another one.
-fn sooner(token: u32, other: Option<u32>) -> u32
+pub fn sooner(token: u32, other: Option<u32>) -> u32
     ensures { result ≡ means.sooner token other }
 {
     match other {

@@ -25,7 +25,7 @@ fn is_interface_kind(what: DeclKind) -> bool
 }
 
 /// Whether a declaration is that of a module or an interface.
-fn is_instantiated(what: DeclKind) -> bool
+pub fn is_instantiated(what: DeclKind) -> bool
     ensures { result ≡ means.is_instantiated what }
 {
     match what {

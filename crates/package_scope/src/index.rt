@@ -2,9 +2,11 @@
 
 ghost use Rattle.std.specs.Prelude.{◌≡◌, ℕ, List, IfOk, OnOk};
 ghost use Rattle.package_scope.specs.Index as means;
+ghost use Rattle.package_scope.specs.Packages as packages;
 ghost use Rattle.package_scope.specs.Lookup.{first_from, everywhere_from, import_from};
 
 use crate::names::{Names, Slots};
+use crate::packages::{Packages, holders_of, no_packages, starts_of};
 use crate::table::{Declaration, NamedImport, Table, is_everywhere};
 use crate::wildcards::{Wildcards, wildcards_of};
 use std::alloc::{AllocError, Global};
@@ -23,6 +25,8 @@ pub struct Index {
     pub imports: Slots,
     /// The imports of all names in a scope.
     pub wildcards: Wildcards,
+    /// The packages that imports of all names bring.
+    pub packages: Packages,
 }
 
 /// The names of declarations and imports.
@@ -38,7 +42,7 @@ fn names_of(alloc: Global, table: &Table) -> Result<Names, AllocError> {
 }
 
 /// Puts a number under a name that has a number.
-fn put(
+pub fn put(
     names: &Names,
     slots: &mut Slots,
     scope: u32,
@@ -112,8 +116,8 @@ fn imports_of(alloc: Global, names: &Names, list: &[NamedImport]) -> Result<Slot
     Ok(slots)
 }
 
-/// The index of a table.
-pub fn index_of(alloc: Global, table: &Table) -> Result<Index, AllocError>
+/// The index of a table, but for packages.
+fn index_without(alloc: Global, table: &Table) -> Result<Index, AllocError>
     ensures { IfOk result (λ x. means.Indexed table.now x) }
 {
     let names = names_of(alloc, table)?;
@@ -127,5 +131,26 @@ pub fn index_of(alloc: Global, table: &Table) -> Result<Index, AllocError>
         everywhere,
         imports,
         wildcards,
+        packages: no_packages(alloc),
     })
+}
+
+/// The packages of a table.
+fn packages_of(alloc: Global, table: &Table, index: &Index) -> Result<Packages, AllocError>
+    requires indexed { means.Indexed table.now index.now }
+    ensures { IfOk result (λ x. packages.ArePackages table.now index.now.names x) }
+{
+    let holders = holders_of(alloc, &index.names, table.declared.as_slice())?;
+    let starts = starts_of(alloc, table, index, table.wildcards.as_slice())?;
+    Ok(Packages { holders, starts })
+}
+
+/// The index of a table.
+pub fn index_of(alloc: Global, table: &Table) -> Result<Index, AllocError>
+    ensures indexed { IfOk result (λ x. means.Indexed table.now x) }
+    ensures packaged { IfOk result (λ x. packages.ArePackages table.now x.names x.packages) }
+{
+    let mut index = index_without(alloc, table)?;
+    index.packages = packages_of(alloc, table, &index)?;
+    Ok(index)
 }

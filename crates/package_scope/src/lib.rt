@@ -15,6 +15,8 @@ mod meaning;
 mod name_table;
 mod named_text;
 mod names;
+mod packages;
+mod rests;
 mod scoped;
 mod table;
 mod use_breaks;
@@ -26,5 +28,6 @@ pub use checking::{lookup, scopes};
 pub use name_table::NameTable;
 pub use scoped::Scopes;
 pub use table::{
-    DeclKind, Declaration, Found, LoopRun, NamedImport, Scope, Table, Use, WildcardImport,
+    DeclKind, Declaration, Found, Head, Link, LoopRun, NamedImport, Rest, Scope, Table, Use,
+    WildcardImport,
 };

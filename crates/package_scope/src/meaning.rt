@@ -3,8 +3,11 @@
 ghost use Rattle.std.specs.Prelude.{◌≡◌, length, filter, slice_get};
 ghost use Rattle.package_scope.specs.Index.{Indexed, number_in, slots_in, under_number};
 ghost use Rattle.package_scope.specs.Lookup as means;
+ghost use Rattle.package_scope.specs.Packages as packages;
+ghost use Rattle.package_scope.specs.Packages.{ArePackages, held, all_held};
 
 use crate::building::outer;
+use crate::clashes::is_before;
 use crate::index::Index;
 use crate::names::Slots;
 use crate::table::{
@@ -188,6 +191,16 @@ fn both(one: Found, other: Found) -> Found
     }
 }
 
+/// Whether two declarations were found.
+fn is_twice(found: Found) -> bool
+    ensures { result ≡ packages.is_twice found }
+{
+    match found {
+        Found::Twice => true,
+        _ => false,
+    }
+}
+
 /// A declaration as what is found, if there is one.
 pub fn found(declaration: Option<u32>) -> Found
     ensures { result ≡ means.found declaration }
@@ -242,11 +255,65 @@ fn all_bring(
     let mut together = Found::Absent;
     for import in list {
         together = both(together, brings(table, index, name, number, token, import));
+        if is_twice(together) {
+            return Found::Twice;
+        }
     }
     together
 }
 
-/// What the imports of all names in a scope bring together.
+/// What a scope brings that declares a name, if it is that of a package all whose names are imported before a token.
+fn held_by(
+    table: &Table,
+    index: &Index,
+    scope: u32,
+    name: &Text,
+    number: Option<usize>,
+    token: u32,
+    holder: u32,
+) -> Found
+    requires indexed { Indexed table.now index.now }
+    requires packaged { ArePackages table.now index.now.names index.now.packages }
+    requires known { number ≡ number_in index.now.names name.now }
+    ensures { result ≡ held table.now scope name.now token holder }
+{
+    if is_before(index.packages.starts.find(scope, holder as usize), token) {
+        found(own(table, index, holder, name, number, token))
+    } else {
+        Found::Absent
+    }
+}
+
+/// What scopes that declare a name bring together.
+fn all_hold(
+    table: &Table,
+    index: &Index,
+    scope: u32,
+    name: &Text,
+    number: Option<usize>,
+    token: u32,
+    holders: &[u32],
+) -> Found
+    requires indexed { Indexed table.now index.now }
+    requires packaged { ArePackages table.now index.now.names index.now.packages }
+    requires known { number ≡ number_in index.now.names name.now }
+    ensures { result ≡ all_held table.now scope name.now token holders.now }
+{
+    let mut together = Found::Absent;
+    for holder in holders {
+        together = both(
+            together,
+            held_by(table, index, scope, name, number, token, *holder),
+        );
+        if is_twice(together) {
+            return Found::Twice;
+        }
+    }
+    together
+}
+
+/// What the imports of all names in a scope bring together: import by import, or package by package where fewer scopes declare
+/// the name.
 fn by_wildcards(
     table: &Table,
     index: &Index,
@@ -256,10 +323,17 @@ fn by_wildcards(
     token: u32,
 ) -> Found
     requires indexed { Indexed table.now index.now }
+    requires packaged { ArePackages table.now index.now.names index.now.packages }
     requires known { number ≡ number_in index.now.names name.now }
     ensures { result ≡ means.by_wildcards table.now scope name.now token }
 {
-    all_bring(table, index, name, number, token, index.wildcards.of(scope))
+    let imports = index.wildcards.of(scope);
+    let holders = index.packages.holders.under(number);
+    if imports.len() <= holders.len() {
+        all_bring(table, index, name, number, token, imports)
+    } else {
+        all_hold(table, index, scope, name, number, token, holders)
+    }
 }
 
 /// What a name stands for by one scope alone.
@@ -272,6 +346,7 @@ fn in_scope(
     token: u32,
 ) -> Found
     requires indexed { Indexed table.now index.now }
+    requires packaged { ArePackages table.now index.now.names index.now.packages }
     requires known { number ≡ number_in index.now.names name.now }
     ensures { result ≡ means.in_scope table.now scope name.now token }
 {
@@ -287,6 +362,7 @@ fn in_scope(
 /// What a name stands for at a token of a scope.
 pub fn means(table: &Table, index: &Index, scope: u32, name: &Text, token: u32) -> Found
     requires indexed { Indexed table.now index.now }
+    requires packaged { ArePackages table.now index.now.names index.now.packages }
     ensures { result ≡ means.means table.now scope name.now token }
 {
     let number = index.names.number(name);

@@ -2,6 +2,7 @@
 
 ghost use Rattle.std.specs.Prelude.{◌≡◌, ◌-◌, ◌<◌, length, slice_get, IfOk, Some};
 ghost use Rattle.std.specs.Option.{option_copied};
+ghost use Rattle.package_scope.specs.Innermost.{scope_at};
 ghost use Rattle.package_scope.specs.Lookup as means;
 ghost use Rattle.package_scope.specs.Rules as rules;
 ghost use Rattle.package_scope.specs.Tables as tables;
@@ -10,6 +11,7 @@ use crate::building::{number, table_of};
 use crate::index::{Index, index_of};
 use crate::meaning::{found, in_package, means, own};
 use crate::table::{Declaration, Found, Scope, Table, Use};
+use crate::walks::innermost;
 use name_events::{Event, events_of};
 use std::alloc::{AllocError, Global};
 use std::marker::Model;
@@ -25,15 +27,16 @@ pub struct NameTable {
 }
 
 impl Model for NameTable {
-    ghost use Rattle.std.specs.Prelude.{◌≡◌, []};
+    ghost use Rattle.std.specs.Prelude.{◌≡◌, ◌<◌, ◌^◌, [], length};
     ghost use Rattle.package_scope.specs.declared.table.Table.{Table};
     ghost use Rattle.package_scope.specs.Index.{Indexed};
+    ghost use Rattle.package_scope.specs.Packages.{ArePackages};
 
     ghost Value = { Table };
 
     ghost view = { λ x. x.table };
 
-    ghost invariant = { λ x. Indexed x.table x.index × (x.nothing ≡ []) };
+    ghost invariant = { λ x. Indexed x.table x.index × (ArePackages x.table x.index.names x.index.packages × ((x.nothing ≡ []) × (length x.table.scopes < 2 ^ 32))) };
 }
 
 impl NameTable {
@@ -56,6 +59,7 @@ impl NameTable {
     {
         let last = number(tokens.len().saturating_sub(1))?;
         let table = table_of(alloc, tokens, events, last)?;
+        let _count = number(table.scopes.len())?;
         let index = index_of(alloc, &table)?;
         Ok(NameTable {
             table,
@@ -83,6 +87,13 @@ impl NameTable {
         ensures { option_copied result ≡ slice_get self.now.scopes number }
     {
         at(self.table.scopes.as_slice(), number as usize)
+    }
+
+    /// The innermost scope that holds a token, by its number. It takes no memory, and time by the number of scopes.
+    pub fn scope_at(&self, token: u32) -> u32
+        ensures { result ≡ scope_at self.now token }
+    {
+        innermost(self.table.scopes.as_slice(), token)
     }
 
     /// What a name stands for at a token of a scope (IEEE 1800-2017 clause 23.9). It takes no memory.

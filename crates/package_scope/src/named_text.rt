@@ -80,6 +80,18 @@ impl<'t> NamedText<'t> {
         }
     }
 
+    /// The number of the declaration that the use at a token finds.
+    #[tactic(auto, using(crate::proofs::Kept::numbering))]
+    pub(crate) fn number_at(&self, token: u32) -> Option<u32>
+        requires kept { Kept self.now.tokens.now self.now.names.now self.now.found.now self.now.loops.now }
+        ensures { result ≡ rules.number_at self.now.tokens.now self.now.names.now (rules.use_at token self.now.names.now.uses) }
+    {
+        match self.found.at(token) {
+            Some(Found::Decl(number)) => Some(number),
+            _ => None,
+        }
+    }
+
     /// What the generate loops of a scope run over.
     pub(crate) fn loops_in(&self, scope: u32) -> &[LoopRun]
         requires kept { Kept self.now.tokens.now self.now.names.now self.now.found.now self.now.loops.now }

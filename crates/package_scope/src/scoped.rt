@@ -2,6 +2,7 @@
 
 ghost use Rattle.std.specs.Prelude.{◌≡◌, slice_get};
 ghost use Rattle.std.specs.Option.{option_copied};
+ghost use Rattle.package_scope.specs.Innermost.{scope_at};
 
 use crate::name_table::NameTable;
 use crate::table::Declaration;
@@ -42,5 +43,13 @@ impl<'t> Scopes<'t> {
         ensures { option_copied result ≡ slice_get self.now.names.declared number }
     {
         self.names.declaration(number)
+    }
+
+    /// The innermost scope that holds a token, by its number (IEEE 1800-2017 clause 23.9). It takes no memory, and time by the
+    /// number of scopes.
+    pub fn scope_at(&self, token: u32) -> u32
+        ensures { result ≡ scope_at self.now.names token }
+    {
+        self.names.scope_at(token)
     }
 }

@@ -137,6 +137,33 @@ pub struct LoopRun {
     pub last: u32,
 }
 
+/// The end of the header of a module or an interface.
+#[derive(Clone, Copy)]
+pub struct Head {
+    /// Its scope.
+    pub scope: u32,
+    /// How many declarations stand before it.
+    pub declared: u32,
+}
+
+/// A port of an instance that is connected by its name.
+#[derive(Drop)]
+pub struct Link {
+    /// The number of the instance's declaration.
+    pub instance: u32,
+    /// The port's name.
+    pub name: Text,
+}
+
+/// A `.*`, which connects the further ports of an instance.
+#[derive(Clone, Copy)]
+pub struct Rest {
+    /// The number of the instance's declaration.
+    pub instance: u32,
+    /// Its token.
+    pub at: u32,
+}
+
 /// What the events of a text leave, up to one of them.
 #[derive(Drop)]
 pub struct Table {
@@ -154,6 +181,12 @@ pub struct Table {
     pub uses: Items<Use>,
     /// What generate loops run over.
     pub loops: Items<LoopRun>,
+    /// The ends of headers.
+    pub heads: Items<Head>,
+    /// The ports that are connected by their names.
+    pub links: Items<Link>,
+    /// Each `.*`.
+    pub rests: Items<Rest>,
 }
 
 /// What a name stands for.

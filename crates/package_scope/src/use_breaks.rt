@@ -34,7 +34,7 @@ impl<'t> NamedText<'t> {
     }
 
     /// The break of a use by what it finds.
-    fn found_break(&self, found_by: Use, found: Found) -> Option<Break>
+    pub(crate) fn found_break(&self, found_by: Use, found: Found) -> Option<Break>
         requires kept { Kept self.now.tokens.now self.now.names.now self.now.found.now self.now.loops.now }
         ensures { result ≡ means.least (means.found_breaks self.now.tokens.now self.now.names.now found_by found) }
     {

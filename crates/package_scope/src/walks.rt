@@ -1,10 +1,11 @@
 //! What stands around a scope.
 
-ghost use Rattle.std.specs.Prelude.{◌≡◌, length, is_some};
+ghost use Rattle.std.specs.Prelude.{◌≡◌, ◌<◌, ◌^◌, cond, length, is_some};
+ghost use Rattle.package_scope.specs.Innermost.{holds, last_holder};
 ghost use Rattle.package_scope.specs.Rules as means;
 
 use crate::building::outer;
-use crate::table::Table;
+use crate::table::{Scope, Table};
 use name_events::ScopeKind;
 use sv_source::at;
 
@@ -87,4 +88,34 @@ pub fn in_function(table: &Table, scope: u32) -> bool
         scope = outer(table.scopes.as_slice(), scope);
     }
     false
+}
+
+/// Whether a scope holds a token.
+fn is_around(scope: &Scope, token: u32) -> bool
+    ensures { result ≡ holds token scope.now }
+{
+    scope.first <= token && token <= scope.last
+}
+
+/// A scope with its number if it holds a token, or else one that is known.
+fn inner(known: u32, number: u32, scope: &Scope, token: u32) -> u32
+    ensures { result ≡ cond (holds token scope.now) number known }
+{
+    if is_around(scope, token) {
+        number
+    } else {
+        known
+    }
+}
+
+/// The innermost scope that holds a token, by its number.
+pub fn innermost(scopes: &[Scope], token: u32) -> u32
+    requires { length scopes.now < 2 ^ 32 }
+    ensures { result ≡ last_holder 0 0 token scopes.now }
+{
+    let mut known = 0;
+    for (at, scope) in scopes.iter().enumerate() {
+        known = inner(known, at as u32, scope, token);
+    }
+    known
 }
