@@ -46,10 +46,14 @@ abbrev pub value_of : ℕ → List ℕ → ℕ
 value_of n [] = n
 value_of n (c ∷ cs) = value_of (10 * n + (c - 48)) cs
 
+abbrev pub begins_with_zero : List ℕ → Bool
+begins_with_zero [] = true
+begins_with_zero (c ∷ cs) = c == 48
+
 abbrev pub count_of : List ℕ → Option ℕ
-count_of [] = None
-count_of (c ∷ cs) =
-    if not (c == 48) && (list_all is_digit (c ∷ cs) && (nat_le (length cs) 2 && nat_le (value_of 0 (c ∷ cs)) 500)) then Some (value_of 0 (c ∷ cs)) else None
+count_of word =
+    if begins_with_zero word || nat_lt 3 (length word) || not (list_all is_digit word) || nat_lt 500 (value_of 0 word) then None
+    else Some (value_of 0 word)
 
 abbrev pub generation_asked : List (List ℕ) → Option EvalWords
 generation_asked [] = None

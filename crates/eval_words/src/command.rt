@@ -8,7 +8,7 @@ use clap::{Arg, Command};
 use std::alloc::{AllocError, Global};
 
 /// `--lang LANG --top NAME ROWS FILE...`, without flags for help and version.
-pub fn command(alloc: Global) -> Result<Command<'static>, AllocError>
+pub fn command<'a>(alloc: Global) -> Result<Command<'a>, AllocError>
     ensures { IfOk result (λ c. app_of c ≡ eval_app) }
 {
     let lang = Arg::new(alloc, "lang").long("lang").required(true);

@@ -1,7 +1,8 @@
 //! What the words ask for.
 
-ghost use Rattle.std.specs.Prelude.{◌≡◌, map, string_bytes, IfOk};
-ghost use Rattle.clap.specs.Words.{rows_of, found_of};
+ghost use Rattle.std.specs.Prelude.{◌≡◌, ◌≤◌, true, length, map, codes, option_map, option_and_then, string_bytes, IfOk};
+ghost use Rattle.std.specs.List.{list_all};
+ghost use Rattle.clap.specs.Words.{rows_of, found_of, first_value};
 ghost use Rattle.eval_words.specs.Words as spec;
 
 use crate::command::command;
@@ -93,35 +94,56 @@ fn fits(language: Language, files: &[&str]) -> bool
     }
 }
 
+// What some parts of a run ask for together.
+fn run_of(
+    alloc: Global,
+    language: Option<Language>,
+    top: Option<&str>,
+    rows: Option<&str>,
+    files: Option<&[&str]>,
+) -> Result<Option<EvalWords>, AllocError>
+    ensures { IfOk result (λ r. r ≡ spec.run_of language (option_map (λ w. w.now) top.entry) (option_map (λ w. w.now) rows.entry) (option_map (λ ws. map (λ w. w.now) ws.now) files.entry)) }
+{
+    match (language, top, rows, files) {
+        (Some(language), Some(top), Some(rows), Some(files)) if fits(language, files) => {
+            let top = Text::from_bytes(alloc, top.as_bytes())?;
+            let rows = Text::from_bytes(alloc, rows.as_bytes())?;
+            let files = texts_of(alloc, files)?;
+            Ok(Some(EvalWords::Run(EvalRun {
+                language,
+                top,
+                rows,
+                files,
+            })))
+        }
+        _ => Ok(None),
+    }
+}
+
+fn language_in(matches: &ArgMatches<'_>) -> Option<Language>
+    ensures { result ≡ option_and_then spec.language_of (first_value (found_of matches.now) (codes "lang")) }
+{
+    match matches.get_str("lang") {
+        None => None,
+        Some(word) => language_of(word.as_bytes()),
+    }
+}
+
 // What the matches of the command ask for.
 fn run_in(alloc: Global, matches: &ArgMatches<'_>) -> Result<Option<EvalWords>, AllocError>
     ensures { IfOk result (λ r. r ≡ spec.run_in (rows_of (found_of matches.now))) }
 {
-    let Some(language) = matches.get_str("lang").and_then(|word| language_of(word.as_bytes())) else {
-        return Ok(None);
-    };
-    let Some(top) = matches.get_str("top") else {
-        return Ok(None);
-    };
-    let Some(rows) = matches.get_str("ROWS") else {
-        return Ok(None);
-    };
-    let Some(files) = matches.get_strs("FILE") else {
-        return Ok(None);
-    };
-    if !fits(language, files) {
-        return Ok(None);
-    }
-    Ok(Some(EvalWords::Run(EvalRun {
-        language,
-        top: Text::from_bytes(alloc, top.as_bytes())?,
-        rows: Text::from_bytes(alloc, rows.as_bytes())?,
-        files: texts_of(alloc, files)?,
-    })))
+    run_of(
+        alloc,
+        language_in(matches),
+        matches.get_str("top"),
+        matches.get_str("ROWS"),
+        matches.get_strs("FILE"),
+    )
 }
 
 // A run, where the command takes the words.
-fn run_asked(alloc: Global, words: &[String]) -> Result<Option<EvalWords>, AllocError>
+fn run_asked<'a>(alloc: Global, words: &'a [String]) -> Result<Option<EvalWords>, AllocError>
     ensures { IfOk result (λ r. r ≡ spec.run_asked (map string_bytes words.now)) }
 {
     match command(alloc)?.try_get_matches_from(words) {
@@ -133,21 +155,44 @@ fn run_asked(alloc: Global, words: &[String]) -> Result<Option<EvalWords>, Alloc
     }
 }
 
-// A decimal from 1 to 500 without a leading zero.
-fn count_of(word: &[u8]) -> Option<u32>
-    ensures { result ≡ spec.count_of word.now }
+fn are_digits(word: &[u8]) -> bool
+    ensures { result ≡ list_all spec.is_digit word.now }
 {
-    let [first, rest @ ..] = word else {
-        return None;
-    };
-    if *first == b'0' || rest.len() > 2 || !word.iter().all(|c| c.is_ascii_digit()) {
-        return None;
-    }
+    word.iter().all(|c| (b'0'..=b'9').contains(c))
+}
+
+// The number that at most three digits write.
+fn value_of(word: &[u8]) -> u32
+    requires few { length word.now ≤ 3 }
+    requires digits { list_all spec.is_digit word.now ≡ true }
+    ensures { result ≡ spec.value_of 0 word.now }
+{
     let mut value = 0;
     for c in word {
         value = value * 10 + u32::from(*c - b'0');
     }
-    if value <= 500 { Some(value) } else { None }
+    value
+}
+
+// Whether there is no digit before a zero.
+fn begins_with_zero(word: &[u8]) -> bool
+    ensures { result ≡ spec.begins_with_zero word.now }
+{
+    match word {
+        [] => true,
+        [first, ..] => *first == b'0',
+    }
+}
+
+// A decimal from 1 to 500 without a leading zero.
+fn count_of(word: &[u8]) -> Option<u32>
+    ensures { result ≡ spec.count_of word.now }
+{
+    if begins_with_zero(word) || word.len() > 3 || !are_digits(word) || value_of(word) > 500 {
+        None
+    } else {
+        Some(value_of(word))
+    }
 }
 
 /// What the words after the program's name ask for: `--lang sv|v --top NAME ROWS FILE...` as `clap` reads it, in any order, with
