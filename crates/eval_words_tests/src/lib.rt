@@ -1,0 +1,5 @@
+//! Tests of the evaluator's words.
+#![tactic(auto)]
+
+#[cfg(test)]
+mod cases;
