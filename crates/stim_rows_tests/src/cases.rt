@@ -5,6 +5,11 @@ use std::test::Fail;
 use stim_rows::{Port, Ports, Shape, lines, read_rows};
 use sv_source::Text;
 
+// A small number.
+fn narrow(n: usize) -> u32 {
+    u32::try_from(n).unwrap_or(u32::MAX)
+}
+
 // A port whose marks a word gives, most significant first: `2` for a two-state bit, `4` for another.
 fn port(alloc: Global, name: &str, marks: &str, signal: u32) -> Result<Port, AllocError> {
     let mut bits = Vec::new(alloc);
@@ -14,7 +19,7 @@ fn port(alloc: Global, name: &str, marks: &str, signal: u32) -> Result<Port, All
     let two_state = Vec4::from_vec(bits);
     Ok(Port {
         name: Text::from_bytes(alloc, name.as_bytes())?,
-        width: two_state.len() as u32,
+        width: narrow(two_state.len()),
         two_state,
         signal,
     })
@@ -25,7 +30,7 @@ fn ports(alloc: Global, text: &str) -> Result<Ports, AllocError> {
     let mut all = Vec::new(alloc);
     for word in text.split(' ') {
         if let Some((name, marks)) = word.split_once(':') {
-            let signal = all.len() as u32;
+            let signal = narrow(all.len());
             all.push(port(alloc, name, marks, signal)?)?;
         }
     }
@@ -39,7 +44,11 @@ fn given(alloc: Global, inputs: &str, bits: u64, text: &str) -> Result<String, F
         outputs: ports(alloc, inputs)?,
         bits,
     };
-    match read_rows(alloc, &shape, 7, text.as_bytes()) {
+    let bytes = text.as_bytes();
+    if bytes.len() > 4096 {
+        return Ok(format!(in alloc; "too long for this test")?);
+    }
+    match read_rows(alloc, &shape, 7, bytes) {
         Ok(rows) => {
             let shown = lines(alloc, &shape, &rows)?;
             Ok(format!(in alloc; "{} rows: {}", rows.len(), shown.escape_ascii())?)
