@@ -6,3 +6,4 @@ pub mod Leading
 pub mod Circles
 pub mod Whole
 pub mod Sizes
+pub mod NoFunctions
