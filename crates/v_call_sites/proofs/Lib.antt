@@ -5,3 +5,5 @@ pub mod Statements
 pub mod Named
 pub mod StmtNamed
 pub mod Functions
+pub mod Later
+pub mod Linked
