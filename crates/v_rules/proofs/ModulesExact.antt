@@ -236,7 +236,7 @@ missings-are ms items names list h env (I.Process x ∷ is) at = missings-are ms
 missings-are ms items names list h env (I.Function x ∷ is) at = missings-are ms items names list h env is (at + item_size (I.Function x))
 missings-are ms items names list h env (I.Instance x ∷ is) at = missings-are ms items names list h env is (at + item_size (I.Instance x))
 
-tokens-are : (names : List Name) → list_tokens names ≡ cap (ports_size names)
+pub tokens-are : (names : List Name) → list_tokens names ≡ cap (ports_size names)
 tokens-are [] = refl
 tokens-are (n ∷ ns) = sum-of 2 (listed (length (n ∷ ns))) 2 (listed_tokens (suc (length ns))) refl (listed-of (suc (length ns)))
 

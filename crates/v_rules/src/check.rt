@@ -21,7 +21,8 @@ use v_scopes::Scope;
 use v_stmt_rules::{StmtSeen, local_met};
 use v_tree::{VDesign, VModule};
 
-fn list_tokens(names: &[Text]) -> u32
+/// How many tokens the port list of a module has, with its parentheses.
+pub fn list_tokens(names: &[Text]) -> u32
     ensures { result ≡ means.list_tokens names.now }
 {
     if names.is_empty() {

@@ -7,5 +7,5 @@ mod lists;
 mod modules;
 mod names;
 
-pub use check::first_broken;
+pub use check::{first_broken, list_tokens};
 pub use modules::Modules;

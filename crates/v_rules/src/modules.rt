@@ -33,8 +33,8 @@ impl Modules {
         }
     }
 
-    // The number of the first module with a name.
-    fn number(&self, name: &Text) -> Option<usize>
+    /// The number of the first module with a name, if there is one.
+    pub fn number(&self, name: &Text) -> Option<usize>
         ensures { result ≡ means.numbers_in self.now name.now }
     {
         self.numbers.get(name).copied()

@@ -1,0 +1,8 @@
+//! The first token of a design of a target text that breaks a rule, circles of modules among them.
+#![tactic(auto)]
+
+mod calls;
+mod check;
+mod tokens;
+
+pub use check::first_broken;
