@@ -202,7 +202,7 @@ two-state-alone w x sc u b =
     (case-alone (bit vector i) (T.literal (One ∷ [])) (slice_index_or x i X) One sc u (bit-alone vector w x sc u b i h) (literal-alone One sc u)
     (reference-unsigned vector w x sc u b (decimal_base i None ∷ [])) (literal-unsigned One))))
 
--- a place of ==?
+-- one bit of a wildcard comparison
 wild-bit : (p q : Bit4) → or4 (equality Case (not4 q ∷ []) (X ∷ [])) (xnor4 p q) ≡ wild4 p q
 wild-bit Zero Zero = refl
 wild-bit Zero One = refl
