@@ -122,9 +122,9 @@ module _ (own : ℕ) (d : Parts) where
       list_any (λ (p : Process). covered (p.does.writes p.scope) q || covered (p.does.later p.scope) q) d.processes
 
   -- A bit of a net that nothing writes is z (clause 4.6). Any other bit keeps what it holds at time zero until a run
-  -- assigns it.
+  -- assigns it. What lies past a signal's bits is x.
   abbrev pub start : Valuation
-  start q = of_signal d.signals X (λ s. cond (holds_value s.kind || is_written q) (given q) Z) q.signal
+  start q = of_signal d.signals X (λ s. cond (nat_lt q.bit (size s)) (cond (holds_value s.kind || is_written q) (given q) Z) X) q.signal
 
   -- the top's inputs: its own signals stand in front
   abbrev pub is_top_input : Place → Bool
