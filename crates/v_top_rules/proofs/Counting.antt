@@ -6,7 +6,7 @@ use Rattle.std.proofs.lemmas.List.{append-nil}
 use Rattle.v_tree.specs.Names.{Name, among}
 use Rattle.v_tree.specs.Scopes.{bits_of}
 use Rattle.v_tree.specs.ExprRules.{total}
-use Rattle.v_tree.specs.Rules.{instantiated, items_named, signal_bits, instances_below, bits_below, FitsTop}
+use Rattle.v_tree.specs.Rules.{instantiated, items_named, module_named, signal_bits, instances_below, bits_below, FitsTop}
 use Rattle.v_tree.specs.declared.items.VDesign.{VDesign}
 use Rattle.v_tree.specs.declared.items.VItem.{VItem}
 use Rattle.v_tree.specs.declared.items.VItem.TheVariants as I
@@ -17,7 +17,7 @@ use Rattle.v_rules.specs.Tables.{Numbers, no_numbers, numbers_from}
 use Rattle.v_top_rules.proofs.Rounds.{and-first, and-second}
 use Rattle.v_top_rules.specs.declared.nodes.Node.{Node}
 use Rattle.v_top_rules.specs.declared.sums.Sum.{Sum}
-use Rattle.v_top_rules.specs.Sums.{some_instances, some_bits, item_bits, bits_from, below_from, node_of, sum_or, sum_at, added, alone, sum_from, round, rounds, nothing, sum_below, top_sum, is_few}
+use Rattle.v_top_rules.specs.Sums.{some_instances, some_bits, item_bits, bits_from, below_from, node_of, sum_or, sum_at, added, alone, sum_from, round, rounds, nothing, sum_below, top_sum, is_few, bits_or, at_module}
 
 -- sums of what stands for more
 bits-add : (a b : ℕ) → some_bits (some_bits a + some_bits b) ≡ some_bits (a + b)
@@ -310,3 +310,30 @@ few_fits e top h = few-one e top (numbers_from 0 e.modules no_numbers top) refl 
 
 pub many_unfit : (e : VDesign) (top : Name) → is_few (top_sum e.modules top) ≡ false → FitsTop e top → ⊥
 many_unfit e top h = many-one e top (numbers_from 0 e.modules no_numbers top) refl h
+
+few-exact : (n : ℕ) → n ≤ 2 ^ 26 → some_bits n ≡ n
+unfolding some_bits
+few-exact n h = omega (arith, h)
+
+exact-one : (e : VDesign) (top : Name) (o : Option ℕ) → numbers_from 0 e.modules no_numbers top ≡ o → FitsTop e top
+    → bits_or (sum_below (nodes e.modules) o) ≡ bits_below (length e.modules) e.modules top
+exact-one e top None number fits = absurd (false≢true (sym (missing 0 e.modules top number).there ∙ fits.present))
+exact-one e top (Some k) number fits = (below e top k number).bits ∙ few-exact (bits_below (length e.modules) e.modules top) fits.bits
+
+pub exact_bits : (e : VDesign) (top : Name) → FitsTop e top → bits_or (top_sum e.modules top) ≡ bits_below (length e.modules) e.modules top
+exact_bits e top fits = exact-one e top (numbers_from 0 e.modules no_numbers top) refl fits
+
+-- the module with a name has the number of the name
+numbered-one : (all ms : List VModule) (n : ℕ) (name : Name) (b : Bool) (m : VModule) → Rest all n (m ∷ ms) → bytes_eq m.name name ≡ b
+    → at_module all (numbers_from (suc n) ms no_numbers name) ≡ module_named ms name
+    → at_module all (if b then Some n else numbers_from (suc n) ms no_numbers name) ≡ (if b then Some m else module_named ms name)
+numbered-one all ms n name true m rest e h = here all n m ms rest
+numbered-one all ms n name false m rest e h = h
+
+numbered-from : (all ms : List VModule) (n : ℕ) (name : Name) → Rest all n ms → at_module all (numbers_from n ms no_numbers name) ≡ module_named ms name
+numbered-from all [] n name rest = refl
+numbered-from all (m ∷ ms) n name rest =
+    numbered-one all ms n name (bytes_eq m.name name) m rest refl (numbered-from all ms (suc n) name (next-rest all n m ms rest))
+
+pub numbered_module : (ms : List VModule) (name : Name) → at_module ms (numbers_from 0 ms no_numbers name) ≡ module_named ms name
+numbered_module ms name = numbered-from ms ms 0 name (all-rest ms)

@@ -102,3 +102,12 @@ top_sum ms name = let ns = numbers_from 0 ms no_numbers in sum_below (map (node_
 abbrev pub is_few : Option Sum → Bool
 is_few None = false
 is_few (Some s) = nat_le s.instances 4096 && nat_le s.bits 67108864
+
+abbrev pub bits_or : Option Sum → ℕ
+bits_or None = 0
+bits_or (Some s) = s.bits
+
+-- the module with a number
+abbrev pub at_module : List VModule → Option ℕ → Option VModule
+at_module ms None = None
+at_module ms (Some number) = slice_get ms number

@@ -1,6 +1,7 @@
 //! Whether a design can be run with a module as its top.
 
-ghost use Rattle.std.specs.Prelude.{◌≡◌, IfOk};
+ghost use Rattle.std.specs.Prelude.{◌≡◌, length, IfOk};
+ghost use Rattle.v_tree.specs.Rules.{FitsTop, bits_below};
 ghost use Rattle.v_top_rules.specs.Fitting.{TopGives};
 ghost use Rattle.v_top_rules.specs.Sums as means;
 
@@ -72,4 +73,24 @@ pub fn check_top(alloc: Global, design: &VDesign, top: &Text) -> Result<(), TopF
     } else {
         Err(TopFail::Unfit)
     }
+}
+
+// The signal bits that were counted.
+fn bits_or(sum: Option<Sum>) -> u32
+    ensures { result ≡ means.bits_or sum }
+{
+    match sum {
+        None => 0,
+        Some(sum) => sum.bits,
+    }
+}
+
+/// How many bits the signals of a top and of all instances below it have, memories with all their words. Or want of memory.
+#[tactic(auto, using(crate::proofs::Counting::exact_bits))]
+pub fn top_bits(alloc: Global, design: &VDesign, top: &Text) -> Result<u32, AllocError>
+    requires { FitsTop design.now top.now }
+    ensures { IfOk result (λ bits. bits ≡ bits_below (length design.now.modules) design.now.modules top.now) }
+{
+    let sum = top_sum(alloc, design.modules.as_slice(), top)?;
+    Ok(bits_or(sum))
 }

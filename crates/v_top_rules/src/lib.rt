@@ -5,4 +5,4 @@ mod check;
 mod nodes;
 mod sums;
 
-pub use check::{TopFail, check_top};
+pub use check::{TopFail, check_top, top_bits};
