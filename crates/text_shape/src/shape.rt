@@ -16,7 +16,6 @@ use v_top_rules::top_bits;
 use v_tree::{VDesign, VModule};
 
 // The first module with a name.
-#[tactic(auto, using(v_top_rules::proofs::Counting::numbered_module))]
 fn find_module<'m>(table: &Modules, modules: &'m [VModule], name: &Text) -> Option<&'m VModule>
     requires { Tables table.now modules.now }
     ensures { option_copied result ≡ module_named modules.now name.now }
