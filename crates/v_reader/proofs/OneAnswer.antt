@@ -1,11 +1,7 @@
 -- A text has one answer.
-use Rattle.std.proofs.Common.{◌≡◌, ℕ, List, [], map, Option, Some, None, refl, sym, ap, ◌∙◌, subst}
-use Rattle.ll_engine.specs.Texts.{FailsAt, PassesAt}
+use Rattle.std.proofs.Common.{◌≡◌, ℕ, List, [], Some, None, refl, sym, ap, ◌∙◌}
 use Rattle.v_tree.specs.declared.items.VDesign.{VDesign}
-use Rattle.v_tree.specs.Tokens.{tokens}
-use Rattle.v_tree.specs.Symbols.{symbol}
-use Rattle.v_tree.specs.Table.{table}
-use Rattle.v_tree.specs.Reading.{Spells, VReads, nesting_limit}
+use Rattle.v_tree.specs.Reading.{VReads}
 use Rattle.v_tree.specs.Rules.{broken_tokens}
 use Rattle.v_expr_rules.specs.Least.{least}
 use Rattle.v_parse.proofs.OneReading.{one_reading}

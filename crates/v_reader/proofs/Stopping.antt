@@ -1,5 +1,5 @@
 -- The number that is kept of a token is as good as its own, since no text has so many tokens.
-use Rattle.std.proofs.Common.{◌≡◌, ℕ, ◌+◌, ◌-◌, ◌^◌, ◌≤◌, ◌<◌, min, nat_lt, Bool, true, false, List, [], ◌∷◌, length, Option, Some, None, slice_get, Result, Ok, Err, refl, sym, ap, ◌∙◌, subst, arith}
+use Rattle.std.proofs.Common.{◌≡◌, ℕ, ◌-◌, ◌^◌, ◌≤◌, ◌<◌, min, nat_lt, Bool, true, false, List, [], ◌∷◌, length, Option, Some, None, slice_get, Result, Ok, Err, refl, sym, ap, ◌∙◌, subst, arith}
 use Rattle.std.proofs.lemmas.Bool.{ltb-true, ltb-false}
 use Rattle.std.proofs.lemmas.Option.{slice_get_past}
 use Rattle.v_tree.specs.declared.items.VDesign.{VDesign}
@@ -10,16 +10,14 @@ use Rattle.v_expr_rules.specs.Least.{least, cap, capped, first}
 use Rattle.v_lexer.specs.Seen.{tokens_of}
 use Rattle.v_lexer.specs.declared.token.VToken.{VToken}
 use Rattle.v_parse.specs.Spots.{spot_of}
-use Rattle.v_parse.specs.declared.spot.Spot.{Spot}
 use Rattle.v_parse.proofs.Parsing.{text-length}
 use Rattle.ll_engine.specs.declared.fails.ParseFail.{ParseFail}
 use Rattle.ll_engine.specs.declared.fails.ParseFail.TheVariants as P
 use Rattle.v_parse.specs.Parsing.{TextGives}
-use Rattle.v_reader.specs.declared.fails.ReadFail.{ReadFail}
 use Rattle.v_reader.specs.declared.reading.Break.{Break}
 use Rattle.v_reader.specs.declared.reading.Stop.{Stop}
 use Rattle.v_reader.specs.declared.reading.Stop.TheVariants as S
-use Rattle.v_reader.specs.Refusing.{BreaksAt, Broken, rule_of, Refused, StopsAt, Keeping, TextRead, ReadGives, stop_of, refusal_at}
+use Rattle.v_reader.specs.Refusing.{StopsAt, Keeping, TextRead, ReadGives, stop_of, refusal_at}
 use Rattle.v_reader.specs.Refusing.Broken.{fails, nests, breaks}
 
 -- no token, and so none that is broken
