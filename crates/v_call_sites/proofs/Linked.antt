@@ -1,5 +1,5 @@
--- Calls lead where links do, where the calls from each number are the links of its name and all that is linked has a number.
-use Rattle.std.proofs.Common.{◌≡◌, ℕ, zero, suc, ◌==◌, Bool, true, false, ◌||◌, List, [], ◌∷◌, length, Option, Some, None, slice_get, refl, sym, ap, ◌∙◌, arith}
+-- Calls lead where links do, where the calls from each number are the links of its name and what has no number has no links.
+use Rattle.std.proofs.Common.{◌≡◌, ℕ, zero, suc, ◌==◌, Bool, true, false, ◌||◌, List, [], length, Option, Some, None, refl, sym, ap, ◌∙◌, arith}
 use Rattle.std.specs.List.{list_any}
 use Rattle.std.specs.Str.{bytes_eq}
 use Rattle.std.proofs.lemmas.Bool.{false≢true, eq-eqb, eqb-true, false_from_ne_true}
@@ -22,27 +22,33 @@ abbrev pub known : (ℕ → Bool) → Option ℕ → Bool
 known f None = false
 known f (Some x) = f x
 
-any-same : (f g : Name → Bool) (ns : List Name) → ((i : ℕ) (c : Name) → slice_get ns i ≡ Some c → f c ≡ g c) → list_any f ns ≡ list_any g ns
-any-same f g [] h = refl
-any-same f g (n ∷ ns) h = λ i. h 0 n refl i || any-same f g ns (λ j c e. h (suc j) c e) i
-
 module _ (ls : List Link) (cs : List Call) (number : Name → Option ℕ) (one : (a b : Name) (k : ℕ) → number a ≡ Some k → number b ≡ Some k → a ≡ b)
     (calls_are : (f : ℕ → Bool) (a : Name) (r : ℕ) → number a ≡ Some r → list_any (goes_to f r) cs ≡ list_any (λ c. known f (number c)) (links_of ls a))
-    (numbered : (a : Name) (r i : ℕ) (c : Name) → number a ≡ Some r → slice_get (links_of ls a) i ≡ Some c → (k : ℕ) × (number c ≡ Some k)) where
+    (unlinked : (c : Name) → number c ≡ None → links_of ls c ≡ []) where
   same-ends : (a b : Name) (x y : ℕ) → number a ≡ Some x → number b ≡ Some y → (x == y) ≡ bytes_eq a b
   same-ends a b x y e f =
       same_tests (x == y) (bytes_eq a b)
       (λ t. ap (bytes_eq a) (sym (one a b y (e ∙ ap Some (eqb-true x y t)) f)) ∙ same-name a)
       (λ t. eq-eqb x y (some-one (number a) x y e (ap number (names-equal a b t) ∙ f)))
 
+  differ-ends : (c b : Name) (y : ℕ) → number c ≡ None → number b ≡ Some y → bytes_eq c b ≡ false
+  differ-ends c b y e f = false_from_ne_true (bytes_eq c b) (λ t. let none : None ≡ Some y = sym e ∙ ap number (names-equal c b t) ∙ f in cc)
+
+  -- what has no number leads to nothing that has one
+  pub leads-nowhere : (k : ℕ) (c b : Name) (y : ℕ) → number c ≡ None → number b ≡ Some y → leads k ls c b ≡ false
+  leads-nowhere zero c b y e f = differ-ends c b y e f
+  leads-nowhere (suc k) c b y e f = λ i. differ-ends c b y e f i || list_any (λ n. leads k ls n b) (unlinked c e i)
+
+  known-leads : (k : ℕ) (c b : Name) (y : ℕ) (o : Option ℕ) → number c ≡ o → number b ≡ Some y → ((x : ℕ) → number c ≡ Some x → reaches cs k x y ≡ leads k ls c b)
+      → known (λ next. reaches cs k next y) o ≡ leads k ls c b
+  known-leads k c b y None e f h = sym (leads-nowhere k c b y e f)
+  known-leads k c b y (Some x) e f h = h x e
+
   reaches-leads : (k : ℕ) (a b : Name) (x y : ℕ) → number a ≡ Some x → number b ≡ Some y → reaches cs k x y ≡ leads k ls a b
   reaches-leads zero a b x y e f = same-ends a b x y e f
   reaches-leads (suc k) a b x y e f =
-      let g : ℕ → Bool = λ next. reaches cs k next y in
-      (λ i. same-ends a b x y e f i || calls_are g a x e i)
-      ∙ ap (λ t. bytes_eq a b || t)
-      (any-same (λ c. known g (number c)) (λ c. leads k ls c b) (links_of ls a)
-      (λ i c at. let n = numbered a x i c e at in ap (known g) n.1 ∙ reaches-leads k c b n.0 y n.1 f))
+      (λ i. same-ends a b x y e f i || calls_are (λ next. reaches cs k next y) a x e i)
+      ∙ (λ i. bytes_eq a b || list_any (λ c. known-leads k c b y (number c) refl f (λ z h. reaches-leads k c b z y h f) i) (links_of ls a))
 
   -- a call leads back where its name does
   pub call-leads : (a b : Name) (x y : ℕ) → number a ≡ Some x → number b ≡ Some y → leads_to cs x y ≡ leads (length ls) ls a b

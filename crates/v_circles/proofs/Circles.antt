@@ -39,11 +39,11 @@ unfolding earlier
 lesser-earlier a None = refl
 lesser-earlier a (Some b) = ap Some (lesser-is a b (nat_lt b a) refl)
 
-lesser-if : (b : Bool) (a : ℕ) (o : Option ℕ) → lesser_if b a o ≡ earlier (mark b a) o
+pub lesser-if : (b : Bool) (a : ℕ) (o : Option ℕ) → lesser_if b a o ≡ earlier (mark b a) o
 lesser-if true a o = lesser-earlier a o
 lesser-if false a o = sym (none-earlier o)
 
-first_of-append : (t : Call → Bool) (xs ys : List Call) → first_of t (xs ++ ys) ≡ earlier (first_of t xs) (first_of t ys)
+pub first_of-append : (t : Call → Bool) (xs ys : List Call) → first_of t (xs ++ ys) ≡ earlier (first_of t xs) (first_of t ys)
 first_of-append t [] ys = sym (none-earlier (first_of t ys))
 first_of-append t (x ∷ xs) ys =
     ap (lesser_if (t x) x.at) (first_of-append t xs ys)

@@ -29,7 +29,7 @@ same_tests false b f g = sym (false_from_ne_true b (λ e. false≢true (g e)))
 some-one : (o : Option ℕ) (x y : ℕ) → o ≡ Some x → o ≡ Some y → x ≡ y
 some-one o x y e f = cc
 
-both-some : (b c d : Bool) → ((b && c) || (b && d)) ≡ (b && (c || d))
+pub both-some : (b c d : Bool) → ((b && c) || (b && d)) ≡ (b && (c || d))
 both-some true c d = refl
 both-some false c d = refl
 
@@ -42,7 +42,7 @@ abbrev known : (ℕ → Bool) → Option ℕ → Bool
 known f None = false
 known f (Some x) = f x
 
-call-any : (f : ℕ → Bool) (r n : ℕ) (o : Option ℕ) (at : ℕ) (rest : List Call)
+pub call-any : (f : ℕ → Bool) (r n : ℕ) (o : Option ℕ) (at : ℕ) (rest : List Call)
     → list_any (goes_to f r) (call_between (Some n) o at ++ rest) ≡ (((n == r) && known f o) || list_any (goes_to f r) rest)
 call-any f r n None at rest = sym (ap (λ b. b || list_any (goes_to f r) rest) (and-false (n == r)))
 call-any f r n (Some to) at rest = refl

@@ -10,7 +10,7 @@ use Rattle.v_rules.specs.Tables.{no_numbers, numbers_from}
 use Rattle.v_circles.specs.Calls.{own_number}
 use Rattle.v_circles.proofs.Shortest.{names-equal, same-name}
 
-number-low : (n k : ℕ) (b : Bool) (o : Option ℕ) → (if b then Some n else o) ≡ Some k → (o ≡ Some k → suc n ≤ k) → n ≤ k
+pub number-low : (n k : ℕ) (b : Bool) (o : Option ℕ) → (if b then Some n else o) ≡ Some k → (o ≡ Some k → suc n ≤ k) → n ≤ k
 number-low n k true o e h = let same : n ≡ k = cc in omega (arith, same)
 number-low n k false o e h = omega (arith, h e)
 
@@ -18,7 +18,7 @@ numbers-low : (n k : ℕ) (ms : List VModule) (a : Name) → numbers_from n ms n
 numbers-low n k [] a e = cc
 numbers-low n k (m ∷ ms) a e = number-low n k (bytes_eq m.name a) (numbers_from (suc n) ms no_numbers a) e (numbers-low (suc n) k ms a)
 
-number-one : (n k : ℕ) (m a b : Name) (x y : Bool) (o p : Option ℕ) → bytes_eq m a ≡ x → bytes_eq m b ≡ y → (if x then Some n else o) ≡ Some k → (if y then Some n else p) ≡ Some k
+pub number-one : (n k : ℕ) (m a b : Name) (x y : Bool) (o p : Option ℕ) → bytes_eq m a ≡ x → bytes_eq m b ≡ y → (if x then Some n else o) ≡ Some k → (if y then Some n else p) ≡ Some k
     → (o ≡ Some k → suc n ≤ k) → (p ≡ Some k → suc n ≤ k) → (o ≡ Some k → p ≡ Some k → a ≡ b) → a ≡ b
 number-one n k m a b true true o p ea eb e f low high h = sym (names-equal m a ea) ∙ names-equal m b eb
 number-one n k m a b true false o p ea eb e f low high h = let same : n ≡ k = cc in absurd (omega (arith, same, high f))
@@ -67,7 +67,7 @@ since-old : (n : ℕ) (m a : Name) (o p : Option ℕ) (b d : Bool) → (if b the
 since-old n m a o p true d e old new = old-number n o (Some n) d d refl old new refl
 since-old n m a o p false d e old new = let h = old e in (h.0, h.1, omega (arith, h.2))
 
-since-new : (n : ℕ) (o p : Option ℕ) (b d : Bool) → (if b then true else d) ≡ false → (d ≡ false → o ≡ (if b then Some n else p)) → o ≡ p
+pub since-new : (n : ℕ) (o p : Option ℕ) (b d : Bool) → (if b then true else d) ≡ false → (d ≡ false → o ≡ (if b then Some n else p)) → o ≡ p
 since-new n o p true d e new = absurd (false≢true (sym e))
 since-new n o p false d e new = new e
 

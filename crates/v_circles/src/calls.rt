@@ -13,7 +13,7 @@ use v_rules::{Modules, list_tokens};
 use v_tree::{VItem, VModule};
 
 /// The number of an item of a list as a short one. No list has so many items that it isn't. Or want of memory.
-pub(crate) fn short(number: usize) -> Result<u32, AllocError>
+pub fn short(number: usize) -> Result<u32, AllocError>
     ensures { IfOk result (λ n. n ≡ number) }
 {
     match u32::try_from(number) {

@@ -5,4 +5,6 @@ mod calls;
 mod check;
 mod tokens;
 
+pub use calls::short;
 pub use check::first_broken;
+pub use tokens::item_tokens;

@@ -41,7 +41,7 @@ fn instance_tokens(alloc: Global, items: &[VItem], instance: &VInstance) -> Resu
 
 /// How many tokens an item of a module of these items has. Or want of memory.
 #[tactic(auto, using(crate::proofs::Sizes::signal_size_is))]
-pub(crate) fn item_tokens(alloc: Global, items: &[VItem], item: &VItem) -> Result<u32, AllocError>
+pub fn item_tokens(alloc: Global, items: &[VItem], item: &VItem) -> Result<u32, AllocError>
     ensures { IfOk result (λ r. r ≡ cap (means.item_size item.now)) }
 {
     match item {

@@ -59,7 +59,7 @@ result-is : (items : List VItem) (item : ℕ) (f : VFunction) → slice_get item
     → thing_in items (Some (N.Result f.range item)) ≡ Some (result (bits_of f.range) (has_range f.range) (input_bits f))
 result-is items item f e = ap (λ o. Some (result (bits_of f.range) (has_range f.range) (widths_of (inputs_in o)))) e
 
-things-function : (f : VFunction) (item : ℕ) (env : Env) (items : List VItem) (at : ℕ) → slice_get items item ≡ Some (I.Function f)
+pub things-function : (f : VFunction) (item : ℕ) (env : Env) (items : List VItem) (at : ℕ) → slice_get items item ≡ Some (I.Function f)
     → things items (function_given f item env) ≡ inside (function_names f at) (things items env)
 things-function f item env items at e =
     let labels : (stmt_told f.body).labels [] ≡ names_of (blocks_at f at) = (stmt-exact f.body).labels [] (body_at f at) in

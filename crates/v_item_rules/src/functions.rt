@@ -13,8 +13,9 @@ use v_scopes::{Entry, Scope};
 use v_stmt_rules::{Procedure, StmtSeen, local_met, locals_seen, stmt_labels, stmt_seen};
 use v_tree::{Texts, VFunction, VItem};
 
-// Declares what a function names: its result, its inputs, its variables and its blocks.
-fn enter_function(
+/// Declares what a function names, which is the item with this number: its result, its inputs, its variables and its blocks.
+/// Or want of memory.
+pub fn enter_function(
     alloc: Global,
     scope: &mut Scope,
     function: &VFunction,

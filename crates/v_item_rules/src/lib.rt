@@ -6,7 +6,7 @@ mod instances;
 mod processes;
 mod signals;
 
-pub use functions::function_seen;
+pub use functions::{enter_function, function_seen};
 pub use instances::{connections_seen, instance_seen};
 pub use processes::{initial_first, process_seen};
 pub use signals::{listed_tokens, range_tokens, signal_first, signal_tokens};

@@ -9,3 +9,4 @@ mod names;
 
 pub use check::{first_broken, list_tokens};
 pub use modules::Modules;
+pub use names::module_scope;

@@ -88,7 +88,7 @@ fn declare_item(
 }
 
 /// What names stand for in a module of these items; of two with one name the first one counts. Or want of memory.
-pub(crate) fn module_scope(alloc: Global, items: &[VItem]) -> Result<Scope, AllocError>
+pub fn module_scope(alloc: Global, items: &[VItem]) -> Result<Scope, AllocError>
     ensures { IfOk result (λ scope. found scope ≡ means.items_given 0 items.now nothing) }
 {
     let mut scope = Scope::new(alloc);

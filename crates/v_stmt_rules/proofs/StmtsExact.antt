@@ -197,7 +197,7 @@ plain-exact ts rs es = record {
 }
 
 -- in a named block
-same-around : (items : List VItem) (ts : List StmtTold) (rs : List StmtRules) (ls : List VLocal) (from at : ℕ) (env : Env) → Each StmtExact ts rs
+pub same-around : (items : List VItem) (ts : List StmtTold) (rs : List StmtRules) (ls : List VLocal) (from at : ℕ) (env : Env) → Each StmtExact ts rs
     → around (block_given ls (stmt_labels ts) env) items ≡ record (around env items) { scope = inside (R.locals_from ls from ++ blocks_in rs at) (around env items).scope }
 same-around items ts rs ls from at env es =
     let scopes : things items (block_given ls (stmt_labels ts) env) ≡ inside (R.locals_from ls from ++ blocks_in rs at) (things items env) =

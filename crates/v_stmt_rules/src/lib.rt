@@ -10,5 +10,5 @@ mod targets;
 pub use cases::{CaseSeen, ValuesSeen};
 pub use labels::{branch_labels, stmt_labels};
 pub use locals::{local_met, locals_seen};
-pub use statements::{StmtSeen, branch_seen, stmt_seen};
+pub use statements::{StmtSeen, branch_seen, enter_block, stmt_seen};
 pub use targets::{Procedure, TargetSeen, assign_first, target_seen};

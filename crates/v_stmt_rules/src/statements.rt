@@ -117,8 +117,8 @@ fn assignment(
     assign_seen(procedure, target, value, later, at)
 }
 
-// Declares the variables of a named block and the blocks of its statements.
-fn enter_block(
+/// Declares the variables of a named block and the blocks of its statements. Or want of memory.
+pub fn enter_block(
     alloc: Global,
     scope: &mut Scope,
     label: &VLabel,

@@ -1,0 +1,8 @@
+//! The rules on a design of a target text that hang on its top.
+#![tactic(auto)]
+
+mod check;
+mod nodes;
+mod sums;
+
+pub use check::{TopFail, check_top, top_bits};
