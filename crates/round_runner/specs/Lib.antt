@@ -1,0 +1,5 @@
+pub mod Stores
+pub mod Parts
+pub mod Rounds
+pub mod Settling
+pub mod Rows
