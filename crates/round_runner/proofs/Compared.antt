@@ -5,6 +5,7 @@ use Rattle.std.proofs.lemmas.List.{length-map, get_or_default}
 use Rattle.b4_core.specs.declared.bit.Bit4.{Bit4}
 use Rattle.b4_core.specs.declared.bit.Bit4.TheVariants.{X}
 use Rattle.round_runner.specs.Stores.{widths, vector_of, FirstChange}
+use Rattle.round_runner.specs.Plans.{DiffersAt}
 
 abbrev Store : Type 0
 Store = List (List Bit4)
@@ -38,3 +39,9 @@ first vs us n k v u a b e h is_v is_u to_v to_u apart before =
           (ap (λ w. slice_index_or w k X) (to_v ∙ read vs n v h is_v) ∙ same ∙ sym (ap (λ w. slice_index_or w k X) (to_u ∙ read us n u there is_u)));
       before = before;
     }
+
+pub differs_at : (vs us : Store) (n : ℕ) (v u : List Bit4) → v ≡ vector_of vs n → u ≡ vector_of us n → ((k : ℕ) × (slice_index_or v k X ≢ slice_index_or u k X)) → DiffersAt vs us n
+differs_at vs us n v u is_v is_u apart = record {
+  bit = apart.0;
+  differs = λ same. apart.1 (ap (λ w. slice_index_or w apart.0 X) is_v ∙ same ∙ sym (ap (λ w. slice_index_or w apart.0 X) is_u));
+}

@@ -5,6 +5,11 @@ pub mod OneRound
 pub mod Running
 pub mod Starting
 pub mod Waiting
+pub mod Picking
+pub mod Groups
+pub mod Telling
+pub mod Changing
+pub mod Built
 pub mod Stepping
 pub mod Tracing
 pub mod Flags

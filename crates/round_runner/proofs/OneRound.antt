@@ -20,10 +20,10 @@ rounding_at_start d flags base held made e = record {
 }
 
 -- the changes of a process that is started, and of one that isn't
-told_started : (s : Started) (v : Valuation) (p : Process) → s p ≡ true → told s v p ≡ p.assigns v
+pub told_started : (s : Started) (v : Valuation) (p : Process) → s p ≡ true → told s v p ≡ p.assigns v
 told_started s v p e = λ k q. only_if (e k) (p.assigns v) q
 
-untold : (s : Started) (v now : Valuation) (p : Process) → s p ≡ false → put (told s v p) now ≡ now
+pub untold : (s : Started) (v now : Valuation) (p : Process) → s p ≡ false → put (told s v p) now ≡ now
 untold s v now p e = λ k q. changed (only_if (e k) (p.assigns v) q) (now q)
 
 pub rounding_told : (d : Machine) (flags : List Bool) (base held made next : List (List Bit4)) (i : ℕ) (b : Bool) → i < length d.combs

@@ -68,23 +68,23 @@ running_at_start d flags base now left e all =
       shape = ap widths e;
     }
 
-pub running_on : (d : Machine) (flags : List Bool) (base now next : List (List Bit4)) (left n : ℕ) → left ≢ 0 → IsRound d flags base now next → FirstChange now next n
+pub running_on : (d : Machine) (flags : List Bool) (base now next : List (List Bit4)) (left : ℕ) (q : Place) → left ≢ 0 → IsRound d flags base now next → holding now q ≢ holding next q
     → Running d flags base now left → Running d flags base next (left - 1)
-running_on d flags base now next left n some made change running =
+running_on d flags base now next left q some made apart running =
     let within = running.within in
     let count : suc (written_bits d.combs - left) ≡ written_bits d.combs - (left - 1) = omega arith in record {
       within = omega arith;
       ran = λ s m.
           subst (λ k. RanOn d s (holding base) k (holding next)) count
-          (ran_more d s (holding base) (written_bits d.combs - left) (holding now) (holding next) (record { signal = n; bit = change.bit }) (running.ran s m) (made.values s m) change.differs);
+          (ran_more d s (holding base) (written_bits d.combs - left) (holding now) (holding next) q (running.ran s m) (made.values s m) apart);
       shape = made.shape;
     }
 
-pub come_to_rest : (d : Machine) (flags : List Bool) (base now next : List (List Bit4)) (left : ℕ) → IsRound d flags base now next → now ≡ next
+pub come_to_rest : (d : Machine) (flags : List Bool) (base now next : List (List Bit4)) (left : ℕ) → IsRound d flags base now next → ((s : Started) → Marks d.combs s flags → holding now ≡ holding next)
     → Running d flags base now left → ComeToRest d flags base now
 come_to_rest d flags base now next left made same running = record {
   reached = λ s m.
-      rests d s (holding base) (written_bits d.combs - left) (holding now) (holding next) (omega arith) (running.ran s m) (made.values s m) (ap holding same);
+      rests d s (holding base) (written_bits d.combs - left) (holding now) (holding next) (omega arith) (running.ran s m) (made.values s m) (same s m);
   shape = running.shape;
 }
 

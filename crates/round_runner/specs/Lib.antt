@@ -3,3 +3,4 @@ pub mod Parts
 pub mod Rounds
 pub mod Settling
 pub mod Rows
+pub mod Plans

@@ -1,8 +1,8 @@
 -- Parts of a machine by their numbers.
-use Rattle.std.specs.Prelude.{◌≡◌, ℕ, ◌<◌, ◌&&◌, ◌==◌, nat_lt, Bool, List, length, map, Some, slice_get, slice_index_or}
+use Rattle.std.specs.Prelude.{◌≡◌, ℕ, ◌<◌, ◌&&◌, ◌==◌, nat_lt, Bool, List, length, map, true, false, Some, None, slice_get, slice_index_or}
 use Rattle.std.specs.List.{list_any}
 use Rattle.b4_core.specs.declared.bit.Bit4.{Bit4}
-use Rattle.row_machine.specs.Valuation.{Place, Member, has}
+use Rattle.row_machine.specs.Valuation.{Place, Valuation, Member, has}
 use Rattle.row_machine.specs.Machine.{Process, EdgeProcess, Machine, Started, at_zero}
 use Rattle.row_machine.specs.Settle.{differs}
 use Rattle.round_runner.specs.Stores.{holding, Changed}
@@ -22,6 +22,15 @@ pub record Wakes (d : Machine) (i : ℕ) (now : List (List Bit4)) (answer : Bool
 -- what the process assigns, when it is run on what one store holds, is put over another one
 pub record Runs (ps : List Process) (i : ℕ) (held before after : List (List Bit4)) : Type 0 where
   pub done : (p : Process) → slice_get ps i ≡ Some p → Changed (p.assigns (holding held)) before after
+
+-- what the process assigns hangs on these signals alone
+pub record ReadsAlone (ps : List Process) (i : ℕ) (ns : List ℕ) : Type 0 where
+  pub alone : (p : Process) → slice_get ps i ≡ Some p → (v u : Valuation) → ((q : Place) → list_any (λ n. n == q.signal) ns ≡ true → v q ≡ u q)
+      → (q : Place) → p.assigns v q ≡ p.assigns u q
+
+-- it assigns these signals alone
+pub record WritesAlone (ps : List Process) (i : ℕ) (ns : List ℕ) : Type 0 where
+  pub none : (p : Process) → slice_get ps i ≡ Some p → (v : Valuation) (q : Place) → list_any (λ n. n == q.signal) ns ≡ false → p.assigns v q ≡ None
 
 -- whether the edge process with a number has its edge
 pub record HasEdge (es : List EdgeProcess) (i : ℕ) (last now : List (List Bit4)) (answer : Bool) : Type 0 where

@@ -1,7 +1,11 @@
 //! Runs a machine over rows by rounds.
 #![tactic(auto)]
 
+mod grouping;
+mod plan;
+mod planned;
 mod processes;
+mod remake;
 mod round;
 mod rounds;
 mod rows;

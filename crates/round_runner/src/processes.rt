@@ -1,9 +1,9 @@
 //! Machines that can be run.
 
-ghost use Rattle.std.specs.Prelude.{◌≡◌, ◌<◌, length, IfOk, OnOk};
+ghost use Rattle.std.specs.Prelude.{◌≡◌, ◌<◌, length, IfOk, IfSome, OnOk};
 ghost use Rattle.row_machine.specs.Rounds.{written_bits};
 ghost use Rattle.round_runner.specs.Stores.{Holds, widths};
-ghost use Rattle.round_runner.specs.Parts.{StartsAtZero, Wakes, Runs, HasEdge, Updates, InputsAre};
+ghost use Rattle.round_runner.specs.Parts.{StartsAtZero, Wakes, Runs, ReadsAlone, WritesAlone, HasEdge, Updates, InputsAre};
 
 use b4_core::Vec4;
 use std::alloc::{AllocError, Global};
@@ -67,6 +67,16 @@ pub trait Processes {
         requires held { widths held.now ≡ shape self.now }
         requires to { widths to.old ≡ shape self.now }
         ensures { OnOk result (Runs (machine self.now).combs i held.now to.old to.new) };
+
+    /// The signals that a combinational process reads, where this is known: what it assigns hangs on their bits alone.
+    fn reads(&self, i: usize) -> Option<&[usize]>
+        requires { i < length (machine self.now).combs }
+        ensures { IfSome result (λ ns. ReadsAlone (machine self.now).combs i ns.now) };
+
+    /// The signals that it may write, where this is known.
+    fn writes(&self, i: usize) -> Option<&[usize]>
+        requires { i < length (machine self.now).combs }
+        ensures { IfSome result (λ ns. WritesAlone (machine self.now).combs i ns.now) };
 
     /// Whether one of the signals of an edge process has its edge from the first store to the second.
     fn has_edge(&self, i: usize, last: &[Vec4], now: &[Vec4]) -> bool

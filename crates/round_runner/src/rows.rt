@@ -3,8 +3,11 @@
 ghost use Rattle.std.specs.Prelude.{◌≡◌, length, IfOk};
 ghost use Rattle.round_runner.specs.Stores.{Holds};
 ghost use Rattle.round_runner.specs.Parts.{StartsWith};
+ghost use Rattle.round_runner.specs.Plans.{FitsPlan};
 ghost use Rattle.round_runner.specs.Rows.{FitRows, RunGives};
 
+use crate::grouping::plan_of;
+use crate::plan::Plan;
 use crate::processes::Processes;
 use crate::rounds::{Change, Ended};
 use crate::step::step;
@@ -48,11 +51,13 @@ fn flags_at_zero<P: Processes>(alloc: Global, machine: &P) -> Result<Vec<bool>, 
 fn run_rows<P: Processes>(
     alloc: Global,
     machine: &P,
+    plan: &Option<Plan>,
     rows: &[Row],
     initial: Vec<Vec4>,
     start: Vec<Vec4>,
     started: &mut [bool],
 ) -> Result<Trace, RunFail>
+    requires plan { FitsPlan (P.machine machine.now) (length (P.shape machine.now)) plan.now }
     requires rows { FitRows (P.shape machine.now) (P.inputs machine.now) rows.now }
     requires initial { Holds (P.shape machine.now) (P.machine machine.now).initial initial.items }
     requires start { Holds (P.shape machine.now) (P.machine machine.now).start start.items }
@@ -63,7 +68,7 @@ fn run_rows<P: Processes>(
     let mut held = start;
     let mut trace = Trace::new(alloc);
     for row in rows {
-        match step(alloc, machine, row.as_slice(), &last, &held, started)? {
+        match step(alloc, machine, plan, row.as_slice(), &last, &held, started)? {
             Ended::Changes(change) => return Err(RunFail::Unsettled(trace.len(), change)),
             Ended::Rests(now) => {
                 last = copied(alloc, now.as_slice())?;
@@ -87,9 +92,11 @@ pub fn run<P: Processes>(alloc: Global, machine: &P, rows: &Rows) -> Result<Trac
     let initial = machine.initial(alloc)?;
     let start = machine.start(alloc)?;
     let mut started = flags_at_zero(alloc, machine)?;
+    let plan = plan_of(alloc, machine, initial.len())?;
     run_rows(
         alloc,
         machine,
+        &plan,
         rows.as_slice(),
         initial,
         start,

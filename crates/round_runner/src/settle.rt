@@ -2,10 +2,13 @@
 
 ghost use Rattle.std.specs.Prelude.{◌≡◌, ◌<◌, true, not, length, count_by, IfOk};
 ghost use Rattle.round_runner.specs.Stores.{widths};
+ghost use Rattle.round_runner.specs.Plans.{FitsPlan};
 ghost use Rattle.round_runner.specs.Settling.{Adds, Woken, SettlingEnds};
 
 use crate::processes::Processes;
-use crate::rounds::{Ended, rounds};
+use crate::plan::Plan;
+use crate::planned::rounds_by;
+use crate::rounds::Ended;
 use b4_core::Vec4;
 use std::alloc::{AllocError, Global};
 
@@ -43,15 +46,17 @@ fn wake<P: Processes>(machine: &P, now: &[Vec4], started: &mut [bool]) -> bool
 pub fn settle<P: Processes>(
     alloc: Global,
     machine: &P,
+    plan: &Option<Plan>,
     started: &mut [bool],
     base: &[Vec4],
 ) -> Result<Ended, AllocError>
+    requires plan { FitsPlan (P.machine machine.now) (length (P.shape machine.now)) plan.now }
     requires started { length started.old ≡ length (P.machine machine.now).combs }
     requires base { widths base.now ≡ P.shape machine.now }
     ensures { IfOk result (SettlingEnds (P.machine machine.now) base.now started.old started.new) }
 {
     'starts: loop {
-        match rounds(alloc, machine, started, base)? {
+        match rounds_by(alloc, machine, plan, started, base)? {
             Ended::Changes(change) => return Ok(Ended::Changes(change)),
             Ended::Rests(now) => {
                 if !wake(machine, now.as_slice(), started) {

@@ -2,8 +2,10 @@
 
 ghost use Rattle.std.specs.Prelude.{◌≡◌, ◌<◌, length, All, IfOk, OnOk};
 ghost use Rattle.round_runner.specs.Stores.{widths};
+ghost use Rattle.round_runner.specs.Plans.{FitsPlan};
 ghost use Rattle.round_runner.specs.Rows.{FitsRow, with_vectors, WithRow, AfterEdges, WithUpdates, StepEnds};
 
+use crate::plan::Plan;
 use crate::processes::Processes;
 use crate::rounds::Ended;
 use crate::settle::settle;
@@ -106,11 +108,13 @@ fn base_of_updates<P: Processes>(
 pub fn step<P: Processes>(
     alloc: Global,
     machine: &P,
+    plan: &Option<Plan>,
     row: &[Vec4],
     last: &[Vec4],
     held: &[Vec4],
     started: &mut [bool],
 ) -> Result<Ended, AllocError>
+    requires plan { FitsPlan (P.machine machine.now) (length (P.shape machine.now)) plan.now }
     requires row { FitsRow (P.shape machine.now) (P.inputs machine.now) row.now }
     requires last { widths last.now ≡ P.shape machine.now }
     requires held { widths held.now ≡ P.shape machine.now }
@@ -118,11 +122,11 @@ pub fn step<P: Processes>(
     ensures { IfOk result (StepEnds (P.machine machine.now) (P.inputs machine.now) row.now last.now held.now started.old started.new) }
 {
     let base = base_of_inputs(alloc, machine, row, held)?;
-    match settle(alloc, machine, started, &base)? {
+    match settle(alloc, machine, plan, started, &base)? {
         Ended::Changes(change) => Ok(Ended::Changes(change)),
         Ended::Rests(quiet) => {
             let base = base_of_updates(alloc, machine, row, last, quiet.as_slice())?;
-            let ended = settle(alloc, machine, started, &base)?;
+            let ended = settle(alloc, machine, plan, started, &base)?;
             Ok(ended)
         }
     }

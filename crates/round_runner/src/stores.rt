@@ -1,6 +1,6 @@
 //! Stores, copied and compared.
 
-ghost use Rattle.std.specs.Prelude.{◌≡◌, ◌≢◌, ◌<◌, length, slice_index_or, IfOk, MatchOption};
+ghost use Rattle.std.specs.Prelude.{◌≡◌, ◌≢◌, ℕ, ◌<◌, true, false, length, slice_index_or, IfOk, MatchOption};
 ghost use Rattle.b4_core.specs.declared.bit.Bit4.TheVariants.{X};
 ghost use Rattle.round_runner.specs.Stores.{widths, FirstChange};
 
@@ -36,6 +36,18 @@ fn first_difference(v: &[Bit4], u: &[Bit4]) -> Option<usize>
         }
     }
     None
+}
+
+/// Whether two vectors differ.
+pub fn differ(v: &Vec4, u: &Vec4) -> bool
+    requires { length v.now ≡ length u.now }
+    ensures apart { result ≡ true → (k : ℕ) × (slice_index_or v.now k X ≢ slice_index_or u.now k X) }
+    ensures same { result ≡ false → v.now ≡ u.now }
+{
+    match first_difference(v.as_slice(), u.as_slice()) {
+        None => false,
+        Some(_) => true,
+    }
 }
 
 /// The first signal whose vectors differ.

@@ -1,22 +1,24 @@
 -- What a netlist's gates and flip-flops say of its machine.
-use Rattle.std.proofs.Common.{◌≡◌, ℕ, zero, suc, ◌+◌, ◌<◌, ◌==◌, ◌&&◌, ◌||◌, nat_lt, Bool, true, false, not, cond, List, [], ◌∷◌, length, map, slice_index_or, slice_get, Some, refl, sym, ap, ◌∙◌, subst, inl, inr, arith}
+use Rattle.std.proofs.Common.{◌≡◌, ℕ, zero, suc, ◌+◌, ◌<◌, ◌==◌, ◌&&◌, ◌||◌, nat_lt, Bool, true, false, not, cond, List, [], ◌∷◌, length, map, slice_index_or, slice_get, Option, Some, None, refl, sym, ap, ◌∙◌, subst, inl, inr, arith}
 use Rattle.std.specs.List.{list_any}
 use Rattle.std.proofs.lemmas.List.{get_or-replicate, length-replicate}
 use Rattle.std.proofs.Math.Bool.{or-false}
-use Rattle.std.proofs.lemmas.Bool.{cases_Bool, eqb-true, le-ltb, ne_eqb}
-use Rattle.std.proofs.lemmas.Option.{slice_get-map, same_Some}
+use Rattle.std.proofs.lemmas.Bool.{cases_Bool, eqb-true, eqb-false, eq-eqb, le-ltb, ne_eqb, or_left, or_right}
+use Rattle.std.proofs.lemmas.Option.{slice_get-map, same_Some, get_or_from_slice_get}
 use Rattle.std.specs.Option.{option_map}
 use Rattle.b4_core.specs.declared.bit.Bit4.{Bit4}
-use Rattle.row_machine.specs.Valuation.{Place, Member, has}
+use Rattle.row_machine.specs.Valuation.{Place, Valuation, Member, has}
 use Rattle.row_machine.specs.Machine.{Process, EdgeProcess}
 use Rattle.row_machine.specs.Settle.{same_bit, differs}
 use Rattle.row_machine.specs.Rounds.{written_bits}
+use Rattle.round_runner.proofs.Elements.{element}
+use Rattle.b4_core.specs.Bits.{is_one}
 use Rattle.round_runner.specs.Stores.{holding, widths, Holds, Changed}
 use Rattle.round_runner.specs.Rows.{FitsRow}
-use Rattle.round_runner.specs.Parts.{StartsAtZero, Wakes, Runs, HasEdge, Updates, InputsAre}
+use Rattle.round_runner.specs.Parts.{StartsAtZero, Wakes, Runs, ReadsAlone, WritesAlone, HasEdge, Updates, InputsAre}
 use Rattle.round_runner_tests.specs.declared.netlist.Gate.{Gate}
 use Rattle.round_runner_tests.specs.declared.netlist.Flop.{Flop}
-use Rattle.round_runner_tests.specs.Netlists.{bit_of, comb_of, edge_process_of, vectors, ones, machine_of}
+use Rattle.round_runner_tests.specs.Netlists.{bit_of, is_on, negated, assigned, reads_of, writes_of, comb_of, edge_process_of, vectors, ones, machine_of}
 
 -- a process of the machine is that of the gate
 process_is : {A B : Type 0} (f : A → B) (xs : List A) (i : ℕ) (x : A) (p : B) → slice_get xs i ≡ Some x → slice_get (map f xs) i ≡ Some p → f x ≡ p
@@ -125,3 +127,39 @@ row_fits size [] (v ∷ row) long there bits = absurd (omega arith)
 row_fits size (n ∷ ns) [] long there bits = absurd (omega arith)
 row_fits size (n ∷ ns) (v ∷ row) long there bits =
     (bits 0 v refl ∙ sym (get_or-replicate size n 1 0 (there 0 n refl)), row_fits size ns row (omega arith) (λ i m h. there (suc i) m h) (λ i u h. bits (suc i) u h))
+
+-- the lists that stand beside the gates
+pub listed : {A B : Type 0} (f : A → List B) (xs : List A) (lists : List (List B)) (i : ℕ) (x : A) → lists ≡ map f xs → slice_get xs i ≡ Some x → slice_get lists i ≡ Some (f x)
+listed f xs lists i x e h = ap (λ ls. slice_get ls i) e ∙ slice_get-map f xs i ∙ ap (option_map f) h
+
+pub gate_reads : (gates : List Gate) (reads : List (List ℕ)) (i : ℕ) (ns : List ℕ) → i < length gates → reads ≡ map reads_of gates → ns ≡ slice_index_or reads i ns → ReadsAlone (map comb_of gates) i ns
+gate_reads gates reads i ns room e is_ns =
+    let g = element gates i room in
+    let same : ns ≡ reads_of g.0 = is_ns ∙ get_or_from_slice_get reads i (reads_of g.0) ns (listed reads_of gates reads i g.0 e g.1) in record {
+      alone = λ p at v u alike q.
+          subst (λ (r : Process). r.assigns v q ≡ r.assigns u q) (process_is comb_of gates i g.0 p g.1 at)
+          (alike_gate g.0 v u (λ r h. alike r (ap (λ ms. list_any (λ n. n == r.signal) ms) same ∙ h)) q);
+    }
+  where
+    alike_on : (g : Gate) (o : Option ℕ) (v u : Valuation) → ((r : Place) → list_any (λ n. n == r.signal) (g.from ∷ elim o [ None ↦ [] | Some n ↦ n ∷ [] ]) ≡ true → v r ≡ u r) → is_on o v ≡ is_on o u
+    alike_on g None v u alike = refl
+    alike_on g (Some n) v u alike =
+        ap is_one (alike (bit_of n) (or_right (g.from == n) ((n == n) || false) (or_left (n == n) false (eq-eqb n n refl))))
+    alike_gate : (g : Gate) (v u : Valuation) → ((r : Place) → list_any (λ n. n == r.signal) (reads_of g) ≡ true → v r ≡ u r) → (q : Place) → (comb_of g).assigns v q ≡ (comb_of g).assigns u q
+    alike_gate g v u alike q =
+        ap (λ b. assigned g.to b (negated g.negates (v (bit_of g.from))) q) (alike_on g g.enable v u alike)
+        ∙ ap (λ b. assigned g.to (is_on g.enable u) (negated g.negates b) q) (alike (bit_of g.from) (or_left (g.from == g.from) (list_any (λ n. n == g.from) (elim g.enable [ None ↦ [] | Some n ↦ n ∷ [] ])) (eq-eqb g.from g.from refl)))
+
+pub gate_writes : (gates : List Gate) (writes : List (List ℕ)) (i : ℕ) (ns : List ℕ) → i < length gates → writes ≡ map writes_of gates → ns ≡ slice_index_or writes i ns → WritesAlone (map comb_of gates) i ns
+gate_writes gates writes i ns room e is_ns =
+    let g = element gates i room in
+    let same : ns ≡ writes_of g.0 = is_ns ∙ get_or_from_slice_get writes i (writes_of g.0) ns (listed writes_of gates writes i g.0 e g.1) in record {
+      none = λ p at v q h.
+          subst (λ (r : Process). r.assigns v q ≡ None) (process_is comb_of gates i g.0 p g.1 at)
+          (silent g.0 v q (sym (or-false (g.0.to == q.signal)) ∙ ap (λ ms. list_any (λ n. n == q.signal) ms) (sym same) ∙ h));
+    }
+  where
+    silent : (g : Gate) (v : Valuation) (q : Place) → (g.to == q.signal) ≡ false → (comb_of g).assigns v q ≡ None
+    silent g v q h =
+        ap (λ b. cond (b && (q.bit == 0) && is_on g.enable v) (Some (negated g.negates (v (bit_of g.from)))) None)
+        (let other : (q.signal == g.to) ≡ false = ne_eqb q.signal g.to (λ z. eqb-false g.to q.signal h (sym z)) in other)

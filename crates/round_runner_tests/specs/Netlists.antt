@@ -28,6 +28,13 @@ abbrev pub negated : Bool → Bit4 → Bit4
 negated true b = not4 b
 negated false b = b
 
+-- the signals that a gate reads
+abbrev pub reads_of : Gate → List ℕ
+reads_of g = g.from ∷ elim g.enable [ None ↦ [] | Some n ↦ n ∷ [] ]
+
+abbrev pub writes_of : Gate → List ℕ
+writes_of g = g.to ∷ []
+
 abbrev pub comb_of : Gate → Process
 comb_of g = record {
   from_zero = not g.waits;
@@ -70,7 +77,9 @@ abbrev pub shape_of : List Bit4 → List ℕ
 shape_of initial = ones (length initial)
 
 -- all that is written, and all inputs, are signals
-pub record IsWhole (initial : List Bit4) (inputs : List ℕ) (gates : List Gate) (flops : List Flop) : Type 0 where
+pub record IsWhole (initial : List Bit4) (inputs : List ℕ) (gates : List Gate) (flops : List Flop) (reads writes : List (List ℕ)) : Type 0 where
   pub inputs_there : (i n : ℕ) → slice_get inputs i ≡ Some n → n < length initial
   pub gates_there : (i : ℕ) (g : Gate) → slice_get gates i ≡ Some g → g.to < length initial
   pub flops_there : (i : ℕ) (f : Flop) → slice_get flops i ≡ Some f → f.to < length initial
+  pub reads_are : reads ≡ map reads_of gates
+  pub writes_are : writes ≡ map writes_of gates

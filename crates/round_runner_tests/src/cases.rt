@@ -58,6 +58,7 @@ fn netlist(
     initial: &str,
     inputs: &str,
     parts: &str,
+    told: bool,
 ) -> Result<Option<Netlist>, AllocError> {
     let mut bits = Items::new(alloc);
     for letter in initial.bytes() {
@@ -72,7 +73,7 @@ fn netlist(
     for word in parts.split(' ') {
         add(word.as_bytes(), &mut gates, &mut flops)?;
     }
-    Ok(Netlist::new(bits, signals, gates, flops))
+    Netlist::new(alloc, bits, signals, gates, flops, told)
 }
 
 // Rows of words, a letter for each input.
@@ -171,18 +172,27 @@ const CASES: &[(&str, &str, &str, &str, &str)] = &[
     ("0000", "01", "0^12 2?3~3", "01 11", "row 1 signal 3: 10"),
 ];
 
+type Case<'a> = (&'a str, &'a str, &'a str, &'a str, &'a str);
+
+fn check(rt: &impl Abort, alloc: Global, case: &Case, told: bool) -> Result<(), Fail> {
+    let (initial, inputs, parts, given, want) = *case;
+    let rows = rows(alloc, given)?;
+    match netlist(alloc, initial, inputs, parts, told)? {
+        None => assert!(rt; false, "{parts} isn't whole"),
+        Some(netlist) => {
+            let text = ran(alloc, &netlist, &rows)?;
+            assert_eq!(rt; text.as_str(), want, "of {parts} over {given}");
+        }
+    }
+    Ok(())
+}
+
+// Each netlist, where it doesn't tell what its gates read and write, and where it does.
 #[test]
 fn runs(rt: HostRuntime) -> Result<(), Fail> {
-    let alloc = rt.alloc();
-    for (initial, inputs, parts, given, want) in CASES {
-        let rows = rows(alloc, given)?;
-        match netlist(alloc, initial, inputs, parts)? {
-            None => assert!(rt; false, "{parts} isn't whole"),
-            Some(netlist) => {
-                let text = ran(alloc, &netlist, &rows)?;
-                assert_eq!(rt; text.as_str(), *want, "of {parts} over {given}");
-            }
-        }
+    for case in CASES {
+        check(&rt, rt.alloc(), case, false)?;
+        check(&rt, rt.alloc(), case, true)?;
     }
     Ok(())
 }

@@ -1,6 +1,6 @@
 //! Netlists of gates and flip-flops.
 
-ghost use Rattle.std.specs.Prelude.{◌≡◌, ℕ, ◌<◌, true, List, length, slice_get, IfOk};
+ghost use Rattle.std.specs.Prelude.{◌≡◌, ℕ, ◌<◌, true, List, length, map, slice_get, IfOk};
 ghost use Rattle.b4_core.specs.declared.bit.Bit4.{Bit4};
 ghost use Rattle.round_runner.specs.Stores.{holding, widths, Holds, Changed};
 ghost use Rattle.round_runner.specs.Rows.{FitRows};
@@ -45,7 +45,10 @@ pub struct Netlist {
     inputs: Items<usize>,
     gates: Items<Gate>,
     flops: Items<Flop>,
-    ghost whole: { spec.IsWhole initial inputs gates flops },
+    reads: Items<Items<usize>>,
+    writes: Items<Items<usize>>,
+    told: bool,
+    ghost whole: { spec.IsWhole initial inputs gates flops reads writes },
 }
 
 // The bit of a signal.
@@ -180,6 +183,22 @@ impl Processes for Netlist {
         Ok(())
     }
 
+    fn reads(&self, i: usize) -> Option<&[usize]> {
+        if self.told {
+            Some(self.reads.as_slice()[i].as_slice())
+        } else {
+            None
+        }
+    }
+
+    fn writes(&self, i: usize) -> Option<&[usize]> {
+        if self.told {
+            Some(self.writes.as_slice()[i].as_slice())
+        } else {
+            None
+        }
+    }
+
     fn has_edge(&self, i: usize, last: &[Vec4], now: &[Vec4]) -> bool {
         rises(self.flops.as_slice()[i].clock, last, now)
     }
@@ -233,6 +252,41 @@ fn flops_fit(size: usize, flops: &[Flop]) -> bool
     true
 }
 
+fn reads_of(alloc: Global, gate: Gate) -> Result<Items<usize>, AllocError>
+    ensures { IfOk result (λ r. r ≡ spec.reads_of gate) }
+{
+    let mut signals = Items::new(alloc);
+    signals.push(gate.from)?;
+    if let Some(enable) = gate.enable {
+        signals.push(enable)?;
+    }
+    Ok(signals)
+}
+
+// The signals that each gate reads.
+fn all_reads(alloc: Global, gates: &[Gate]) -> Result<Items<Items<usize>>, AllocError>
+    ensures { IfOk result (λ r. r ≡ map spec.reads_of gates.now) }
+{
+    let mut all = Items::new(alloc);
+    for gate in gates {
+        all.push(reads_of(alloc, *gate)?)?;
+    }
+    Ok(all)
+}
+
+// The signal that each gate assigns.
+fn all_writes(alloc: Global, gates: &[Gate]) -> Result<Items<Items<usize>>, AllocError>
+    ensures { IfOk result (λ r. r ≡ map spec.writes_of gates.now) }
+{
+    let mut all = Items::new(alloc);
+    for gate in gates {
+        let mut signals = Items::new(alloc);
+        signals.push(gate.to)?;
+        all.push(signals)?;
+    }
+    Ok(all)
+}
+
 // Whether a row has one bit for each input.
 fn row_fits(inputs: &[usize], row: &[Vec4]) -> bool
     ensures long { result ≡ true → length row.now ≡ length inputs.now }
@@ -248,25 +302,33 @@ fn row_fits(inputs: &[usize], row: &[Vec4]) -> bool
 
 impl Netlist {
     /// The netlist with these bits before the first row, if all inputs and all that is assigned are among its signals.
+    /// It tells what its gates read and write, or it doesn't.
     pub fn new(
+        alloc: Global,
         initial: Items<Bit4>,
         inputs: Items<usize>,
         gates: Items<Gate>,
         flops: Items<Flop>,
-    ) -> Option<Netlist> {
+        told: bool,
+    ) -> Result<Option<Netlist>, AllocError> {
         let size = initial.len();
         if !inputs_fit(size, inputs.as_slice())
             || !gates_fit(size, gates.as_slice())
             || !flops_fit(size, flops.as_slice())
         {
-            return None;
+            return Ok(None);
         }
-        Some(Netlist {
+        let reads = all_reads(alloc, gates.as_slice())?;
+        let writes = all_writes(alloc, gates.as_slice())?;
+        Ok(Some(Netlist {
             initial,
             inputs,
             gates,
             flops,
-        })
+            reads,
+            writes,
+            told,
+        }))
     }
 
     /// Whether each row has one bit for each input.
