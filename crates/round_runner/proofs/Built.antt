@@ -1,19 +1,18 @@
 -- A plan, process by process.
-use Rattle.std.proofs.Common.{◌≡◌, ◌≢◌, ℕ, zero, suc, ◌+◌, ◌<◌, ◌≤◌, ◌==◌, ◌||◌, Bool, true, false, List, [], ◌∷◌, ◌++◌, length, map, take, All, Option, Some, None, slice_get, slice_index_or, slice_set, refl, sym, ap, ◌∙◌, subst, inl, inr, arith}
-use Rattle.std.specs.List.{list_any, filter_map, cons_option}
-use Rattle.std.proofs.Math.Bool.{or-true, or-false}
-use Rattle.std.proofs.lemmas.Bool.{cases_Bool, cases_order, cases_lt, eqb-true, eqb-false, eq-eqb, ne_eqb, true≢false, false≢true, or_cases, or_left, or_right, or_from}
+use Rattle.std.proofs.Common.{◌≡◌, ◌≢◌, ℕ, zero, suc, ◌+◌, ◌<◌, ◌≤◌, ◌==◌, ◌||◌, true, false, List, [], ◌∷◌, ◌++◌, length, take, All, Some, slice_get, slice_index_or, slice_set, refl, sym, ap, ◌∙◌, subst, inl, inr, arith}
+use Rattle.std.specs.List.{cons_option}
+use Rattle.std.proofs.Math.Bool.{or-false}
+use Rattle.std.proofs.lemmas.Bool.{cases_Bool, cases_order, cases_lt, eqb-true, eqb-false, eq-eqb, ne_eqb, false≢true, or_cases, or_left, or_right}
 use Rattle.std.proofs.lemmas.Grind.{get_or-set_at}
 use Rattle.std.proofs.lemmas.List.{get_or-set_other, get_or_past, get_or_default, take_all}
 use Rattle.std.proofs.lemmas.List.Elements.{All-nil, All-push, All-head, All-tail, filter_map-append}
-use Rattle.std.proofs.lemmas.Option.{same_Some}
 use Rattle.b4_core.specs.declared.bit.Bit4.{Bit4}
-use Rattle.row_machine.specs.Valuation.{Place, Valuation, Changes, put, put_each, changed, only_if}
+use Rattle.row_machine.specs.Valuation.{Place, Valuation, Changes, put, put_each, changed}
 use Rattle.row_machine.specs.Machine.{Process, Machine, Started, told}
 use Rattle.row_machine.proofs.Told.{only_if-none, only_if-same}
 use Rattle.round_runner.specs.declared.plan.Plan.{Plan}
 use Rattle.round_runner.specs.Parts.{ReadsAlone, WritesAlone}
-use Rattle.round_runner.specs.Plans.{is_in, under, group_at, picked, Grouped, ReadersThere, IsPlan, ArePlaces, Labelled, AllEmpty, Tells, Built, Listed}
+use Rattle.round_runner.specs.Plans.{is_in, under, group_at, picked, Grouped, IsPlan, ArePlaces, Labelled, AllEmpty, Tells, Built, Listed}
 use Rattle.round_runner.proofs.Picking.{is_in_more}
 use Rattle.round_runner.proofs.Groups.{is_in_push}
 
@@ -65,8 +64,10 @@ tells_more ns g before mid after i n h is_n there e tells = record {
   where
     here : (k : ℕ) → n ≡ k → under after k ≡ under mid n ++ g ∷ []
     here k same = under_same mid after n g k there e (sym same)
+
     elsewhere : (k : ℕ) → (n == k) ≡ false → under after k ≡ under mid k
     elsewhere k other = under_other mid after n g k e (λ z. eqb-false n k other (sym z))
+
     grows : (k m : ℕ) → is_in (under mid k) m ≡ true → is_in (under after k) m ≡ true
     grows k m f =
         elim (cases_Bool (n == k)) [
@@ -166,7 +167,7 @@ module _ (d : Machine) (places : List ℕ) (processes readers after told_lists :
         ∙ sym (all_more s u base q);
     outside = λ s v base q past.
         let apart : (group_at places q.signal == h) ≡ false =
-                ne_eqb (group_at places q.signal) h (λ z. let l = label.there in let m = eqb-true (group_at places q.signal) (length places) past in absurd (omega (arith, l, m, z))) in
+        ne_eqb (group_at places q.signal) h (λ z. let l = label.there in let m = eqb-true (group_at places q.signal) (length places) past in absurd (omega (arith, l, m, z))) in
         all_more s v base q ∙ silent s v q (put_each (told s v) (take k d.combs) base q) apart ∙ built.outside s v base q past;
     processes_there = λ g. elim (cases_Bool (g == h)) [
       | inl is_h ↦ subst (All (λ i. i < length d.combs)) (sym (here g is_h)) (All-push (λ i. i < length d.combs) (under processes g) k (built.processes_there g) room)
@@ -213,10 +214,13 @@ listed_more places lists after k h size room is_h there e listed = record {
   where
     group_k : group_at places k ≡ h
     group_k = get_or_default places k (length places) 0 room ∙ sym is_h
+
     added : (g n : ℕ) → g ≡ h → is_in (under after g) n ≡ (is_in (under lists h) n || (k == n))
     added g n same = ap (λ ns. is_in ns n) (under_same lists after h k g (omega (arith, there, size)) e same) ∙ is_in_push (under lists h) k n
+
     kept : (g n : ℕ) → g ≢ h → is_in (under after g) n ≡ is_in (under lists g) n
     kept g n apart = ap (λ ns. is_in ns n) (under_other lists after h k g e apart)
+
     unmoved : (g n : ℕ) → (k == n) ≡ false → is_in (under after g) n ≡ is_in (under lists g) n
     unmoved g n apart =
         elim (cases_Bool (g == h)) [
@@ -241,14 +245,16 @@ grouped plan there listed = record {
 pub plan_is : (d : Machine) (plan : Plan) (size k : ℕ) → ArePlaces size plan.places → Listed plan.places plan.signals (length plan.places) → length d.combs ≤ k
     → Built d plan.places plan.processes plan.readers k → IsPlan d plan × (length plan.places ≡ size)
 plan_is d plan size k places listed all built =
-    let every : take k d.combs ≡ d.combs = take_all k d.combs all in
-    (record {
-      grouped = grouped plan (subst (λ n. All (λ g. g < n) plan.places) (sym places.long) places.there) listed;
-      processes_there = built.processes_there;
-      readers = record { there = built.readers_there };
-      whole = λ g s v base q e. built.whole g s v base q e ∙ ap (λ ps. put_each (told s v) ps base q) every;
-      own = built.own;
-      told_of = λ g s v u base alike q e.
-          ap (λ ps. put_each (told s v) ps base q) (sym every) ∙ built.told_of g s v u base alike q e ∙ ap (λ ps. put_each (told s u) ps base q) every;
-      outside = λ s v base q e. ap (λ ps. put_each (told s v) ps base q) (sym every) ∙ built.outside s v base q e;
-    }, places.long)
+    let every : take k d.combs ≡ d.combs = take_all k d.combs all in (
+      record {
+        grouped = grouped plan (subst (λ n. All (λ g. g < n) plan.places) (sym places.long) places.there) listed;
+        processes_there = built.processes_there;
+        readers = record { there = built.readers_there };
+        whole = λ g s v base q e. built.whole g s v base q e ∙ ap (λ ps. put_each (told s v) ps base q) every;
+        own = built.own;
+        told_of = λ g s v u base alike q e.
+            ap (λ ps. put_each (told s v) ps base q) (sym every) ∙ built.told_of g s v u base alike q e ∙ ap (λ ps. put_each (told s u) ps base q) every;
+        outside = λ s v base q e. ap (λ ps. put_each (told s v) ps base q) (sym every) ∙ built.outside s v base q e;
+      },
+      places.long,
+    )

@@ -1,19 +1,19 @@
 -- Rounds over the groups for which something has changed.
-use Rattle.std.proofs.Common.{◌≡◌, ◌≢◌, ℕ, zero, suc, ◌+◌, ◌-◌, ◌<◌, ◌≤◌, ◌==◌, ◌⊎◌, Bool, true, false, List, [], ◌∷◌, length, All, Some, slice_get, slice_index_or, refl, sym, ap, ◌∙◌, subst, inl, inr, arith}
-use Rattle.std.proofs.lemmas.Bool.{cases_Bool, eqb-true, eq-eqb, true≢false, false≢true, ltb-true, cases_lt}
-use Rattle.std.proofs.lemmas.List.{get_or_past, same_lists}
+use Rattle.std.proofs.Common.{◌≡◌, ◌≢◌, ℕ, ◌-◌, ◌<◌, ◌==◌, ◌⊎◌, Bool, true, false, List, [], length, All, slice_index_or, refl, sym, ap, ◌∙◌, subst, inl, inr}
+use Rattle.std.proofs.lemmas.Bool.{cases_Bool, eq-eqb, true≢false, cases_lt}
+use Rattle.std.proofs.lemmas.List.{get_or_past}
 use Rattle.b4_core.specs.declared.bit.Bit4.{Bit4}
 use Rattle.b4_core.specs.declared.bit.Bit4.TheVariants.{X}
-use Rattle.row_machine.specs.Valuation.{Place, Valuation, put_each}
-use Rattle.row_machine.specs.Machine.{Machine, Started, told}
+use Rattle.row_machine.specs.Valuation.{Place, Valuation}
+use Rattle.row_machine.specs.Machine.{Machine, Started}
 use Rattle.row_machine.specs.Rounds.{round, written_bits}
 use Rattle.round_runner.specs.declared.plan.Plan.{Plan}
 use Rattle.round_runner.specs.declared.rounds.Ended.{Ended}
 use Rattle.round_runner.specs.declared.rounds.Ended.TheVariants.{Rests, Changes}
-use Rattle.round_runner.specs.Stores.{holding, widths, vector_of, FirstChange}
+use Rattle.round_runner.specs.Stores.{holding, widths}
 use Rattle.round_runner.specs.Parts.{Marks}
 use Rattle.round_runner.specs.Rounds.{IsRound, RoundsEnd, ComeToRest}
-use Rattle.round_runner.specs.Plans.{is_in, under, group_of, IsPlan, Grouped, Taken, Remade, DiffersAt, AreChanges, AreTold, AllNumbers, LastOf, IsChange}
+use Rattle.round_runner.specs.Plans.{is_in, under, group_of, IsPlan, Grouped, Taken, Remade, AreChanges, AreTold, AllNumbers, LastOf}
 use Rattle.round_runner.proofs.Running.{RanOn, Running, running_at_start, running_on, come_to_rest, go_on}
 
 abbrev Store : Type 0

@@ -1,18 +1,16 @@
 -- Groups that are made anew, and what changes in them.
-use Rattle.std.proofs.Common.{◌≡◌, ◌≢◌, ℕ, ◌+◌, ◌<◌, ◌≤◌, ◌==◌, ◌||◌, Bool, true, false, List, [], ◌∷◌, ◌++◌, length, take, All, slice_index_or, refl, sym, ap, ◌∙◌, subst, inl, inr, arith}
-use Rattle.std.specs.List.{list_any}
-use Rattle.std.proofs.Math.Bool.{or-true, or-false}
-use Rattle.std.proofs.lemmas.Bool.{cases_Bool, eqb-true, eqb-false, eq-eqb, ne_eqb, true≢false, false≢true, or_parts, or_cases, or_left, or_right, or_from}
+use Rattle.std.proofs.Common.{◌≡◌, ℕ, ◌+◌, ◌<◌, ◌≤◌, ◌==◌, ◌||◌, Bool, true, false, List, [], ◌∷◌, ◌++◌, length, take, All, slice_index_or, refl, sym, ap, ◌∙◌, subst, inl, inr}
+use Rattle.std.proofs.Math.Bool.{or-false}
+use Rattle.std.proofs.lemmas.Bool.{cases_Bool, eqb-true, eqb-false, eq-eqb, ne_eqb, false≢true, or_parts, or_cases}
 use Rattle.std.proofs.lemmas.List.{take_all}
 use Rattle.std.proofs.lemmas.List.Folds.{list_any-append}
 use Rattle.std.proofs.lemmas.List.Elements.{All-push, All-nil}
 use Rattle.b4_core.specs.declared.bit.Bit4.{Bit4}
 use Rattle.b4_core.specs.declared.bit.Bit4.TheVariants.{X}
 use Rattle.row_machine.specs.Valuation.{Place, Valuation, Changes, put, put_each, changed}
-use Rattle.row_machine.specs.Machine.{Process, Machine, Started, told}
+use Rattle.row_machine.specs.Machine.{Machine, told}
 use Rattle.round_runner.specs.declared.plan.Plan.{Plan}
-use Rattle.round_runner.specs.Stores.{holding, widths, vector_of}
-use Rattle.round_runner.specs.Parts.{Marks}
+use Rattle.round_runner.specs.Stores.{holding, vector_of}
 use Rattle.round_runner.specs.Plans.{is_in, under, group_of, picked, Grouped, IsPlan, Taken, Picked, Remade, DiffersAt, AddsChanges, AreChanges}
 use Rattle.round_runner.proofs.Picking.{is_in_more}
 

@@ -1,20 +1,20 @@
 -- Stores of which some signals are made anew.
-use Rattle.std.proofs.Common.{◌≡◌, ◌≢◌, ℕ, ◌+◌, ◌<◌, ◌≤◌, ◌==◌, ◌||◌, Bool, true, false, List, [], ◌∷◌, ◌++◌, length, take, drop, All, Some, slice_get, slice_index_or, slice_set, refl, sym, ap, ◌∙◌, subst, inl, inr, arith}
-use Rattle.std.specs.List.{list_any, filter_map, cons_option}
-use Rattle.std.proofs.Math.Bool.{or-true, or-false}
+use Rattle.std.proofs.Common.{◌≡◌, ℕ, ◌+◌, ◌<◌, ◌≤◌, ◌==◌, ◌||◌, Bool, true, false, List, [], ◌∷◌, length, take, drop, Some, slice_get, slice_index_or, slice_set, refl, sym, ap, ◌∙◌, subst, inl, inr}
+use Rattle.std.specs.List.{cons_option}
+use Rattle.std.proofs.Math.Bool.{or-false}
 use Rattle.std.proofs.Math.Seq.{map-set_same}
-use Rattle.std.proofs.lemmas.Bool.{cases_Bool, cases_order, eqb-true, eqb-false, true≢false, false≢true, or_parts, or_cases}
+use Rattle.std.proofs.lemmas.Bool.{cases_Bool, eqb-true, eqb-false, false≢true, or_parts}
 use Rattle.std.proofs.lemmas.Grind.{get_or-set_at}
 use Rattle.std.proofs.lemmas.List.{get_or-set_other, drop_all, take_all}
 use Rattle.std.proofs.lemmas.List.Folds.{list_any_more}
 use Rattle.b4_core.specs.declared.bit.Bit4.{Bit4}
-use Rattle.row_machine.specs.Valuation.{Place, Valuation, put, put_each, changed, only_if}
+use Rattle.row_machine.specs.Valuation.{put, put_each}
 use Rattle.row_machine.specs.Machine.{Process, Machine, Started, told}
 use Rattle.round_runner.specs.Stores.{holding, widths, vector_of}
 use Rattle.round_runner.specs.Parts.{Marks, Runs}
 use Rattle.round_runner.specs.Plans.{is_in, picked, Taken, Picked}
 use Rattle.round_runner.proofs.Elements.{element, rest_at, mapped_at}
-use Rattle.round_runner.proofs.Compared.{width_at, same_size}
+use Rattle.round_runner.proofs.Compared.{width_at}
 use Rattle.round_runner.proofs.OneRound.{told_started, untold}
 
 abbrev Store : Type 0
@@ -44,6 +44,7 @@ taken_more ns from before mid v i n h is_n there shape is_v taken = record {
   where
     here : (k : ℕ) → (n == k) ≡ true → vector_of (slice_set mid n v) k ≡ vector_of from n
     here k same = get_or-set_at mid n k v [] (sym (eqb-true n k same)) there ∙ is_v
+
     elsewhere : (k : ℕ) → (n == k) ≡ false → vector_of (slice_set mid n v) k ≡ vector_of mid k
     elsewhere k other = get_or-set_other mid n k v [] (λ e. eqb-false n k other (sym e))
 

@@ -178,7 +178,11 @@ fn roots(alloc: Global, parents: &mut [usize]) -> Result<Items<usize>, AllocErro
 }
 
 // The groups of all signals: those that a process may write have one. It isn't said that they have; `label` looks.
-fn places_of<P: Processes>(alloc: Global, machine: &P, size: usize) -> Result<Option<Items<usize>>, AllocError>
+fn places_of<P: Processes>(
+    alloc: Global,
+    machine: &P,
+    size: usize,
+) -> Result<Option<Items<usize>>, AllocError>
     ensures { IfOk result (λ o. IfSome o (ArePlaces size)) }
 {
     let mut parents = Vec::with_capacity(alloc, size)?;
@@ -212,7 +216,11 @@ struct Lists {
     readers: Items<Items<usize>>,
 }
 
-fn process_lists<P: Processes>(alloc: Global, machine: &P, places: &[usize]) -> Result<Option<Lists>, AllocError>
+fn process_lists<P: Processes>(
+    alloc: Global,
+    machine: &P,
+    places: &[usize],
+) -> Result<Option<Lists>, AllocError>
     ensures { IfOk result (λ o. IfSome o (λ lists. Built (P.machine machine.now) places.now lists.processes lists.readers (length (P.machine machine.now).combs))) }
 {
     let mut processes = empty_lists(alloc, places.len())?;
@@ -227,7 +235,11 @@ fn process_lists<P: Processes>(alloc: Global, machine: &P, places: &[usize]) -> 
 }
 
 /// A plan of a machine of so many signals, if what its processes read and write is known.
-pub fn plan_of<P: Processes>(alloc: Global, machine: &P, size: usize) -> Result<Option<Plan>, AllocError>
+pub fn plan_of<P: Processes>(
+    alloc: Global,
+    machine: &P,
+    size: usize,
+) -> Result<Option<Plan>, AllocError>
     ensures { IfOk result (FitsPlan (P.machine machine.now) size) }
 {
     let Some(places) = places_of(alloc, machine, size)? else {

@@ -56,7 +56,16 @@ fn rounds_from_base<P: Processes>(
     let mut groups = numbers(alloc, plan.places.len())?;
     let mut left = machine.written_bits();
     'rounds: loop {
-        remake_all(alloc, machine, plan, started, base, now, groups.as_slice(), next)?;
+        remake_all(
+            alloc,
+            machine,
+            plan,
+            started,
+            base,
+            now,
+            groups.as_slice(),
+            next,
+        )?;
         let changed = changes(alloc, plan, groups.as_slice(), now, next)?;
         if changed.is_empty() {
             return Ok(Ended::Rests(Items::from_vec(copied(alloc, now)?)));

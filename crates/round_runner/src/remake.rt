@@ -11,7 +11,12 @@ use b4_core::{Items, Vec4};
 use std::alloc::{AllocError, Global};
 
 /// Takes the vectors of some signals from another store.
-pub fn take_vectors(alloc: Global, signals: &[usize], from: &[Vec4], to: &mut [Vec4]) -> Result<(), AllocError>
+pub fn take_vectors(
+    alloc: Global,
+    signals: &[usize],
+    from: &[Vec4],
+    to: &mut [Vec4],
+) -> Result<(), AllocError>
     requires there { All (λ n. n < length to.old) signals.now }
     requires shape { widths from.now ≡ widths to.old }
     ensures { OnOk result (Taken signals.now from.now to.old to.new) }
@@ -148,7 +153,12 @@ pub fn changes(
 {
     let mut changed = Items::new(alloc);
     for group in groups {
-        add_changes(list_under(plan.signals.as_slice(), *group), old, new, &mut changed)?;
+        add_changes(
+            list_under(plan.signals.as_slice(), *group),
+            old,
+            new,
+            &mut changed,
+        )?;
     }
     Ok(changed)
 }
@@ -178,7 +188,11 @@ fn once_each(alloc: Global, sorted: &[usize]) -> Result<Items<usize>, AllocError
 }
 
 /// The groups that read one of some signals.
-pub fn told_groups(alloc: Global, plan: &Plan, changed: &[usize]) -> Result<Items<usize>, AllocError>
+pub fn told_groups(
+    alloc: Global,
+    plan: &Plan,
+    changed: &[usize],
+) -> Result<Items<usize>, AllocError>
     requires { ReadersThere plan.now }
     ensures { IfOk result (AreTold plan.now changed.now) }
 {

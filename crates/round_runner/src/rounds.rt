@@ -31,7 +31,12 @@ pub enum Ended {
 }
 
 /// The change of a signal from one store to another.
-pub fn change_at(alloc: Global, signal: usize, old: &[Vec4], new: &[Vec4]) -> Result<Change, AllocError>
+pub fn change_at(
+    alloc: Global,
+    signal: usize,
+    old: &[Vec4],
+    new: &[Vec4],
+) -> Result<Change, AllocError>
     requires old { signal < length old.now }
     requires new { signal < length new.now }
     ensures signal { IfOk result (λ c. c.signal ≡ signal) }

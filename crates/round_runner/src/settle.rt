@@ -5,9 +5,9 @@ ghost use Rattle.round_runner.specs.Stores.{widths};
 ghost use Rattle.round_runner.specs.Plans.{FitsPlan};
 ghost use Rattle.round_runner.specs.Settling.{Adds, Woken, SettlingEnds};
 
-use crate::processes::Processes;
 use crate::plan::Plan;
 use crate::planned::rounds_by;
+use crate::processes::Processes;
 use crate::rounds::Ended;
 use b4_core::Vec4;
 use std::alloc::{AllocError, Global};

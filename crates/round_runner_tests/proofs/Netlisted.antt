@@ -145,6 +145,7 @@ gate_reads gates reads i ns room e is_ns =
     alike_on g None v u alike = refl
     alike_on g (Some n) v u alike =
         ap is_one (alike (bit_of n) (or_right (g.from == n) ((n == n) || false) (or_left (n == n) false (eq-eqb n n refl))))
+
     alike_gate : (g : Gate) (v u : Valuation) → ((r : Place) → list_any (λ n. n == r.signal) (reads_of g) ≡ true → v r ≡ u r) → (q : Place) → (comb_of g).assigns v q ≡ (comb_of g).assigns u q
     alike_gate g v u alike q =
         ap (λ b. assigned g.to b (negated g.negates (v (bit_of g.from))) q) (alike_on g g.enable v u alike)

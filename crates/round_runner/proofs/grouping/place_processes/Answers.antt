@@ -1,4 +1,4 @@
-use Rattle.std.proofs.Common.{◌≡◌, ◌<◌, length, arith, slice_get, Some}
+use Rattle.std.proofs.Common.{◌<◌, length, arith}
 use Rattle.round_runner.proofs.Elements.{element}
 use Rattle.round_runner.proofs.Built.{built_more}
 use Rattle.round_runner.proofs.grouping.place_processes.Goals as goal

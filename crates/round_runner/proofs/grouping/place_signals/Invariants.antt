@@ -1,4 +1,3 @@
-use Rattle.std.proofs.Common.{◌≡◌, length}
 use Rattle.round_runner.specs.Plans.{Listed}
 use Rattle.round_runner.proofs.grouping.place_signals.Given as goal
 

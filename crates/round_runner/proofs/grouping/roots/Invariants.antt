@@ -1,4 +1,4 @@
-use Rattle.std.proofs.Common.{◌≡◌, ◌<◌, ℕ, length, slice_index_or, All}
+use Rattle.std.proofs.Common.{◌≡◌, ◌<◌, length, All}
 use Rattle.round_runner.proofs.grouping.roots.Given as goal
 
 abbrev pub invariant-loop-n : goal.invariant-loop-n

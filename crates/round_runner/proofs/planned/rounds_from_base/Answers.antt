@@ -2,7 +2,7 @@ use Rattle.std.proofs.Common.{IsTrue, subst}
 use Rattle.std.proofs.lemmas.Bool.{false≢true}
 use Rattle.round_runner.specs.Plans.{Remade, AreChanges, Taken, AreTold}
 use Rattle.round_runner.proofs.Telling.{some_in}
-use Rattle.round_runner.proofs.Changing.{rests_now, ends_now, changing_on}
+use Rattle.round_runner.proofs.Changing.{ends_now, changing_on}
 use Rattle.round_runner.proofs.planned.rounds_from_base.Goals as goal
 
 pub returns-then-left-eq0 : goal.returns-then-left-eq0

@@ -1,6 +1,4 @@
-use Rattle.std.proofs.Common.{◌≡◌, ◌<◌, ◌+◌, [], length, slice_index_or, refl, arith, ap, ◌∙◌, subst, sym}
-use Rattle.round_runner.specs.Stores.{vector_of}
-use Rattle.round_runner.specs.Plans.{DiffersAt}
+use Rattle.std.proofs.Common.{◌<◌, ◌+◌, length, slice_index_or, refl, arith, ◌∙◌, subst, sym}
 use Rattle.round_runner.proofs.Compared.{read, same_size, same_width, differs_at}
 use Rattle.round_runner.proofs.Groups.{Adding, adding_pushed, adding_passed}
 use Rattle.round_runner.proofs.remake.add_changes.Goals as goal

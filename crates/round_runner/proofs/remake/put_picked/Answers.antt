@@ -1,4 +1,4 @@
-use Rattle.std.proofs.Common.{◌≡◌, ◌+◌, ◌<◌, length, slice_get, slice_index_or, Some, refl, arith, false, sym, subst}
+use Rattle.std.proofs.Common.{◌≡◌, ◌+◌, ◌<◌, length, slice_get, slice_index_or, Some, arith, false, sym, subst}
 use Rattle.std.proofs.lemmas.Option.{slice_get-get_or}
 use Rattle.round_runner.proofs.Picking.{Picking, picking_told, picking_untold}
 use Rattle.round_runner.proofs.remake.put_picked.Goals as goal

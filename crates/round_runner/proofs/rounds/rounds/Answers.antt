@@ -24,8 +24,8 @@ rounds-preserved g c =
     let now = c.rounds.now.items in
     let next = c.in_ok-next.next.items in
     let change : FirstChange now next c.in-Some.signal =
-            subst (λ vs. FirstChange vs next c.in-Some.signal) c.deref-in-rounds.ensures.value
-            (subst (λ vs. FirstChange c.deref-in-rounds.result.now vs c.in-Some.signal) c.deref-in-rounds-2.ensures.value c.in-Some.ensures) in
+    subst (λ vs. FirstChange vs next c.in-Some.signal) c.deref-in-rounds.ensures.value
+    (subst (λ vs. FirstChange c.deref-in-rounds.result.now vs c.in-Some.signal) c.deref-in-rounds-2.ensures.value c.in-Some.ensures) in
     running_on d c.args.started.now c.args.base.now now next c.rounds.left (record { signal = c.in-Some.signal; bit = change.bit }) c.if-left-eq0.false
     (subst (λ vs. IsRound d c.args.started.now c.args.base.now vs next) c.deref.ensures.value c.in_ok-next.ensures)
     change.differs
