@@ -32,10 +32,6 @@ group_of plan n = group_at plan.places n
 abbrev pub picked : List Process → List ℕ → List Process
 picked ps is = filter_map (slice_get ps) is
 
--- what the processes of a machine put over a base where they are told to by one valuation
-abbrev pub made : Machine → Started → Valuation → Valuation → Valuation
-made d s base v = put_each (told s v) d.combs base
-
 -- each signal stands in the list of its group alone
 pub record Grouped (plan : Plan) : Type 0 where
   pub signals : (g n : ℕ) → g < length plan.places → is_in (under plan.signals g) n ≡ (group_of plan n == g)
