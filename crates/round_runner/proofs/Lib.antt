@@ -1,0 +1,17 @@
+pub mod Elements
+pub mod Compared
+pub mod Sequences
+pub mod OneRound
+pub mod Running
+pub mod Starting
+pub mod Waiting
+pub mod Picking
+pub mod Groups
+pub mod Telling
+pub mod Changing
+pub mod Built
+pub mod Stepping
+pub mod Tracing
+pub mod Flags
+pub mod Edging
+pub mod Inputs
