@@ -1,0 +1,10 @@
+//! The values of expressions of the target language (IEEE 1364-2005 clause 5).
+#![tactic(auto)]
+
+mod held;
+mod indices;
+mod windows;
+
+pub use held::{Held, read};
+pub use indices::index_of;
+pub use windows::{Window, entire, nothing, part_of};
