@@ -1,3 +1,4 @@
 pub mod Near
 pub mod Reading
 pub mod Flips
+pub mod Products

@@ -1,3 +1,4 @@
 pub mod Windows
 pub mod Holding
 pub mod Indices
+pub mod Paths

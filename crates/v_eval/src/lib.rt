@@ -3,8 +3,10 @@
 
 mod held;
 mod indices;
+mod paths;
 mod windows;
 
 pub use held::{Held, read};
 pub use indices::index_of;
+pub use paths::{Named, Path, all_bits, bits_named, select, start, taken};
 pub use windows::{Window, entire, nothing, part_of};
