@@ -2,3 +2,4 @@ pub mod Near
 pub mod Reading
 pub mod Flips
 pub mod Products
+pub mod Naming

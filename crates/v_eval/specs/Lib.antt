@@ -2,3 +2,5 @@ pub mod Windows
 pub mod Holding
 pub mod Indices
 pub mod Paths
+pub mod Functions
+pub mod Names

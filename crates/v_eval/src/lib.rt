@@ -3,10 +3,14 @@
 
 mod held;
 mod indices;
+mod modules;
 mod paths;
+mod scopes;
 mod windows;
 
 pub use held::{Held, read};
 pub use indices::index_of;
 pub use paths::{Named, Path, all_bits, bits_named, select, start, taken};
+pub use modules::{Local, Module, Signal, function_of};
+pub use scopes::Scope;
 pub use windows::{Window, entire, nothing, part_of};
