@@ -3,3 +3,4 @@ pub mod Reading
 pub mod Flips
 pub mod Products
 pub mod Naming
+pub mod Empty

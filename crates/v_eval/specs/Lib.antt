@@ -4,3 +4,4 @@ pub mod Indices
 pub mod Paths
 pub mod Functions
 pub mod Names
+pub mod Vectors

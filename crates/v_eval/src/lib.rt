@@ -6,6 +6,7 @@ mod indices;
 mod modules;
 mod paths;
 mod scopes;
+mod vectors;
 mod windows;
 
 pub use held::{Held, read};
@@ -13,4 +14,7 @@ pub use indices::index_of;
 pub use paths::{Named, Path, all_bits, bits_named, select, start, taken};
 pub use modules::{Local, Module, Signal, function_of};
 pub use scopes::Scope;
+pub use vectors::{
+    chosen, combined, cut, extended, one_bit, ordered, powered, reduced, shifted, transformed,
+};
 pub use windows::{Window, entire, nothing, part_of};
