@@ -4,3 +4,4 @@ pub mod Flips
 pub mod Products
 pub mod Naming
 pub mod Empty
+pub mod Lengths

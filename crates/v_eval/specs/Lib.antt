@@ -5,3 +5,4 @@ pub mod Paths
 pub mod Functions
 pub mod Names
 pub mod Vectors
+pub mod Operators

@@ -4,6 +4,7 @@
 mod held;
 mod indices;
 mod modules;
+mod operators;
 mod paths;
 mod scopes;
 mod vectors;
@@ -11,6 +12,10 @@ mod windows;
 
 pub use held::{Held, read};
 pub use indices::index_of;
+pub use operators::{
+    Context, Infix, Prefix, infix_of, infix_own, infix_value, larger, left_context, prefix_context,
+    prefix_of, prefix_own, prefix_value, right_context,
+};
 pub use paths::{Named, Path, all_bits, bits_named, select, start, taken};
 pub use modules::{Local, Module, Signal, function_of};
 pub use scopes::Scope;
