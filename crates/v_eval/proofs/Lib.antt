@@ -5,3 +5,4 @@ pub mod Products
 pub mod Naming
 pub mod Empty
 pub mod Lengths
+pub mod Steps

@@ -6,3 +6,5 @@ pub mod Functions
 pub mod Names
 pub mod Vectors
 pub mod Operators
+pub mod Limits
+pub mod Scopes

@@ -7,6 +7,14 @@ use Rattle.b4_core.specs.declared.operators.UnOp.TheVariants as U
 use Rattle.b4_core.specs.declared.operators.BinOp.{BinOp}
 use Rattle.b4_core.specs.declared.operators.BinOp.TheVariants as B
 use Rattle.b4_core.specs.declared.operators.EqOp.{EqOp}
+use Rattle.b4_core.specs.declared.operators.EqOp.TheVariants as E
+use Rattle.b4_core.specs.declared.operators.RedOp.TheVariants as R
+use Rattle.b4_core.specs.declared.operators.ShiftOp.TheVariants as S
+use Rattle.b4_core.specs.declared.operators.OrdOp.TheVariants as O
+use Rattle.v_tree.specs.declared.operators.VBinaryOp.{VBinaryOp}
+use Rattle.v_tree.specs.declared.operators.VBinaryOp.TheVariants as Y
+use Rattle.v_tree.specs.declared.operators.VUnaryOp.{VUnaryOp}
+use Rattle.v_tree.specs.declared.operators.VUnaryOp.TheVariants as W
 use Rattle.b4_core.specs.Bits.{and4, or4, not4}
 use Rattle.b4_core.specs.Vectors.{ext}
 use Rattle.b4_core.specs.Bitwise.{truth_of}
@@ -23,6 +31,44 @@ use Rattle.v_eval.specs.declared.operators.Prefix.{Prefix}
 use Rattle.v_eval.specs.declared.operators.Prefix.TheVariants as P
 use Rattle.v_eval.specs.declared.operators.Infix.{Infix}
 use Rattle.v_eval.specs.declared.operators.Infix.TheVariants as I
+
+-- what an operator does
+abbrev pub prefix_of : VUnaryOp → Prefix
+prefix_of W.Not = P.Vector U.Not
+prefix_of W.LogicalNot = P.Negation
+prefix_of W.Neg = P.Vector U.Neg
+prefix_of W.And = P.Reduction R.And
+prefix_of W.Nand = P.Reduction R.Nand
+prefix_of W.Or = P.Reduction R.Or
+prefix_of W.Nor = P.Reduction R.Nor
+prefix_of W.Xor = P.Reduction R.Xor
+prefix_of W.Xnor = P.Reduction R.Xnor
+
+abbrev pub infix_of : VBinaryOp → Infix
+infix_of Y.Add = I.Vector B.Add
+infix_of Y.Sub = I.Vector B.Sub
+infix_of Y.Mul = I.Vector B.Mul
+infix_of Y.Div = I.Vector B.Div
+infix_of Y.Rem = I.Vector B.Rem
+infix_of Y.Power = I.Power
+infix_of Y.ShiftLeft = I.Shift S.Left
+infix_of Y.ShiftRight = I.Shift S.Right
+infix_of Y.ArithmeticLeft = I.Shift S.Left
+infix_of Y.ArithmeticRight = I.Shift S.Arith
+infix_of Y.Less = I.Order O.Less
+infix_of Y.LessEqual = I.Order O.LessEqual
+infix_of Y.Greater = I.Order O.Greater
+infix_of Y.GreaterEqual = I.Order O.GreaterEqual
+infix_of Y.Equal = I.Equality E.Logic false
+infix_of Y.NotEqual = I.Equality E.Logic true
+infix_of Y.CaseEqual = I.Equality E.Case false
+infix_of Y.CaseNotEqual = I.Equality E.Case true
+infix_of Y.And = I.Vector B.And
+infix_of Y.Or = I.Vector B.Or
+infix_of Y.Xor = I.Vector B.Xor
+infix_of Y.Xnor = I.Vector B.Xnor
+infix_of Y.LogicalAnd = I.Both
+infix_of Y.LogicalOr = I.Either
 
 abbrev pub prefix_meaning : Prefix → Meaning → Meaning
 prefix_meaning (P.Vector op) = V.unary op
@@ -159,3 +205,41 @@ infix_most (I.Order op) m n = m
 infix_most (I.Equality op negated) m n = 0
 infix_most I.Both m n = 0
 infix_most I.Either m n = 0
+
+-- the widths alone, and those at which operands are valued
+abbrev pub prefix_width : Prefix → ℕ → ℕ
+prefix_width (P.Vector op) a = a
+prefix_width (P.Reduction op) a = 1
+prefix_width P.Negation a = 1
+
+abbrev pub operand_width : Prefix → ℕ → ℕ → ℕ
+operand_width (P.Vector op) w a = w
+operand_width (P.Reduction op) w a = a
+operand_width P.Negation w a = a
+
+abbrev pub infix_width : Infix → ℕ → ℕ → ℕ
+infix_width (I.Vector op) l r = max l r
+infix_width (I.Shift op) l r = l
+infix_width I.Power l r = l
+infix_width (I.Order op) l r = 1
+infix_width (I.Equality op negated) l r = 1
+infix_width I.Both l r = 1
+infix_width I.Either l r = 1
+
+abbrev pub left_width : Infix → ℕ → ℕ → ℕ → ℕ
+left_width (I.Vector op) w l r = w
+left_width (I.Shift op) w l r = w
+left_width I.Power w l r = w
+left_width (I.Order op) w l r = max l r
+left_width (I.Equality op negated) w l r = max l r
+left_width I.Both w l r = l
+left_width I.Either w l r = l
+
+abbrev pub right_width : Infix → ℕ → ℕ → ℕ → ℕ
+right_width (I.Vector op) w l r = w
+right_width (I.Shift op) w l r = r
+right_width I.Power w l r = r
+right_width (I.Order op) w l r = max l r
+right_width (I.Equality op negated) w l r = max l r
+right_width I.Both w l r = r
+right_width I.Either w l r = r

@@ -8,6 +8,7 @@ mod operators;
 mod paths;
 mod scopes;
 mod vectors;
+mod widths;
 mod windows;
 
 pub use held::{Held, read};

@@ -1,7 +1,6 @@
 //! Operators on vectors (IEEE 1364-2005 clauses 5.1 and 5.5 and table 5-22).
 
 ghost use Rattle.std.specs.Prelude.{◌≡◌, ◌≤◌, length, IfOk};
-ghost use Rattle.v_meaning.specs.Values.{unary_meaning, binary_meaning};
 ghost use Rattle.v_eval.specs.Operators as means;
 
 use crate::vectors::{combined, one_bit, ordered, powered, reduced, shifted, transformed};
@@ -57,7 +56,7 @@ pub enum Infix {
 
 /// What an operator before an operand does.
 pub fn prefix_of(op: VUnaryOp) -> Prefix
-    ensures { means.prefix_meaning result ≡ unary_meaning op }
+    ensures { result ≡ means.prefix_of op }
 {
     match op {
         VUnaryOp::Not => Prefix::Vector(UnOp::Not),
@@ -74,7 +73,7 @@ pub fn prefix_of(op: VUnaryOp) -> Prefix
 
 /// What an operator between two operands does.
 pub fn infix_of(op: VBinaryOp) -> Infix
-    ensures { means.infix_meaning result ≡ binary_meaning op }
+    ensures { result ≡ means.infix_of op }
 {
     match op {
         VBinaryOp::Add => Infix::Vector(BinOp::Add),
