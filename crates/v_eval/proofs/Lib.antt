@@ -6,3 +6,6 @@ pub mod Naming
 pub mod Empty
 pub mod Lengths
 pub mod Steps
+pub mod OperatorKinds
+pub mod Levels
+pub mod Calls

@@ -15,7 +15,8 @@ use Rattle.v_eval.specs.Functions.{function_in, function_at, place_of}
 use Rattle.v_eval.specs.declared.paths.Named.{Named}
 use Rattle.v_eval.specs.declared.modules.Local.{Local}
 use Rattle.v_eval.specs.declared.modules.Signal.{Signal}
-use Rattle.v_eval.specs.Names.{nameless, named_or_not, of_local, local_found, signal_found, local_named, signal_named}
+use Rattle.v_eval.specs.Paths.{named_or_not}
+use Rattle.v_eval.specs.Names.{nameless, of_local, local_found, signal_found, local_named, signal_named}
 
 next-drop : {A : Type 0} (k : ℕ) (xs : List A) (x : A) (ys : List A) → drop k xs ≡ x ∷ ys → drop (suc k) xs ≡ ys
 next-drop zero [] x ys is = absurd (cc)

@@ -19,11 +19,6 @@ of_local l = record { number = S.local_number l.number; left = l.left; last = No
 abbrev pub of_signal : ℕ → Signal → Named
 of_signal first s = record { number = first + s.place; left = s.left; last = s.last }
 
--- what a name stands for, if it is declared
-abbrev pub named_or_not : Option Named → S.Named
-named_or_not None = S.undeclared
-named_or_not (Some n) = unnamed n
-
 abbrev pub local_found : List Local → Name → Option Named
 local_found [] name = None
 local_found (l ∷ ls) name = cond (bytes_eq l.name name) (Some (of_local l)) (local_found ls name)

@@ -15,6 +15,10 @@ words_of (Some last) = Some (last + 1)
 abbrev pub unnamed : Named → S.Named
 unnamed n = record { name = []; number = n.number; width = S.bits_of_range n.left; words = words_of n.last }
 
+abbrev pub named_or_not : Option Named → S.Named
+named_or_not None = S.undeclared
+named_or_not (Some n) = unnamed n
+
 abbrev pub path_of : Path → T.Path
 path_of p = record { window = window_of p.window; width = p.width; words = p.words }
 

@@ -1,10 +1,10 @@
 //! Names with selects (IEEE 1364-2005 clauses 4.9 and 5.2).
 
-ghost use Rattle.std.specs.Prelude.{◌≡◌, ◌≤◌, ◌<ℤ◌, ◌≤ℤ◌, ◌^◌, ◌*◌, ◌*ℤ◌, pos, IfSome, unsigned_abs};
+ghost use Rattle.std.specs.Prelude.{◌≡◌, ◌≤◌, ◌<ℤ◌, ◌≤ℤ◌, ◌^◌, ◌*◌, ◌*ℤ◌, pos, IfSome, unsigned_abs, []};
 ghost use Rattle.v_meaning.specs.Scopes.{bits_of_range, all_bits};
 ghost use Rattle.v_meaning.specs.Selects as means;
 ghost use Rattle.v_eval.specs.Windows.{window_of, IsNear};
-ghost use Rattle.v_eval.specs.Paths.{words_of, unnamed, path_of, selecting, IsShort};
+ghost use Rattle.v_eval.specs.Paths.{words_of, named_or_not, path_of, selecting, IsShort};
 
 use crate::windows::{Window, entire, nothing, part_of};
 use v_tree::VExtent;
@@ -62,27 +62,46 @@ fn bits_of_words(count: u64, width: u64) -> u128
     count as u128 * width as u128
 }
 
-/// All bits of what a name stands for, those of all words of a memory.
-pub fn all_bits(named: Named) -> u128
-    ensures value { result ≡ all_bits (unnamed named) }
+// All bits of a vector, or of all words of a memory.
+fn bits_of_all(width: u64, words: Option<u64>) -> u128
+    requires width { width ≤ 2 ^ 32 }
+    requires words { IfSome words (λ n. n ≤ 2 ^ 32) }
+    ensures value { result ≡ all_bits (record { name = []; number = 0; width = width; words = words }) }
     ensures short { result ≤ 2 ^ 64 }
 {
-    let width = bits_of_range(named.left);
-    match words_of(named.last) {
+    match words {
         None => width as u128,
         Some(count) => bits_of_words(count, width),
     }
 }
 
+/// All bits of what a name stands for, those of all words of a memory.
+pub fn all_bits(named: Option<Named>) -> u128
+    ensures value { result ≡ all_bits (named_or_not named) }
+    ensures short { result ≤ 2 ^ 64 }
+{
+    match named {
+        None => 0,
+        Some(named) => bits_of_all(bits_of_range(named.left), words_of(named.last)),
+    }
+}
+
 /// A name without selects.
-pub fn start(named: Named) -> Path
-    ensures path { path_of result ≡ means.start (unnamed named) }
+pub fn start(named: Option<Named>) -> Path
+    ensures path { path_of result ≡ means.start (named_or_not named) }
     ensures short { IsShort result }
 {
-    Path {
-        window: entire(all_bits(named)),
-        width: bits_of_range(named.left),
-        words: words_of(named.last),
+    match named {
+        None => Path {
+            window: nothing(),
+            width: 0,
+            words: None,
+        },
+        Some(declared) => Path {
+            window: entire(all_bits(named)),
+            width: bits_of_range(declared.left),
+            words: words_of(declared.last),
+        },
     }
 }
 
@@ -199,9 +218,9 @@ pub fn select(
 }
 
 /// How many bits a path of this name has.
-pub fn bits_named(named: Named, path: Path) -> u128
+pub fn bits_named(named: Option<Named>, path: Path) -> u128
     requires { IsShort path }
-    ensures value { result ≡ means.bits_named (path_of path) (all_bits (unnamed named)) }
+    ensures value { result ≡ means.bits_named (path_of path) (all_bits (named_or_not named)) }
     ensures short { result ≤ 2 ^ 64 }
 {
     match path.words {

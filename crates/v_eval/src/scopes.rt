@@ -6,7 +6,8 @@ ghost use Rattle.indexmap.specs.IndexMap.{get};
 ghost use Rattle.v_meaning.specs.Scopes as means;
 ghost use Rattle.v_meaning.specs.Functions.{find};
 ghost use Rattle.v_meaning.specs.Modules.{functions as functions_in};
-ghost use Rattle.v_eval.specs.Names.{local_found, signal_found, names_of, nameless, named_or_not};
+ghost use Rattle.v_eval.specs.Names.{local_found, signal_found, names_of, nameless};
+ghost use Rattle.v_eval.specs.Paths.{named_or_not};
 ghost use Rattle.v_eval.specs.Functions.{function_at};
 
 use crate::modules::{Local, Module, Signal};
