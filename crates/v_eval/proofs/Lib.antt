@@ -8,4 +8,8 @@ pub mod Lengths
 pub mod Steps
 pub mod OperatorKinds
 pub mod Levels
+pub mod Pieces
+pub mod Clamping
+pub mod Valued
+pub mod Selected
 pub mod Calls

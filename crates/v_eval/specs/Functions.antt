@@ -4,6 +4,7 @@ use Rattle.std.specs.Str.{bytes_eq}
 use Rattle.v_tree.specs.Names.{Name}
 use Rattle.v_tree.specs.declared.items.VFunction.{VFunction}
 use Rattle.v_tree.specs.declared.items.VItem.{VItem}
+use Rattle.v_tree.specs.declared.items.VLocal.{VLocal}
 use Rattle.v_tree.specs.declared.items.VItem.TheVariants as I
 
 -- the function at an item
@@ -27,3 +28,8 @@ place_of k (I.Initial i ∷ is) name = place_of (suc k) is name
 place_of k (I.Process p ∷ is) name = place_of (suc k) is name
 place_of k (I.Function f ∷ is) name = cond (bytes_eq f.name name) (Some k) (place_of (suc k) is name)
 place_of k (I.Instance i ∷ is) name = place_of (suc k) is name
+
+-- the inputs of a function
+abbrev pub inputs_in : Option VFunction → List VLocal
+inputs_in None = []
+inputs_in (Some f) = f.inputs

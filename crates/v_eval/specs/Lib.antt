@@ -8,3 +8,4 @@ pub mod Vectors
 pub mod Operators
 pub mod Limits
 pub mod Scopes
+pub mod Answering

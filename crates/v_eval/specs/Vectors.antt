@@ -1,5 +1,5 @@
 -- What vectors are filled up with, and what operators give of vectors without a bit.
-use Rattle.std.specs.Prelude.{Bool, true, false, List}
+use Rattle.std.specs.Prelude.{Bool, true, false, List, [], ◌∷◌, ◌++◌}
 use Rattle.b4_core.specs.declared.bit.Bit4.{Bit4}
 use Rattle.b4_core.specs.declared.bit.Bit4.TheVariants.{Zero, One}
 use Rattle.b4_core.specs.declared.operators.OrdOp.{OrdOp}
@@ -26,3 +26,8 @@ none_reduced R.Xor = Zero
 none_reduced R.Nand = Zero
 none_reduced R.Nor = One
 none_reduced R.Xnor = One
+
+-- pieces, the first on top
+abbrev pub stacked : List (List Bit4) → List Bit4
+stacked [] = []
+stacked (v ∷ vs) = stacked vs ++ v

@@ -1,6 +1,7 @@
 //! The values of expressions of the target language (IEEE 1364-2005 clause 5).
 #![tactic(auto)]
 
+mod around;
 mod held;
 mod indices;
 mod modules;
@@ -11,6 +12,7 @@ mod vectors;
 mod widths;
 mod windows;
 
+pub use around::{Around, Vectors};
 pub use held::{Held, read};
 pub use indices::index_of;
 pub use operators::{

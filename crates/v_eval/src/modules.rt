@@ -4,11 +4,11 @@ ghost use Rattle.std.specs.Prelude.{◌≡◌, ℕ, List, Some};
 ghost use Rattle.std.specs.Str.{bytes_eq};
 ghost use Rattle.std.specs.Option.{option_map};
 ghost use Rattle.indexmap.specs.IndexMap.{get};
-ghost use Rattle.v_eval.specs.Functions.{function_at, place_of};
+ghost use Rattle.v_eval.specs.Functions.{function_at, place_of, inputs_in};
 
 use indexmap::IndexMap;
 use sv_source::{Text, at};
-use v_tree::{VFunction, VItem};
+use v_tree::{VFunction, VItem, VLocal};
 
 /// A signal of a module.
 #[derive(Clone, Copy, Drop)]
@@ -55,5 +55,15 @@ pub fn function_of(items: &[VItem], i: usize) -> Option<&VFunction>
         Some(VItem::Process(_)) => None,
         Some(VItem::Function(function)) => Some(function),
         Some(VItem::Instance(_)) => None,
+    }
+}
+
+/// The inputs of the function that an item is.
+pub fn inputs_of(items: &[VItem], i: usize) -> &[VLocal]
+    ensures { result.now ≡ inputs_in (function_at items.now (Some i)) }
+{
+    match function_of(items, i) {
+        None => &[],
+        Some(function) => function.inputs.as_slice(),
     }
 }

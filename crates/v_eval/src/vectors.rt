@@ -8,8 +8,8 @@ ghost use Rattle.b4_core.specs.Shift.{shift_value};
 ghost use Rattle.b4_core.specs.Power.{power_value};
 ghost use Rattle.b4_core.specs.Reduce.{reduction};
 ghost use Rattle.b4_core.specs.Compare.{order_value};
-ghost use Rattle.v_meaning.specs.Values.{chosen as pick};
-ghost use Rattle.v_eval.specs.Vectors.{fill_bit, none_ordered, none_reduced};
+ghost use Rattle.v_meaning.specs.Values.{chosen as pick, often};
+ghost use Rattle.v_eval.specs.Vectors.{stacked, fill_bit, none_ordered, none_reduced};
 
 use b4_core::{
     BinOp, Bit4, OrdOp, RedOp, ShiftOp, UnOp, Vec4, binary, merge, order, power, reduce, shift,
@@ -17,8 +17,8 @@ use b4_core::{
 };
 use std::alloc::{AllocError, Global};
 
-// The vector without a bit.
-fn empty(alloc: Global) -> Vec4
+/// The vector without a bit.
+pub fn empty(alloc: Global) -> Vec4
     ensures { result ≡ [] }
 {
     Vec4::from_vec(Vec::new(alloc))
@@ -246,4 +246,29 @@ pub fn chosen(alloc: Global, on: Bit4, a: Vec4, b: Vec4) -> Result<Vec4, AllocEr
         Bit4::X => merge(alloc, &a, &b),
         Bit4::Z => merge(alloc, &a, &b),
     }
+}
+
+/// The pieces, the first on top. Or want of memory.
+pub fn stacked(alloc: Global, pieces: &[Vec4]) -> Result<Vec4, AllocError>
+    ensures { IfOk result (λ v. v ≡ stacked pieces.now) }
+{
+    let mut bits = Vec::new(alloc);
+    let mut i = pieces.len();
+    while i > 0 {
+        i -= 1;
+        bits.extend_from_slice(pieces[i].as_slice())?;
+    }
+    Ok(Vec4::from_vec(bits))
+}
+
+/// A vector that is there so often. Or want of memory.
+#[tactic(auto, using(crate::proofs::Pieces::pieces))]
+pub fn repeated(alloc: Global, count: u32, v: &Vec4) -> Result<Vec4, AllocError>
+    ensures { IfOk result (λ r. r ≡ often count v.now) }
+{
+    let mut bits = Vec::new(alloc);
+    for _i in 0..count {
+        bits.extend_from_slice(v.as_slice())?;
+    }
+    Ok(Vec4::from_vec(bits))
 }

@@ -91,7 +91,7 @@ fn added(a: usize, b: usize) -> Result<usize, AllocError>
 }
 
 // The width of a name with selects.
-fn name_wide(sels: &[VSel], named: Option<Named>) -> Result<usize, AllocError>
+pub(crate) fn name_wide(sels: &[VSel], named: Option<Named>) -> Result<usize, AllocError>
     ensures meaning { IfOk result (λ n. n ≡ width_of (named_or_not named) (map sel_meaning sels.now)) }
     ensures limits { IfOk result (λ n. n ≡ width_of (named_or_not named) (map (λ (s : SelLimits). selecting s.decimal s.extent) (map limits_of_sel sels.now))) }
 {
