@@ -12,4 +12,6 @@ pub mod Pieces
 pub mod Clamping
 pub mod Valued
 pub mod Selected
+pub mod Narrow
+pub mod Loops
 pub mod Calls

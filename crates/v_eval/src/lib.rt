@@ -2,6 +2,7 @@
 #![tactic(auto)]
 
 mod around;
+mod evaluate;
 mod held;
 mod indices;
 mod modules;
@@ -13,6 +14,7 @@ mod widths;
 mod windows;
 
 pub use around::{Around, Vectors};
+pub use evaluate::{path, value};
 pub use held::{Held, read};
 pub use indices::index_of;
 pub use operators::{
