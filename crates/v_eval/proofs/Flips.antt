@@ -1,14 +1,14 @@
 -- Numbers of negated bits.
-use Rattle.std.proofs.Common.{◌≡◌, ℕ, zero, suc, ◌+◌, ◌-◌, ◌*◌, ◌^◌, ◌<◌, ◌≤◌, min, Bool, true, false, ◌&&◌, if◌then◌else◌, ℤ, pos, negsuc, List, [], ◌∷◌, length, drop, map, get_or, refl, arith, ap, sym, ◌∙◌}
-use Rattle.std.specs.Prelude.{◌-ℤ◌, slice_get, Option, Some, None}
+use Rattle.std.proofs.Common.{◌≡◌, ℕ, suc, ◌+◌, ◌*◌, ◌^◌, ◌<◌, Bool, true, false, ◌&&◌, if◌then◌else◌, pos, negsuc, List, [], ◌∷◌, length, drop, map, get_or, refl, arith, ap, ◌∙◌}
+use Rattle.std.specs.Prelude.{◌-ℤ◌}
 use Rattle.std.proofs.lemmas.Int.{ints}
 use Rattle.std.proofs.lemmas.List.{drop_more}
 use Rattle.std.proofs.Math.ListN.{drop_of_length-le}
 use Rattle.b4_core.specs.declared.bit.Bit4.{Bit4}
 use Rattle.b4_core.specs.declared.bit.Bit4.TheVariants.{Zero, One, X, Z}
-use Rattle.b4_core.specs.Bits.{known4, is_one, not4}
-use Rattle.b4_core.specs.Vectors.{known, num, digit, top_bit, number, snum}
-use Rattle.v_eval.specs.Indices.{most, clamped, flipped}
+use Rattle.b4_core.specs.Bits.{is_one}
+use Rattle.b4_core.specs.Vectors.{known, num, digit, top_bit, number}
+use Rattle.v_eval.specs.Indices.{flipped}
 
 pub next-flip : (n : Bool) (v : List Bit4) (i : ℕ) (d : Bit4) → i < length v → num (map (flipped n) (drop i v)) ≡ digit (flipped n (get_or v i d)) + 2 * num (map (flipped n) (drop (i + 1) v))
 next-flip n v i d h = ap (λ xs. num (map (flipped n) xs)) (drop_more v i d h)

@@ -1,6 +1,5 @@
 -- Operands that are short enough, and results that are as long as their context.
-use Rattle.std.proofs.Common.{◌≡◌, ◌≤◌, ℕ, max, Bool, true, false, ◌&&◌, List, [], ◌∷◌, length, refl, arith, ap, sym, ◌∙◌}
-use Rattle.b4_core.specs.declared.bit.Bit4.{Bit4}
+use Rattle.std.proofs.Common.{◌≤◌, ℕ}
 use Rattle.b4_core.specs.declared.operators.UnOp.{UnOp}
 use Rattle.b4_core.specs.declared.operators.UnOp.TheVariants as U
 use Rattle.b4_core.specs.declared.operators.BinOp.{BinOp}

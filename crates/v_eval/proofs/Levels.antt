@@ -1,5 +1,5 @@
 -- What expressions of each form are alone.
-use Rattle.std.proofs.Common.{◌≡◌, ℕ, ◌*◌, max, Bool, true, false, ◌&&◌, List, length, map, Option, refl, ap, sym, ◌∙◌}
+use Rattle.std.proofs.Common.{◌≡◌, ℕ, ◌*◌, Bool, false, List, length, map, Option, refl, ap, sym, ◌∙◌}
 use Rattle.b4_core.specs.declared.bit.Bit4.{Bit4}
 use Rattle.v_tree.specs.Names.{Name}
 use Rattle.v_tree.specs.declared.expressions.VExpr.{VExpr}
@@ -12,7 +12,6 @@ use Rattle.v_tree.specs.declared.operators.VUnaryOp.{VUnaryOp}
 use Rattle.v_expr_rules.proofs.Levels as L
 use Rattle.v_meaning.specs.Scopes as S
 use Rattle.v_meaning.specs.Selects.{SelMeaning}
-use Rattle.v_meaning.specs.Values as V
 use Rattle.v_meaning.specs.Values.{Meaning, meaning, sel_meaning, expr_step, prim_step, sel_step, unary_meaning, binary_meaning, literal, reference, call, concatenation, repetition, signing, choose, joined_width, width_of}
 use Rattle.v_meaning.specs.Functions.{find}
 use Rattle.v_meaning.specs.Modules.{functions as functions_in}
@@ -22,7 +21,7 @@ use Rattle.v_eval.specs.declared.operators.Infix.{Infix}
 use Rattle.v_eval.specs.declared.paths.Named.{Named}
 use Rattle.v_eval.specs.declared.scopes.Scope.{Scope}
 use Rattle.v_eval.specs.Functions.{function_at}
-use Rattle.v_eval.specs.Limits.{Limits, SelLimits, limits, limits_of_prim, limits_of_sel, expr_limits, prim_limits, sel_limits}
+use Rattle.v_eval.specs.Limits.{Limits, SelLimits, limits_of_prim, limits_of_sel, expr_limits, prim_limits, sel_limits}
 use Rattle.v_eval.specs.Names.{nameless, names_of}
 use Rattle.v_eval.specs.Operators.{prefix_of, infix_of, prefix_own, infix_own, larger}
 use Rattle.v_eval.specs.Paths.{named_or_not, selecting}

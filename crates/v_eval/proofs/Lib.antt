@@ -3,7 +3,7 @@ pub mod Reading
 pub mod Flips
 pub mod Products
 pub mod Naming
-pub mod Empty
+pub mod NoBits
 pub mod Lengths
 pub mod Steps
 pub mod OperatorKinds

@@ -1,16 +1,13 @@
 -- Loops over selects, items and arguments.
-use Rattle.std.proofs.Common.{◌≡◌, ℕ, zero, suc, ◌+◌, ◌≤◌, ◌<◌, max, min, Bool, List, [], ◌∷◌, ◌++◌, append_assoc, length, take, drop, map, get_or, Option, Some, None, refl, arith, ap, sym, ◌∙◌, subst}
+use Rattle.std.proofs.Common.{◌≡◌, ℕ, ◌+◌, ◌≤◌, ◌<◌, max, min, List, [], ◌∷◌, ◌++◌, append_assoc, length, take, drop, map, get_or, refl, arith, ap, sym, ◌∙◌}
 use Rattle.std.proofs.lemmas.List.{append-nil, length-map, length-drop, drop_more}
 use Rattle.b4_core.specs.declared.bit.Bit4.{Bit4}
 use Rattle.row_machine.specs.Valuation.{Valuation}
 use Rattle.v_tree.specs.declared.expressions.VExpr.{VExpr}
-use Rattle.v_tree.specs.declared.expressions.VSel.{VSel}
 use Rattle.v_tree.specs.declared.items.VLocal.{VLocal}
 use Rattle.v_meaning.specs.Scopes.{Scope, bits_of_range}
-use Rattle.v_meaning.specs.Selects as T
-use Rattle.v_meaning.specs.Values.{Meaning, meaning, sel_meaning, joined, arguments, given, alone}
+use Rattle.v_meaning.specs.Values.{Meaning, meaning, joined, arguments, given, alone}
 use Rattle.v_eval.specs.declared.operators.Context.{Context}
-use Rattle.v_eval.specs.Limits.{Limits, limits, limits_of_sel, most_of_all, most_of_sels, most_of_args}
 use Rattle.v_eval.specs.Scopes.{own}
 use Rattle.v_eval.specs.Vectors.{stacked}
 use Rattle.v_eval.proofs.Valued.{at}

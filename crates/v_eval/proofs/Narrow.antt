@@ -1,6 +1,5 @@
 -- The operands of an expression whose arithmetic is narrow enough.
-use Rattle.std.proofs.Common.{◌≡◌, ℕ, zero, suc, ◌+◌, ◌*◌, ◌≤◌, max, Bool, List, [], ◌∷◌, length, map, Option, Some, None, refl, arith, ap, sym, ◌∙◌, subst}
-use Rattle.b4_core.specs.declared.bit.Bit4.{Bit4}
+use Rattle.std.proofs.Common.{◌≡◌, ℕ, ◌≤◌, max, Bool, List, map, Option, Some, refl, arith, ap, sym, ◌∙◌, subst}
 use Rattle.v_tree.specs.Names.{Name}
 use Rattle.v_tree.specs.declared.expressions.VExpr.{VExpr}
 use Rattle.v_tree.specs.declared.expressions.VExpr.TheVariants as E
@@ -125,11 +124,11 @@ narrow-binary k c l r m n e op a b sc is kind lw rw lc rc h =
     let K = infix_of op in
     let g = subst (λ (x : Limits). x.most c.width sc ≤ 128) (ap limits is ∙ L.at-binary expr_limits prim_limits sel_limits op a b) h in
     let i : left_width K c.width (A.wide sc) (B.wide sc) ≡ m.width =
-        sym (ap (λ (x : Context). x.width) lc ∙ left-wide k c l r ∙ ap (λ j. left_width j c.width l.width r.width) kind ∙ ap (λ x. left_width K c.width x r.width) lw ∙ ap (left_width K c.width (A.wide sc)) rw) in
+    sym (ap (λ (x : Context). x.width) lc ∙ left-wide k c l r ∙ ap (λ j. left_width j c.width l.width r.width) kind ∙ ap (λ x. left_width K c.width x r.width) lw ∙ ap (left_width K c.width (A.wide sc)) rw) in
     let j : right_width K c.width (A.wide sc) (B.wide sc) ≡ n.width =
-        sym (ap (λ (x : Context). x.width) rc ∙ right-wide k c l r ∙ ap (λ q. right_width q c.width l.width r.width) kind ∙ ap (λ x. right_width K c.width x r.width) lw ∙ ap (right_width K c.width (A.wide sc)) rw) in
+    sym (ap (λ (x : Context). x.width) rc ∙ right-wide k c l r ∙ ap (λ q. right_width q c.width l.width r.width) kind ∙ ap (λ x. right_width K c.width x r.width) lw ∙ ap (right_width K c.width (A.wide sc)) rw) in
     let f = subst (λ x. max (infix_most K m.width x) (max (A.most m.width sc) (B.most x sc)) ≤ 128) j
-        (subst (λ x. max (infix_most K x (right_width K c.width (A.wide sc) (B.wide sc))) (max (A.most x sc) (B.most (right_width K c.width (A.wide sc) (B.wide sc)) sc)) ≤ 128) i g) in
+    (subst (λ x. max (infix_most K x (right_width K c.width (A.wide sc) (B.wide sc))) (max (A.most x sc) (B.most (right_width K c.width (A.wide sc) (B.wide sc)) sc)) ≤ 128) i g) in
     let rest = second-of (infix_most K m.width n.width) (max (A.most m.width sc) (B.most n.width sc)) f in record {
       own = subst (λ q. infix_most q m.width n.width ≤ 128) (sym kind) (first-of (infix_most K m.width n.width) (max (A.most m.width sc) (B.most n.width sc)) f);
       left = first-of (A.most m.width sc) (B.most n.width sc) rest;

@@ -1,7 +1,5 @@
 -- Operators mean what their kinds do, and are valued as these say.
-use Rattle.std.proofs.Common.{◌≡◌, ℕ, max, Bool, true, false, ◌&&◌, List, refl, ap, sym, ◌∙◌}
-use Rattle.b4_core.specs.declared.bit.Bit4.{Bit4}
-use Rattle.row_machine.specs.Valuation.{Valuation}
+use Rattle.std.proofs.Common.{◌≡◌, ℕ, true, false, refl, ap, ◌∙◌}
 use Rattle.v_tree.specs.declared.operators.VBinaryOp.{VBinaryOp}
 use Rattle.v_tree.specs.declared.operators.VBinaryOp.TheVariants as Y
 use Rattle.v_tree.specs.declared.operators.VUnaryOp.{VUnaryOp}
@@ -14,7 +12,7 @@ use Rattle.v_eval.specs.declared.operators.Prefix.{Prefix}
 use Rattle.v_eval.specs.declared.operators.Prefix.TheVariants as P
 use Rattle.v_eval.specs.declared.operators.Infix.{Infix}
 use Rattle.v_eval.specs.declared.operators.Infix.TheVariants as I
-use Rattle.v_eval.specs.Operators.{prefix_of, infix_of, prefix_meaning, infix_meaning, prefix_own, prefix_context, prefix_value, prefix_width, operand_width, infix_own, left_context, right_context, infix_value, infix_width, left_width, right_width}
+use Rattle.v_eval.specs.Operators.{prefix_of, infix_of, prefix_meaning, infix_meaning, prefix_own, prefix_width, infix_own, infix_width}
 use Rattle.v_eval.specs.Scopes.{own}
 
 pub prefix-is : (op : VUnaryOp) → prefix_meaning (prefix_of op) ≡ unary_meaning op

@@ -1,5 +1,5 @@
 -- Steps of loops over selects.
-use Rattle.std.proofs.Common.{◌≡◌, ℕ, List, [], ◌∷◌, map, Option, Some, None, refl, ap, sym, ◌∙◌}
+use Rattle.std.proofs.Common.{◌≡◌, List, ◌∷◌, None, ap, ◌∙◌}
 use Rattle.v_meaning.specs.Selects.{Path, SelMeaning, select, width_from}
 
 pub width-next : (s t : SelMeaning) (ss : List SelMeaning) (p q : Path) → q ≡ select s None p → select s None p ≡ select t None p → width_from ss q ≡ width_from (t ∷ ss) p

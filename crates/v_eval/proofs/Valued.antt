@@ -1,8 +1,7 @@
 -- What each form of an expression gives, by what its parts give.
-use Rattle.std.proofs.Common.{◌≡◌, ℕ, zero, suc, ◌+◌, ◌*◌, ◌≤◌, ◌<◌, max, min, Bool, true, false, ◌&&◌, cond, ℤ, pos, negsuc, List, [], ◌∷◌, ◌++◌, length, take, map, Option, Some, None, refl, arith, ap, sym, ◌∙◌, subst}
+use Rattle.std.proofs.Common.{◌≡◌, ℕ, zero, suc, Bool, true, false, List, [], ◌∷◌, length, map, Option, Some, None, refl, ap, sym, ◌∙◌}
 use Rattle.b4_core.specs.declared.bit.Bit4.{Bit4}
 use Rattle.b4_core.specs.declared.bit.Bit4.TheVariants.{Zero, One, X, Z}
-use Rattle.b4_core.specs.declared.operators.UnOp.{UnOp}
 use Rattle.b4_core.specs.Bits.{merge4}
 use Rattle.b4_core.specs.Vectors.{ext}
 use Rattle.b4_core.specs.Bitwise.{truth_of}
@@ -13,7 +12,6 @@ use Rattle.v_tree.specs.declared.expressions.VExpr.{VExpr}
 use Rattle.v_tree.specs.declared.expressions.VExpr.TheVariants as E
 use Rattle.v_tree.specs.declared.expressions.VPrim.{VPrim}
 use Rattle.v_tree.specs.declared.expressions.VPrim.TheVariants as O
-use Rattle.v_tree.specs.declared.expressions.VSel.{VSel}
 use Rattle.v_tree.specs.declared.operators.VBinaryOp.{VBinaryOp}
 use Rattle.v_tree.specs.declared.operators.VUnaryOp.{VUnaryOp}
 use Rattle.v_tree.specs.declared.items.VFunction.{VFunction}
@@ -29,13 +27,13 @@ use Rattle.v_eval.specs.declared.operators.Prefix.{Prefix}
 use Rattle.v_eval.specs.declared.operators.Prefix.TheVariants as P
 use Rattle.v_eval.specs.declared.operators.Infix.{Infix}
 use Rattle.v_eval.specs.declared.operators.Infix.TheVariants as I
-use Rattle.v_eval.specs.Operators.{prefix_of, infix_of, prefix_meaning, infix_meaning, prefix_own, prefix_context, prefix_value, infix_own, left_context, right_context, infix_value, larger, Alike, operand_width, left_width, right_width, prefix_most, infix_most}
+use Rattle.v_eval.specs.Operators.{prefix_of, infix_of, prefix_meaning, infix_meaning, prefix_context, prefix_value, left_context, right_context, infix_value, Alike}
 use Rattle.v_eval.specs.declared.scopes.Scope as C
 use Rattle.v_eval.specs.Functions.{function_at, inputs_in}
 use Rattle.v_eval.specs.Scopes.{prim_meaning, own, scope_of, signals_of, callee_within, callee_at}
 use Rattle.v_eval.proofs.Calls.{called}
 use Rattle.v_eval.proofs.OperatorKinds.{prefix-is, infix-is}
-use Rattle.v_eval.proofs.Levels.{is-prim, is-unary, is-binary, is-choose, is-number, is-paren, is-call, is-repeat, is-concat, is-sign}
+use Rattle.v_eval.proofs.Levels.{is-unary, is-binary, is-choose, is-number, is-call, is-repeat, is-concat, is-sign}
 
 -- at a context
 abbrev pub at : Meaning → Context → Scope → Valuation → List Bit4

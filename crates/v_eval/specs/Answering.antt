@@ -1,5 +1,5 @@
 -- What calls are answered with.
-use Rattle.std.specs.Prelude.{◌≡◌, ℕ, List, Option, Some, Result, IfOk}
+use Rattle.std.specs.Prelude.{◌≡◌, ℕ, List, Some, Result, IfOk}
 use Rattle.b4_core.specs.declared.bit.Bit4.{Bit4}
 use Rattle.v_eval.specs.declared.held.Held.{Held}
 use Rattle.v_eval.specs.declared.scopes.Scope.{Scope}

@@ -7,7 +7,7 @@ use Rattle.v_eval.specs.declared.paths.Named.{Named}
 use Rattle.v_eval.specs.declared.modules.Local.{Local}
 use Rattle.v_eval.specs.declared.modules.Signal.{Signal}
 use Rattle.v_eval.specs.declared.scopes.Scope.{Scope}
-use Rattle.v_eval.specs.Paths.{unnamed, words_of}
+use Rattle.v_eval.specs.Paths.{unnamed}
 
 -- a name's declaration without the name
 abbrev pub nameless : S.Named → S.Named

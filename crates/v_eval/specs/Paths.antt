@@ -1,5 +1,5 @@
 -- Names and paths as the code has them.
-use Rattle.std.specs.Prelude.{ℕ, ◌+◌, ◌^◌, ◌≤◌, true, List, [], Option, Some, None, IfSome}
+use Rattle.std.specs.Prelude.{ℕ, ◌+◌, ◌^◌, ◌≤◌, true, [], Option, Some, None, IfSome}
 use Rattle.v_tree.specs.declared.expressions.VExtent.{VExtent}
 use Rattle.v_meaning.specs.Scopes as S
 use Rattle.v_meaning.specs.Selects as T

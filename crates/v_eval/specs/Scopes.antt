@@ -1,6 +1,5 @@
 -- The scope and the functions of a place, as the code has them.
-use Rattle.std.specs.Prelude.{◌≡◌, ℕ, zero, suc, Bool, cond, List, [], map, ℤ, pos, Option, Some, None}
-use Rattle.v_tree.specs.declared.expressions.VExpr.{VExpr}
+use Rattle.std.specs.Prelude.{ℕ, zero, suc, List, map, Option}
 use Rattle.v_tree.specs.declared.expressions.VPrim.{VPrim, fold-VPrim}
 use Rattle.v_tree.specs.declared.items.VFunction.{VFunction}
 use Rattle.v_meaning.specs.Scopes as S

@@ -1,5 +1,5 @@
 -- Windows as the code has them, and how far they reach.
-use Rattle.std.specs.Prelude.{ℕ, ◌^◌, ◌≤◌, ◌≤ℤ◌, pos, neg_ℤ}
+use Rattle.std.specs.Prelude.{◌^◌, ◌≤◌, ◌≤ℤ◌, pos, neg_ℤ}
 use Rattle.picks.specs.Windows as P
 use Rattle.v_eval.specs.declared.windows.Window.{Window}
 

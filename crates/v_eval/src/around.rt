@@ -28,8 +28,8 @@ pub struct Around<'a> {
     pub held: Held<'a>,
 }
 
-// The number of what a name stands for.
-fn number_of(named: Option<Named>) -> u64
+/// The number of what a name stands for.
+pub fn number_of(named: Option<Named>) -> u64
     ensures { result ≡ (named_or_not named).number }
 {
     match named {

@@ -24,7 +24,6 @@ use crate::operators::{
 use crate::paths::{Named, Path, bits_of_range, select, start};
 use crate::vectors::{chosen, cut, empty, extended, repeated, stacked};
 use crate::widths::{own, prim_own};
-
 use b4_core::{Vec4, truth};
 use std::alloc::{AllocError, Global};
 use v_tree::{VExpr, VLocal, VPrim, VSel};
@@ -60,7 +59,7 @@ fn step<F: Fn(Held<'_>, usize, Vectors) -> Result<Vec4, AllocError>>(
     }
 }
 
-// The path of a name with selects.
+/// Which bits a name with selects names, its indices valued by what is held. Or want of memory.
 #[cycle(evaluate)]
 pub fn path<F: Fn(Held<'_>, usize, Vectors) -> Result<Vec4, AllocError>>(
     alloc: Global,

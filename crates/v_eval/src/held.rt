@@ -73,12 +73,7 @@ fn bit_of_path(bits: &[Bit4], window: Window, j: usize) -> Bit4
 
 /// The bits of a path on some bits, as many as it has: x where it is out of range. Or want of memory.
 #[tactic(auto, using(crate::proofs::Reading::reading))]
-pub fn read(
-    alloc: Global,
-    bits: &[Bit4],
-    window: Window,
-    width: usize,
-) -> Result<Vec4, AllocError>
+pub fn read(alloc: Global, bits: &[Bit4], window: Window, width: usize) -> Result<Vec4, AllocError>
     requires { IsNear window }
     ensures { IfOk result (λ v. v ≡ tabulated width (λ j. bit_or_x bits.now (picked (window_of window) j))) }
 {

@@ -13,18 +13,20 @@ mod vectors;
 mod widths;
 mod windows;
 
-pub use around::{Around, Vectors};
+pub use around::{Around, Vectors, number_of};
 pub use evaluate::{path, value};
 pub use held::{Held, read};
 pub use indices::index_of;
+pub use modules::{Local, Module, Signal, function_of, inputs_of};
 pub use operators::{
     Context, Infix, Prefix, infix_of, infix_own, infix_value, larger, left_context, prefix_context,
     prefix_of, prefix_own, prefix_value, right_context,
 };
-pub use paths::{Named, Path, all_bits, bits_named, select, start, taken};
-pub use modules::{Local, Module, Signal, function_of};
+pub use paths::{Named, Path, all_bits, bits_named, bits_of_range, select, start, taken};
 pub use scopes::Scope;
 pub use vectors::{
-    chosen, combined, cut, extended, one_bit, ordered, powered, reduced, shifted, transformed,
+    chosen, combined, cut, empty, extended, one_bit, ordered, powered, reduced, repeated, shifted,
+    stacked, transformed,
 };
+pub use widths::{Shape, added, name_wide, own, shape_of};
 pub use windows::{Window, entire, nothing, part_of};

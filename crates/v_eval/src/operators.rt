@@ -139,12 +139,7 @@ pub fn prefix_context(op: Prefix, at: Context, of: Context) -> Context
 
 /// What it gives, by what the operand is. Or want of memory.
 #[tactic(auto, using(crate::proofs::Lengths::narrow))]
-pub fn prefix_value(
-    alloc: Global,
-    op: Prefix,
-    at: Context,
-    v: &Vec4,
-) -> Result<Vec4, AllocError>
+pub fn prefix_value(alloc: Global, op: Prefix, at: Context, v: &Vec4) -> Result<Vec4, AllocError>
     requires { means.prefix_most op (length v.now) ≤ 128 }
     ensures { IfOk result (λ r. r ≡ means.prefix_value op at v.now) }
 {

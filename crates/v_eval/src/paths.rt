@@ -29,8 +29,8 @@ pub struct Path {
     pub words: Option<u64>,
 }
 
-// How many bits a range has.
-pub(crate) fn bits_of_range(left: Option<u32>) -> u64
+/// How many bits a range has.
+pub fn bits_of_range(left: Option<u32>) -> u64
     ensures value { result ≡ bits_of_range left }
     ensures short { result ≤ 2 ^ 32 }
 {
@@ -132,12 +132,7 @@ fn lowest(extent: Option<VExtent>, base: i128) -> i128
 }
 
 // A select of bits.
-fn bits_at(
-    decimal: Option<u32>,
-    extent: Option<VExtent>,
-    base: Option<i128>,
-    path: Path,
-) -> Path
+fn bits_at(decimal: Option<u32>, extent: Option<VExtent>, base: Option<i128>, path: Path) -> Path
     requires path { IsShort path }
     requires base { IfSome base (λ k. unsigned_abs k ≤ 2 ^ 71) }
     ensures path { path_of result ≡ means.bits_at (selecting decimal extent) base (path_of path) }
@@ -200,12 +195,7 @@ fn word_at(count: u64, base: Option<i128>, path: Path) -> Path
 }
 
 /// A select behind a path, with the number of its base, if no bit of that is x or z.
-pub fn select(
-    decimal: Option<u32>,
-    extent: Option<VExtent>,
-    base: Option<i128>,
-    path: Path,
-) -> Path
+pub fn select(decimal: Option<u32>, extent: Option<VExtent>, base: Option<i128>, path: Path) -> Path
     requires path { IsShort path }
     requires base { IfSome base (λ k. unsigned_abs k ≤ 2 ^ 71) }
     ensures path { path_of result ≡ means.select (selecting decimal extent) base (path_of path) }

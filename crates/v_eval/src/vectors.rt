@@ -25,7 +25,7 @@ pub fn empty(alloc: Global) -> Vec4
 }
 
 // The most significant bit, 0 where there is none.
-#[tactic(auto, using(crate::proofs::Empty::empties))]
+#[tactic(auto, using(crate::proofs::NoBits::empties))]
 fn top_of(v: &Vec4) -> Bit4
     ensures { result ≡ top_bit v.now }
 {
@@ -44,13 +44,8 @@ fn fill_of(v: &Vec4, signed: bool) -> Bit4
 
 /// A vector cut to so many bits, or filled up to them with its top bit if it is signed, else with 0 (IEEE 1364-2005 clauses
 /// 5.4.1 and 5.5.4). Or want of memory.
-#[tactic(auto, using(crate::proofs::Empty::empties))]
-pub fn extended(
-    alloc: Global,
-    v: &Vec4,
-    width: usize,
-    signed: bool,
-) -> Result<Vec4, AllocError>
+#[tactic(auto, using(crate::proofs::NoBits::empties))]
+pub fn extended(alloc: Global, v: &Vec4, width: usize, signed: bool) -> Result<Vec4, AllocError>
     ensures { IfOk result (λ r. r ≡ ext width signed v.now) }
 {
     let fill = fill_of(v, signed);
@@ -79,7 +74,7 @@ pub fn cut(alloc: Global, v: &Vec4, width: usize) -> Result<Vec4, AllocError>
 }
 
 /// `~v` or `-v`. Or want of memory.
-#[tactic(auto, using(crate::proofs::Empty::empties))]
+#[tactic(auto, using(crate::proofs::NoBits::empties))]
 pub fn transformed(alloc: Global, op: UnOp, v: &Vec4) -> Result<Vec4, AllocError>
     requires narrow { UnaryFitsWord op (length v.now) }
     ensures { IfOk result (λ r. r ≡ unary_value op v.now) }
@@ -91,7 +86,7 @@ pub fn transformed(alloc: Global, op: UnOp, v: &Vec4) -> Result<Vec4, AllocError
 }
 
 /// An operation on two vectors of one length. Or want of memory.
-#[tactic(auto, using(crate::proofs::Empty::empties))]
+#[tactic(auto, using(crate::proofs::NoBits::empties))]
 pub fn combined(
     alloc: Global,
     op: BinOp,
@@ -110,7 +105,7 @@ pub fn combined(
 }
 
 // A vector with a bit that has the same numbers.
-#[tactic(auto, using(crate::proofs::Empty::empties))]
+#[tactic(auto, using(crate::proofs::NoBits::empties))]
 fn shift_some(
     alloc: Global,
     op: ShiftOp,
@@ -129,7 +124,7 @@ fn shift_some(
 }
 
 /// A vector shifted by an unsigned number. Or want of memory.
-#[tactic(auto, using(crate::proofs::Empty::empties))]
+#[tactic(auto, using(crate::proofs::NoBits::empties))]
 pub fn shifted(
     alloc: Global,
     op: ShiftOp,
@@ -146,7 +141,7 @@ pub fn shifted(
 }
 
 // A power of a vector with a bit.
-#[tactic(auto, using(crate::proofs::Empty::empties))]
+#[tactic(auto, using(crate::proofs::NoBits::empties))]
 fn power_some(
     alloc: Global,
     a: &Vec4,
@@ -167,7 +162,7 @@ fn power_some(
 }
 
 /// `a ** b`. Or want of memory.
-#[tactic(auto, using(crate::proofs::Empty::empties))]
+#[tactic(auto, using(crate::proofs::NoBits::empties))]
 pub fn powered(
     alloc: Global,
     a: &Vec4,
@@ -198,7 +193,7 @@ fn none_ordered(op: OrdOp) -> Bit4
 }
 
 /// The order of two vectors of one length.
-#[tactic(auto, using(crate::proofs::Empty::empties))]
+#[tactic(auto, using(crate::proofs::NoBits::empties))]
 pub fn ordered(op: OrdOp, a: &Vec4, b: &Vec4, signed: bool) -> Bit4
     requires same { length a.now ≡ length b.now }
     requires narrow { length a.now ≤ 128 }
@@ -225,7 +220,7 @@ fn none_reduced(op: RedOp) -> Bit4
 }
 
 /// The operator between all bits of a vector.
-#[tactic(auto, using(crate::proofs::Empty::empties))]
+#[tactic(auto, using(crate::proofs::NoBits::empties))]
 pub fn reduced(op: RedOp, v: &Vec4) -> Bit4
     ensures { result ≡ reduction op v.now }
 {

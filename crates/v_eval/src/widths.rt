@@ -83,15 +83,15 @@ fn often(count: u32, bits: usize) -> Result<usize, AllocError>
     narrowed(count as u128 * bits as u128)
 }
 
-// Both numbers of bits.
-fn added(a: usize, b: usize) -> Result<usize, AllocError>
+/// Both numbers of bits together. Or want of memory, which a vector so wide would take.
+pub fn added(a: usize, b: usize) -> Result<usize, AllocError>
     ensures { IfOk result (λ n. n ≡ a + b) }
 {
     narrowed(a as u128 + b as u128)
 }
 
-// The width of a name with selects.
-pub(crate) fn name_wide(sels: &[VSel], named: Option<Named>) -> Result<usize, AllocError>
+/// The width of a name with selects. Or want of memory, which a vector so wide would take.
+pub fn name_wide(sels: &[VSel], named: Option<Named>) -> Result<usize, AllocError>
     ensures meaning { IfOk result (λ n. n ≡ width_of (named_or_not named) (map sel_meaning sels.now)) }
     ensures limits { IfOk result (λ n. n ≡ width_of (named_or_not named) (map (λ (s : SelLimits). selecting s.decimal s.extent) (map limits_of_sel sels.now))) }
 {
@@ -169,11 +169,7 @@ pub fn own(scope: Scope<'_>, e: &VExpr) -> Result<Context, AllocError>
             let r = prim_own(scope, right)?;
             Ok(infix_own(infix_of(*op), l, r))
         }
-        VExpr::Choose {
-            on: _,
-            then,
-            other,
-        } => {
+        VExpr::Choose { on: _, then, other } => {
             let a = prim_own(scope, then)?;
             let b = prim_own(scope, other)?;
             Ok(larger(a, b))

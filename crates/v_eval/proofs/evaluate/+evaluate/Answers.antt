@@ -1,9 +1,8 @@
-use Rattle.std.proofs.Common.{rules, ◌≡◌, ◌≤◌, ◌+◌, ◌++◌, List, ◌∷◌, drop, map, length, min, Some, arith, ap, sym, ◌∙◌, subst}
+use Rattle.std.proofs.Common.{rules, ◌≡◌, ◌≤◌, ◌+◌, ◌++◌, drop, map, length, min, Some, arith, ap, sym, ◌∙◌, subst}
 use Rattle.picks.specs.Windows.{picked, tabulated}
 use Rattle.v_tree.specs.declared.expressions.VPrim.TheVariants as O
 use Rattle.v_tree.specs.declared.items.VLocal.{VLocal}
 use Rattle.v_meaning.specs.Scopes.{bits_of_range}
-use Rattle.v_meaning.specs.Selects.{path_from, start}
 use Rattle.v_meaning.specs.Values.{meaning, sel_meaning, arguments, joined, width_of}
 use Rattle.v_tree.specs.declared.expressions.VSel.TheVariants as S
 use Rattle.v_eval.specs.declared.operators.Context.{Context}

@@ -1,5 +1,4 @@
-use Rattle.std.proofs.Common.{◌≡◌, ◌≤◌, ◌+◌, ◌++◌, drop, map}
-use Rattle.b4_core.specs.declared.bit.Bit4.{Bit4}
+use Rattle.std.proofs.Common.{◌≡◌, ◌≤◌, ◌++◌, drop, map}
 use Rattle.v_tree.specs.declared.items.VLocal.{VLocal}
 use Rattle.v_meaning.specs.Scopes.{bits_of_range}
 use Rattle.v_meaning.specs.Selects.{start, path_from}

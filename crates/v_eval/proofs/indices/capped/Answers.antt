@@ -1,5 +1,5 @@
-use Rattle.std.proofs.Common.{◌≡◌, ◌+◌, ◌-◌, ◌*◌, map, drop, length, min, arith, ap, sym, ◌∙◌}
-use Rattle.b4_core.specs.Vectors.{num, digit}
+use Rattle.std.proofs.Common.{◌≡◌, ◌+◌, ◌-◌, ◌*◌, map, drop, min, arith, ap, sym, ◌∙◌}
+use Rattle.b4_core.specs.Vectors.{num}
 use Rattle.v_eval.specs.Indices.{most, flipped}
 use Rattle.v_eval.proofs.Flips.{next-flip, none-left}
 use Rattle.v_eval.proofs.indices.capped.Goals as goal
@@ -15,5 +15,5 @@ loop-i-preserved c =
     let same : (l.i - 1) + 1 ≡ l.i = omega arith in
     let later : num (map (flipped n) (drop (l.i - 1 + 1) v)) ≡ num (map (flipped n) (drop l.i v)) = ap (λ k. num (map (flipped n) (drop k v))) same in
     let next : num (map (flipped n) (drop (l.i - 1) v)) ≡ c.digit_of.result + 2 * num (map (flipped n) (drop (l.i - 1 + 1) v)) =
-        next-flip n v (l.i - 1) _ (omega (arith, l.invariant.0)) ∙ ap (λ k. k + 2 * num (map (flipped n) (drop (l.i - 1 + 1) v))) (sym c.digit_of.ensures) in
+    next-flip n v (l.i - 1) _ (omega (arith, l.invariant.0)) ∙ ap (λ k. k + 2 * num (map (flipped n) (drop (l.i - 1 + 1) v))) (sym c.digit_of.ensures) in
     (omega (arith, l.invariant.0), omega (arith, c.min-n.ensures, next, later, l.invariant.1))

@@ -1,4 +1,3 @@
-use Rattle.std.proofs.Common.{◌≡◌}
 use Rattle.v_eval.specs.Scopes.{scope_of}
 use Rattle.v_eval.proofs.Levels.{own-unary, own-binary, own-choose, own-call, limits-call}
 use Rattle.v_eval.proofs.widths.+own.Goals as goal

@@ -1,5 +1,4 @@
 use Rattle.std.proofs.Common.{◌≡◌, drop, map}
-use Rattle.std.specs.Prelude.{None}
 use Rattle.v_meaning.specs.Selects.{width_from, start}
 use Rattle.v_meaning.specs.Values.{sel_meaning}
 use Rattle.v_eval.specs.Limits.{limits_of_sel, SelLimits}

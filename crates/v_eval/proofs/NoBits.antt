@@ -1,17 +1,15 @@
 -- Operators on vectors without a bit.
-use Rattle.std.proofs.Common.{◌≡◌, ℕ, zero, suc, ◌-◌, ◌^◌, min, Bool, true, false, ◌&&◌, if◌then◌else◌, ℤ, pos, negsuc, List, [], ◌∷◌, ◌++◌, length, take, drop, replicate, refl, arith, ap, sym, ◌∙◌}
+use Rattle.std.proofs.Common.{◌≡◌, ℕ, ◌-◌, Bool, true, false, List, [], ◌∷◌, ◌++◌, length, take, replicate, refl, arith, ap, sym, ◌∙◌}
 use Rattle.b4_core.specs.declared.bit.Bit4.{Bit4}
-use Rattle.b4_core.specs.declared.bit.Bit4.TheVariants.{Zero, One, X, Z}
+use Rattle.b4_core.specs.declared.bit.Bit4.TheVariants.{Zero}
 use Rattle.b4_core.specs.declared.operators.UnOp.{UnOp}
-use Rattle.b4_core.specs.declared.operators.UnOp.TheVariants as U
 use Rattle.b4_core.specs.declared.operators.BinOp.{BinOp}
-use Rattle.b4_core.specs.declared.operators.BinOp.TheVariants as B
 use Rattle.b4_core.specs.declared.operators.RedOp.{RedOp}
 use Rattle.b4_core.specs.declared.operators.RedOp.TheVariants as R
 use Rattle.b4_core.specs.declared.operators.OrdOp.{OrdOp}
 use Rattle.b4_core.specs.declared.operators.OrdOp.TheVariants as O
 use Rattle.b4_core.specs.declared.operators.ShiftOp.{ShiftOp}
-use Rattle.b4_core.specs.Vectors.{known, num, number, ext, top_bit}
+use Rattle.b4_core.specs.Vectors.{ext, top_bit}
 use Rattle.b4_core.specs.Unary.{unary_value}
 use Rattle.b4_core.specs.Binary.{binary_value}
 use Rattle.b4_core.specs.Shift.{shift_value}
