@@ -1,0 +1,14 @@
+//! Runs of statements of the target language (IEEE 1364-2005 clause 9).
+#![tactic(auto)]
+
+mod assigned;
+mod bits;
+mod pieces;
+mod slots;
+mod state;
+
+pub use assigned::{assign, write_all};
+pub use bits::write_bits;
+pub use pieces::{Piece, Pieces};
+pub use slots::write;
+pub use state::State;
