@@ -1,3 +1,4 @@
 pub mod Written
 pub mod HeldWrites
 pub mod Changed
+pub mod Targeted

@@ -6,9 +6,11 @@ mod bits;
 mod pieces;
 mod slots;
 mod state;
+mod targets;
 
 pub use assigned::{assign, write_all};
 pub use bits::write_bits;
 pub use pieces::{Piece, Pieces};
 pub use slots::write;
 pub use state::State;
+pub use targets::{parts_wide, put, target_wide};
