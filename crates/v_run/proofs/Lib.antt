@@ -2,3 +2,4 @@ pub mod Written
 pub mod HeldWrites
 pub mod Changed
 pub mod Targeted
+pub mod Assigning

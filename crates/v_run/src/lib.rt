@@ -2,6 +2,7 @@
 #![tactic(auto)]
 
 mod assigned;
+mod assignments;
 mod bits;
 mod pieces;
 mod slots;
@@ -9,6 +10,7 @@ mod state;
 mod targets;
 
 pub use assigned::{assign, write_all};
+pub use assignments::{assignment, given, writes};
 pub use bits::write_bits;
 pub use pieces::{Piece, Pieces};
 pub use slots::write;
