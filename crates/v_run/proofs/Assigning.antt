@@ -1,15 +1,12 @@
 -- What an assignment writes.
-use Rattle.std.proofs.Common.{◌≡◌, ℕ, max, Bool, List, [], take, refl, ap, sym, ◌∙◌, subst}
+use Rattle.std.proofs.Common.{◌≡◌, ℕ, List, [], ap, ◌∙◌}
 use Rattle.b4_core.specs.declared.bit.Bit4.{Bit4}
-use Rattle.row_machine.specs.Valuation.{Valuation, put}
+use Rattle.row_machine.specs.Valuation.{Valuation}
 use Rattle.row_machine.specs.Steps.{then_changes}
 use Rattle.v_meaning.specs.Scopes.{Scope}
 use Rattle.v_meaning.specs.Values.{Meaning, given}
 use Rattle.v_meaning.specs.Statements.{Target, changes_of as assigned_changes}
-use Rattle.v_eval.specs.declared.operators.Context.{Context}
-use Rattle.v_eval.specs.Scopes.{own}
 use Rattle.v_eval.proofs.Loops.{given-is}
-use Rattle.v_eval.proofs.Valued.{at}
 use Rattle.v_run.specs.declared.pieces.Piece.{Piece}
 use Rattle.v_run.specs.Changes.{changes_of}
 use Rattle.v_run.proofs.Changed.{none-first}

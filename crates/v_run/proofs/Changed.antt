@@ -1,8 +1,8 @@
 -- Writes behind each other.
-use Rattle.std.proofs.Common.{◌≡◌, ℕ, List, [], ◌∷◌, ◌++◌, Option, Some, None, refl, ap, sym, ◌∙◌}
+use Rattle.std.proofs.Common.{◌≡◌, List, [], ◌∷◌, ◌++◌, Option, Some, None, refl, ap, sym, ◌∙◌}
 use Rattle.std.proofs.Math.Path.{fun_ext}
 use Rattle.b4_core.specs.declared.bit.Bit4.{Bit4}
-use Rattle.row_machine.specs.Valuation.{Place, Valuation, Changes, put, changed}
+use Rattle.row_machine.specs.Valuation.{Valuation, Changes, put, changed}
 use Rattle.row_machine.specs.Steps.{unchanged, later_or, then_changes}
 use Rattle.v_run.specs.declared.pieces.Piece.{Piece}
 use Rattle.v_run.specs.Changes.{change_of, changes_of}

@@ -1,5 +1,5 @@
 -- Targets, form by form.
-use Rattle.std.proofs.Common.{◌≡◌, ℕ, ◌<◌, ◌≤◌, max, List, [], ◌∷◌, ◌++◌, length, take, drop, map, Option, refl, arith, ap, sym, ◌∙◌, subst}
+use Rattle.std.proofs.Common.{◌≡◌, ℕ, ◌<◌, ◌≤◌, List, [], ◌∷◌, ◌++◌, length, take, drop, map, Option, refl, arith, ap, sym, ◌∙◌, subst}
 use Rattle.std.proofs.Math.ListN.{drop_of_length-le}
 use Rattle.b4_core.specs.declared.bit.Bit4.{Bit4}
 use Rattle.row_machine.specs.Valuation.{Valuation, Changes}
@@ -7,7 +7,7 @@ use Rattle.row_machine.specs.Steps.{then_changes}
 use Rattle.picks.specs.Windows.{written}
 use Rattle.v_tree.specs.Names.{Name}
 use Rattle.v_tree.specs.declared.expressions.VSel.{VSel}
-use Rattle.v_tree.specs.declared.statements.VLval.{VLval, VLval-F, fold-VLval, fold-roll-VLval}
+use Rattle.v_tree.specs.declared.statements.VLval.{VLval, VLval-F, fold-roll-VLval}
 use Rattle.v_tree.specs.declared.statements.VLval.TheVariants as L
 use Rattle.v_meaning.specs.Scopes as S
 use Rattle.v_meaning.specs.Selects as T

@@ -1,12 +1,11 @@
 -- Writes into vectors that may become longer.
-use Rattle.std.proofs.Common.{◌≡◌, ℕ, zero, suc, ◌+◌, ◌-◌, ◌<◌, ◌≤◌, ◌&&◌, Bool, true, false, cond, List, [], ◌∷◌, ◌++◌, length, replicate, get_or, refl, arith, ap, sym, ◌∙◌}
+use Rattle.std.proofs.Common.{◌≡◌, ℕ, zero, suc, ◌-◌, ◌<◌, ◌≤◌, ◌&&◌, Bool, true, false, cond, List, [], ◌∷◌, ◌++◌, length, replicate, get_or, refl, arith, ap, sym, ◌∙◌}
 use Rattle.std.specs.Prelude.{nat_le, nat_lt}
 use Rattle.std.proofs.lemmas.List.{length-append, length-replicate}
 use Rattle.std.proofs.lemmas.Bool.Decides.{nat_tests}
 use Rattle.b4_core.specs.declared.bit.Bit4.{Bit4}
 use Rattle.b4_core.specs.declared.bit.Bit4.TheVariants.{X}
 use Rattle.picks.specs.Windows.{Window, within}
-use Rattle.eval_store.proofs.Storing.{on-ok}
 use Rattle.eval_store.proofs.Writing.{same-grown}
 use Rattle.v_eval.specs.Holding.{slot_of}
 use Rattle.v_run.specs.Writes.{new_bit, VectorWritten, SlotWritten, Grown}

@@ -1,5 +1,5 @@
 -- Writes in order, as changes.
-use Rattle.std.specs.Prelude.{ℕ, List, [], ◌∷◌}
+use Rattle.std.specs.Prelude.{List, [], ◌∷◌}
 use Rattle.row_machine.specs.Valuation.{Changes}
 use Rattle.row_machine.specs.Steps.{unchanged, then_changes}
 use Rattle.picks.specs.Windows.{written}

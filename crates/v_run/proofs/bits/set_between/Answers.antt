@@ -1,4 +1,4 @@
-use Rattle.std.proofs.Common.{ℕ, ◌≡◌, ◌≤◌, max, rules, pos, ◌-ℤ◌, cond, length, get_or, ◌&&◌, arith, ap, sym, ◌∙◌}
+use Rattle.std.proofs.Common.{◌≡◌, rules, pos, ◌-ℤ◌, cond, length, get_or, ◌&&◌, arith, ap, ◌∙◌}
 use Rattle.std.specs.Prelude.{nat_le, nat_lt}
 use Rattle.std.proofs.lemmas.List.{length-set}
 use Rattle.b4_core.specs.declared.bit.Bit4.TheVariants.{X}

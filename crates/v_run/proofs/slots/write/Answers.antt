@@ -1,4 +1,4 @@
-use Rattle.std.proofs.Common.{◌≡◌, ◌+◌, ◌-◌, ◌^◌, ◌<◌, arith}
+use Rattle.std.proofs.Common.{◌-◌, ◌^◌, arith}
 use Rattle.eval_store.proofs.Storing.{on-ok}
 use Rattle.v_eval.specs.Windows.{window_of}
 use Rattle.v_run.proofs.HeldWrites.{signal-written, local-written}
@@ -13,4 +13,4 @@ pub returns-else-number-lt4294967296 : goal.returns-else-number-lt4294967296
 returns-else-number-lt4294967296 c =
     on-ok
     (λ w. local-written c.args.signals.now.items c.args.locals.now.items c.write_slot-else-number-lt4294967296.new.slots.items (c.args.number - 2 ^ 32) c.args.number (window_of c.args.window) c.args.bits.now
-        (omega (arith, c.if-number-lt4294967296.false)) w) c.write_slot-else-number-lt4294967296.result c.write_slot-else-number-lt4294967296.ensures
+    (omega (arith, c.if-number-lt4294967296.false)) w) c.write_slot-else-number-lt4294967296.result c.write_slot-else-number-lt4294967296.ensures

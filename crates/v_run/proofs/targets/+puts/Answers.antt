@@ -1,11 +1,10 @@
-use Rattle.std.proofs.Common.{rules, ◌≡◌, ◌+◌, ◌-◌, ◌<◌, ◌≤◌, refl, List, [], ◌∷◌, drop, map, length, arith, ap, sym, ◌∙◌, subst}
+use Rattle.std.proofs.Common.{rules, ◌≡◌, ◌+◌, ◌-◌, ◌<◌, ◌≤◌, refl, [], drop, map, length, arith, ap, sym, ◌∙◌, subst}
 use Rattle.std.proofs.lemmas.List.{take_all, length-drop}
 use Rattle.std.proofs.Math.ListN.{drop_of_length-le}
 use Rattle.row_machine.specs.Steps.{then_changes}
 use Rattle.v_tree.specs.declared.statements.VLval.TheVariants as L
 use Rattle.v_meaning.specs.Statements.{target, parts_width, puts_parts}
 use Rattle.eval_store.proofs.Storing.{on-ok}
-use Rattle.v_tree.specs.declared.expressions.VSel.{VSel}
 use Rattle.v_eval.specs.Holding.{holds}
 use Rattle.v_eval.specs.Scopes.{scope_of}
 use Rattle.v_eval.proofs.Loops.{at-front}
@@ -22,7 +21,7 @@ put-returns-in_ok-from_slice-in-Name-clause-writes g t c =
     let p : Piece = record { number = c.number_of.result; window = c.in_ok-path-in-Name.path.window; bits = c.in_ok-from_slice-in-Name.field-0 } in
     on-ok
     (λ more. T.put-name c.args.to.now c.push.new.self p c.args.lval.now c.in-Name.name c.as_slice.result.now c.find-named.result c.in_ok-path-in-Name.path c.args.around.scope (holds c.args.around.held) c.args.bits.now
-        (c.in-Name.is ∙ ap (L.Name c.in-Name.name) (sym sels)) more c.number_of.ensures refl same c.find-named.ensures c.in_ok-path-in-Name.ensures.path)
+    (c.in-Name.is ∙ ap (L.Name c.in-Name.name) (sym sels)) more c.number_of.ensures refl same c.find-named.ensures c.in_ok-path-in-Name.ensures.path)
     c.push.result c.push.ensures.ok
 
 pub put-returns-in_ok-from_slice-in-Name-clause-near : goal.put-returns-in_ok-from_slice-in-Name-clause-near
@@ -48,7 +47,7 @@ put_parts-loop-i-preserved g t c =
     let inside : i < length parts = search rules in
     let front = at-front parts i x inside c.index-parts-i.is in
     let wide : c.in_ok-low.low ≡ parts_width (map target (drop (i + 1) parts)) sc =
-        c.in_ok-low.ensures ∙ ap (λ xs. parts_width (map target xs) sc) (take_all (length parts - (i + 1)) (drop (i + 1) parts) (omega (arith, length-drop (i + 1) parts))) in
+    c.in_ok-low.ensures ∙ ap (λ xs. parts_width (map target xs) sc) (take_all (length parts - (i + 1)) (drop (i + 1) parts) (omega (arith, length-drop (i + 1) parts))) in
     let before = subst (λ xs. then_changes (changes_of c.loop-i.to) (puts_parts (map target xs) sc v c.loop-i.rest) ≡ all) front c.loop-i.invariant.writes in
     let narrow = subst (λ xs. most_of_parts (map target_most xs) sc ≤ 128) front c.loop-i.invariant.narrow in
     record {

@@ -1,4 +1,4 @@
-use Rattle.std.proofs.Common.{◌≡◌, ◌≤◌, drop, map, length}
+use Rattle.std.proofs.Common.{◌≡◌, ◌≤◌, drop, map}
 use Rattle.row_machine.specs.Steps.{then_changes}
 use Rattle.v_meaning.specs.Statements.{target, puts_parts}
 use Rattle.v_eval.specs.Holding.{holds}
