@@ -3,3 +3,4 @@ pub mod HeldWrites
 pub mod Changed
 pub mod Targeted
 pub mod Assigning
+pub mod Deciding

@@ -4,6 +4,7 @@
 mod assigned;
 mod assignments;
 mod bits;
+mod conditions;
 mod pieces;
 mod slots;
 mod state;
@@ -12,6 +13,7 @@ mod targets;
 pub use assigned::{assign, write_all};
 pub use assignments::{assignment, given, writes};
 pub use bits::write_bits;
+pub use conditions::{agree, is_true};
 pub use pieces::{Piece, Pieces};
 pub use slots::write;
 pub use state::State;
