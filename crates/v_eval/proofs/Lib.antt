@@ -1,0 +1,17 @@
+pub mod Near
+pub mod Reading
+pub mod Flips
+pub mod Products
+pub mod Naming
+pub mod NoBits
+pub mod Lengths
+pub mod Steps
+pub mod OperatorKinds
+pub mod Levels
+pub mod Pieces
+pub mod Clamping
+pub mod Valued
+pub mod Selected
+pub mod Narrow
+pub mod Loops
+pub mod Calls

@@ -1,0 +1,6 @@
+pub mod Written
+pub mod HeldWrites
+pub mod Changed
+pub mod Targeted
+pub mod Assigning
+pub mod Deciding
