@@ -1,12 +1,12 @@
 -- Select paths, from what was found and valued.
-use Rattle.std.proofs.Common.{◌≡◌, ℕ, ◌≤◌, Bool, true, List, length, Option, Result, Ok, Err, refl, arith, sym, ap, ◌∙◌, subst}
+use Rattle.std.proofs.Common.{◌≡◌, ℕ, ◌≤◌, Bool, true, List, length, Option, Result, Ok, Err, refl, arith, ap, subst}
 use Rattle.std.specs.Prelude.{IfOk}
 use Rattle.b4_core.specs.declared.bit.Bit4.{Bit4}
 use Rattle.picks.specs.Windows.{picked, tabulated}
 use Rattle.sv_types.specs.declared.expression.Expr.{Expr}
-use Rattle.sv_types.specs.Layouts.{layout, width_of}
+use Rattle.sv_types.specs.Layouts.{width_of}
 use Rattle.sv_types.specs.Surroundings.{Around}
-use Rattle.sv_types.specs.Meanings.{Meaning, wide, signed}
+use Rattle.sv_types.specs.Meanings.{wide, signed}
 use Rattle.sv_types.specs.Expressions.{meaning}
 use Rattle.sv_types.proofs.ValueLengths.{length-value}
 use Rattle.eval_parts.specs.declared.halt.Halt.{Halt}
@@ -17,8 +17,8 @@ use Rattle.eval_parts.specs.Places.{FindGives, window_of, bit_of, bit_or_x}
 use Rattle.eval_parts.specs.Steps.{IsStep, is_held, can_read}
 use Rattle.eval_parts.specs.Surroundings.{now_of}
 use Rattle.eval_parts.proofs.Selecting as S
-use Rattle.const_eval.specs.declared.held.Held.{Held}
-use Rattle.const_eval.specs.Held.{around, bits_of_path}
+use Rattle.eval_exprs.specs.declared.held.Held.{Held}
+use Rattle.eval_exprs.specs.Held.{around, bits_of_path}
 
 pub path-done : (h : Held) (e : Expr) (s : Step) (f : Found) (r : List Bit4) (w : ℕ) (b : Bool) (old new : Option ℕ) → IsStep s e → can_read (meaning e).root (is_held h.signals.now) ≡ true → FindGives (Ok f) (meaning e) (around h) old new
     → r ≡ bits_of_path h e f w b → Gives (Ok r) (meaning e) w b (around h) old new

@@ -1,10 +1,10 @@
 -- From operand to operand.
-use Rattle.std.proofs.Common.{◌≡◌, ℕ, zero, suc, ◌+◌, ◌<◌, Bool, List, [], ◌∷◌, ◌++◌, map, drop, length, get_or, Option, Some, None, Ok, Err, refl, ap, sym, ◌∙◌, subst, append_assoc, append-nil}
+use Rattle.std.proofs.Common.{◌≡◌, ℕ, zero, suc, ◌+◌, ◌<◌, List, [], ◌∷◌, ◌++◌, drop, length, get_or, Option, ap, sym, ◌∙◌, subst, append_assoc, append-nil}
 use Rattle.std.proofs.Math.Seq.{drop-cons}
 use Rattle.std.proofs.Math.Numerals.{add-one}
 use Rattle.b4_core.specs.declared.bit.Bit4.{Bit4}
 use Rattle.sv_types.specs.declared.expression.Expr.{Expr}
-use Rattle.sv_types.specs.Surroundings.{Around, Tally, Parameter, onward}
+use Rattle.sv_types.specs.Surroundings.{Around, Tally}
 use Rattle.sv_types.specs.Meanings.{Meaning}
 use Rattle.sv_types.specs.Expressions.{meaning}
 use Rattle.eval_parts.specs.declared.halt.Halt.{Halt}

@@ -1,4 +1,4 @@
-use Rattle.std.proofs.Common.{◌≤◌, arith, ap, sym, ◌∙◌}
+use Rattle.std.proofs.Common.{arith, ap, ◌∙◌}
 use Rattle.b4_core.specs.Vectors.{ext}
 use Rattle.picks.specs.Windows.{picked, tabulated}
 use Rattle.sv_types.specs.Layouts.{layout, stored}
@@ -6,7 +6,7 @@ use Rattle.sv_types.proofs.Widths.{wide-widest}
 use Rattle.eval_parts.specs.Places.{window_of, bit_of, bit_or_x}
 use Rattle.eval_parts.specs.Surroundings.{now_of}
 use Rattle.eval_parts.proofs.TypeKinds.{wide-is}
-use Rattle.const_eval.proofs.held.read_path.Goals as goal
+use Rattle.eval_exprs.proofs.held.read_path.Goals as goal
 
 pub store-requires : goal.store-requires
 store-requires c = let e = c.args.e.now in omega (arith, wide-widest e, wide-is e, c.requires.narrow)

@@ -3,13 +3,22 @@
 ghost use Rattle.std.specs.Prelude.{◌≡◌, ◌≤◌, IfOk};
 ghost use Rattle.sv_types.specs.Expressions.{meaning};
 ghost use Rattle.eval_parts.specs.Places.{IsNear};
-ghost use Rattle.const_eval.specs.Held.{bits_of_path};
-ghost use Rattle.const_eval.specs.declared.held.Held.{Held};
+ghost use Rattle.eval_exprs.specs.Held.{bits_of_path};
+ghost use Rattle.eval_exprs.specs.declared.held.Held.{Held};
 
 use b4_core::Vec4;
 use eval_parts::{Found, extended, own_width, read};
 use std::alloc::{AllocError, Global};
-use sv_types::{Expr, store};
+use sv_types::{Expr, Function, store};
+
+/// The functions that calls name, and how deep calls may go.
+#[derive(Clone, Copy)]
+pub struct Scope<'a> {
+    /// The functions by place.
+    pub functions: &'a [Function],
+    /// How many calls may lie one in another.
+    pub depth: usize,
+}
 
 /// What signals and locals hold while an expression is valued: a slot for each by its number, its bits least first.
 #[derive(Clone, Copy)]
@@ -18,6 +27,8 @@ pub struct Held<'a> {
     pub signals: &'a [Option<Vec4>],
     /// Locals. One without bits holds the default of its type.
     pub locals: &'a [Option<Vec4>],
+    /// What calls name.
+    pub scope: Scope<'a>,
 }
 
 /// The bits of a select path that was found, stored as its type stores them, at a width and a sign.
