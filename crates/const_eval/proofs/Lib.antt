@@ -1,4 +1,1 @@
-pub mod Turns
-pub mod Operators
-pub mod Paths
 pub mod Valued

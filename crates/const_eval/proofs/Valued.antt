@@ -1,19 +1,22 @@
 -- Values, from the bits that an expression gave.
-use Rattle.std.proofs.Common.{◌≡◌, ℕ, ◌≤◌, Bool, List, [], length, Option, Result, Ok, Err, refl, arith, sym, ap, ◌∙◌, subst}
+use Rattle.std.proofs.Common.{◌≡◌, ℕ, Bool, List, [], length, Option, Result, Ok, Err, refl, sym, ap, ◌∙◌, subst}
 use Rattle.b4_core.specs.declared.bit.Bit4.{Bit4}
 use Rattle.sv_types.specs.declared.expression.Expr.{Expr}
 use Rattle.sv_types.specs.Layouts.{width_of}
-use Rattle.sv_types.specs.Surroundings.{Around, Parameter}
-use Rattle.sv_types.specs.Meanings.{Meaning, wide, signed}
+use Rattle.sv_types.specs.Surroundings.{Around}
+use Rattle.sv_types.specs.Meanings.{wide, signed}
 use Rattle.sv_types.specs.Expressions.{meaning}
 use Rattle.sv_types.proofs.ValueLengths.{length-value}
 use Rattle.eval_parts.specs.declared.halt.Halt.{Halt}
 use Rattle.eval_parts.specs.declared.halt.Halt.TheVariants as H
 use Rattle.eval_parts.specs.Answers.{Gives}
-use Rattle.sv_types.specs.Functions.{callees}
+use Rattle.sv_types.specs.Functions.{callees, callees_within, absent}
+use Rattle.eval_exprs.specs.declared.calls.Call.{Call}
+use Rattle.eval_exprs.specs.declared.calls.Called.{Called}
+use Rattle.eval_exprs.specs.Calls.{Ends}
 use Rattle.eval_parts.specs.Steps.{is_held}
-use Rattle.eval_parts.specs.Surroundings.{now_of}
-use Rattle.const_eval.proofs.Paths.{own-gives}
+use Rattle.eval_parts.specs.Surroundings.{now_of, running}
+use Rattle.eval_exprs.proofs.Paths.{own-gives}
 use Rattle.eval_parts.proofs.TypeKinds.{wide-is}
 use Rattle.const_eval.specs.declared.constants.Env.{Env}
 use Rattle.const_eval.specs.declared.constants.EvalFail.{EvalFail}
@@ -43,3 +46,12 @@ pub fails : (h : Halt) (e : Expr) (env : Env) (f : EvalFail) → FailsBy h e.spo
 fails H.Memory e env f is g = subst (λ q. Fails q e env) (sym is) tt
 fails (H.NotHeld n) e env f is g = subst (λ q. Fails q e env) (sym is) g
 fails H.Turns e env f is g = subst (λ q. Fails q e env) (sym is) (g, refl)
+
+-- where there are no functions a call gives nothing, and takes nothing
+absent-within : (f : ℕ) → callees [] f ≡ absent
+unfolding callees_within
+absent-within f = refl
+
+pub absent-ends : (called : Called) (q : Call) → called.result ≡ [] → called.finals ≡ [] → called.left ≡ q.left → Ends called (callees [] q.function) q
+absent-ends called q result finals left =
+    subst (λ c. Ends called c q) (sym (absent-within q.function)) (record { result = result; finals = finals; runs = ap running (sym left) })

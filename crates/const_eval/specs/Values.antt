@@ -1,9 +1,9 @@
 -- The value of an expression, and why it has none.
-use Rattle.std.specs.Prelude.{◌≡◌, ⊤, ℕ, List, [], Option, Some, Result, Ok, Err}
+use Rattle.std.specs.Prelude.{◌≡◌, ⊤, ℕ, List, [], Some, Result, Ok, Err}
 use Rattle.b4_core.specs.declared.bit.Bit4.{Bit4}
 use Rattle.sv_types.specs.declared.expression.Expr.{Expr}
 use Rattle.sv_types.specs.declared.types.Value.{Value}
-use Rattle.sv_types.specs.Surroundings.{Around, Tally, Stop}
+use Rattle.sv_types.specs.Surroundings.{Around, Parameter, Tally, Stop}
 use Rattle.sv_types.specs.Meanings.{Meaning, alone}
 use Rattle.sv_types.specs.Expressions.{meaning}
 use Rattle.sv_types.specs.Functions.{callees}
@@ -14,6 +14,7 @@ use Rattle.eval_parts.specs.Answers.{Halts}
 use Rattle.eval_parts.specs.Insides.{Runs}
 use Rattle.eval_parts.specs.Steps.{is_held}
 use Rattle.eval_parts.specs.Surroundings.{now_of, running}
+use Rattle.eval_forms.specs.Callees.{formals_in}
 use Rattle.const_eval.specs.declared.constants.Env.{Env}
 use Rattle.const_eval.specs.declared.constants.EvalFail.{EvalFail}
 use Rattle.const_eval.specs.declared.constants.EvalFail.TheVariants as F
@@ -21,6 +22,10 @@ use Rattle.const_eval.specs.declared.constants.EvalFail.TheVariants as F
 -- what signals and locals hold, where there are no functions
 abbrev pub surroundings : Env → Around
 surroundings env = record { now = now_of env.signals env.locals; holds = is_held env.signals; callee = callees [] }
+
+-- no function has formals
+abbrev pub no_formals : ℕ → List Parameter
+no_formals = formals_in []
 
 -- the run of an expression
 abbrev pub run_of : Expr → Env → Tally

@@ -3,14 +3,14 @@
 ghost use Rattle.sv_types.specs.Expressions.{meaning};
 ghost use Rattle.eval_parts.specs.Answers.{Gives};
 ghost use Rattle.eval_parts.specs.Limits.{FitsAlone};
-ghost use Rattle.const_eval.specs.Held.{no_formals};
-ghost use Rattle.const_eval.specs.Values.{AloneGives, FailsBy, ValueIs};
+ghost use Rattle.sv_types.specs.Functions.{callees};
+ghost use Rattle.eval_exprs.specs.Calls.{CalledGives};
+ghost use Rattle.const_eval.specs.Values.{AloneGives, FailsBy, ValueIs, no_formals};
 ghost use Rattle.const_eval.specs.declared.constants.EvalFail.TheVariants.{Memory};
-ghost use Rattle.std.specs.Prelude.{◌≡◌};
+ghost use Rattle.std.specs.Prelude.{◌≡◌, []};
 
-use crate::evaluate::bits;
-use crate::held::Held;
 use b4_core::Vec4;
+use eval_exprs::{Call, Called, Held, Scope, Vectors, bits};
 use eval_parts::{Halt, own_sign, own_width};
 use std::alloc::{AllocError, Global};
 use sv_source::Items;
@@ -55,17 +55,43 @@ impl From<AllocError> for EvalFail {
     }
 }
 
+// What a call gives where there are no functions.
+fn absent(alloc: Global, call: Call) -> Result<Called, Halt>
+    ensures { CalledGives result (callees [] call.function) call }
+{
+    Ok(Called {
+        result: Vec4::from_vec(Vec::new(alloc)),
+        finals: Vectors::from_vec(Vec::new(alloc)),
+        left: call.left,
+    })
+}
+
 // The bits of an expression alone.
 fn alone(alloc: Global, e: &Expr, env: &Env) -> Result<Vec4, Halt>
     requires { FitsAlone (meaning e.now) no_formals }
     ensures { AloneGives result (meaning e.now) env.now }
 {
+    let calls = |call: Call| -> Result<Called, Halt>
+        ensures { CalledGives result (callees [] call.function) call }
+    { absent(alloc, call) };
     let held = Held {
         signals: env.signals.as_slice(),
         locals: env.locals.as_slice(),
+        scope: Scope {
+            functions: &[],
+            depth: 0,
+        },
     };
     let mut budget = env.budget;
-    bits(alloc, held, e, own_width(e), own_sign(e), &mut budget)
+    bits(
+        alloc,
+        &calls,
+        held,
+        e,
+        own_width(e),
+        own_sign(e),
+        &mut budget,
+    )
 }
 
 // Why an expression at a token has no value.

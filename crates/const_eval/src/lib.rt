@@ -2,10 +2,5 @@
 #![tactic(auto)]
 
 mod constants;
-mod evaluate;
-mod held;
 
 pub use constants::{Env, EvalFail, Slots, value};
-pub use eval_parts::Halt;
-pub use evaluate::{bits, find};
-pub use held::{Held, read_path};

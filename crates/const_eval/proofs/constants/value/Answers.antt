@@ -1,7 +1,7 @@
 use Rattle.sv_types.specs.Meanings.{wide}
 use Rattle.sv_types.specs.Expressions.{meaning}
 use Rattle.eval_parts.proofs.Lists.{own-narrow}
-use Rattle.const_eval.specs.Held.{no_formals}
+use Rattle.const_eval.specs.Values.{no_formals}
 use Rattle.const_eval.proofs.Valued.{alone-long}
 use Rattle.const_eval.proofs.constants.value.Goals as goal
 

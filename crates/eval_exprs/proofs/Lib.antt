@@ -1,0 +1,4 @@
+pub mod Turns
+pub mod Operators
+pub mod Passing
+pub mod Paths
