@@ -19,6 +19,7 @@ use Rattle.sv_types.specs.Windows.{rank, falls}
 use Rattle.sv_types.proofs.OperatorLengths.{length-ext}
 use Rattle.v_meaning.specs.Scopes.{Scope}
 use Rattle.v_meaning.specs.Values as T
+pub use Rattle.lowering_laws.specs.Signed.{IsIndex}
 use Rattle.lowering_laws.specs.Terms.{bound}
 use Rattle.lowering_laws.specs.Terms as terms
 use Rattle.lowering_laws.specs.Placed.{HasRank, NoRank, IsRank, unknown as no_index, outside}
@@ -26,13 +27,6 @@ use Rattle.lowering_laws.proofs.Extensions.{ext-at}
 use Rattle.lowering_laws.proofs.Numbers.{num-digits}
 use Rattle.lowering_laws.proofs.Offsets.{truth-one, and-cases, and-false, both-holds, unknown-bits}
 use Rattle.lowering_laws.proofs.SignedNumbers.{snum-ext, known-ext-signed, unknown-ext-signed, FitsSigned, literal-signed, known-vec, length-vec}
-
--- An index as a signed number: what has its bits, and where they are known its number.
-pub record IsIndex (i : Option ℤ) (m : T.Meaning) (w : ℕ) (sc : Scope) (v : Valuation) : Type 0 where
-  pub width : m.width sc ≤ w
-  pub long : length (T.alone m sc v) ≤ w
-  pub there : known (T.alone m sc v) ≡ true → i ≡ Some (snum (T.alone m sc v))
-  pub lost : known (T.alone m sc v) ≡ false → i ≡ None
 
 module _ (i : Option ℤ) (m : T.Meaning) (w : ℕ) (sc : Scope) (v : Valuation) (index : IsIndex i m w sc v) where
   abbrev bits : List Bit4
@@ -68,7 +62,7 @@ module _ (i : Option ℤ) (m : T.Meaning) (w : ℕ) (sc : Scope) (v : Valuation)
   abbrev between : ℤ → ℤ → T.Meaning
   between low high = terms.between z w low high
 
-  between-is : (low high : ℤ) → snum (vec w low) ≡ low → snum (vec w high) ≡ high
+  pub between-is : (low high : ℤ) → snum (vec w low) ≡ low → snum (vec w high) ≡ high
       → is_one (T.truth (between low high) sc v) ≡ (known bits && (int_le low (snum bits) && int_le (snum bits) high))
   between-is low high l h =
       both-holds (T.order GreaterEqual z (bound w low)) (T.order LessEqual z (bound w high)) sc v
@@ -87,7 +81,7 @@ module _ (i : Option ℤ) (m : T.Meaning) (w : ℕ) (sc : Scope) (v : Valuation)
   abbrev under : ℤ → T.Meaning
   under n = terms.under z w n
 
-  difference-above : (n : ℤ) → ((T.binary Sub z (bound w n)).width sc ≡ w) × (T.alone (T.binary Sub z (bound w n)) sc v ≡ arithmetic (λ x y. x -ℤ y) true (ext w true bits) (vec w n))
+  pub difference-above : (n : ℤ) → ((T.binary Sub z (bound w n)).width sc ≡ w) × (T.alone (T.binary Sub z (bound w n)) sc v ≡ arithmetic (λ x y. x -ℤ y) true (ext w true bits) (vec w n))
   unfolding T.binary T.signing T.literal
   difference-above n =
       let long = length-vec w n in
@@ -99,7 +93,7 @@ module _ (i : Option ℤ) (m : T.Meaning) (w : ℕ) (sc : Scope) (v : Valuation)
             ∙ ap (λ u. arithmetic (λ x y. x -ℤ y) true (ext w true bits) u) (ext-at w true (vec w n) long),
       )
 
-  difference-under : (n : ℤ) → ((T.binary Sub (bound w n) z).width sc ≡ w) × (T.alone (T.binary Sub (bound w n) z) sc v ≡ arithmetic (λ x y. x -ℤ y) true (vec w n) (ext w true bits))
+  pub difference-under : (n : ℤ) → ((T.binary Sub (bound w n) z).width sc ≡ w) × (T.alone (T.binary Sub (bound w n) z) sc v ≡ arithmetic (λ x y. x -ℤ y) true (vec w n) (ext w true bits))
   unfolding T.binary T.signing T.literal
   difference-under n =
       let long = length-vec w n in
@@ -112,26 +106,26 @@ module _ (i : Option ℤ) (m : T.Meaning) (w : ℕ) (sc : Scope) (v : Valuation)
       )
 
   -- their values where the index is known, and where it isn't
-  above-known : (n : ℤ) → known bits ≡ true → snum (vec w n) ≡ n → arithmetic (λ x y. x -ℤ y) true (ext w true bits) (vec w n) ≡ vec w (snum bits -ℤ n)
+  pub above-known : (n : ℤ) → known bits ≡ true → snum (vec w n) ≡ n → arithmetic (λ x y. x -ℤ y) true (ext w true bits) (vec w n) ≡ vec w (snum bits -ℤ n)
   above-known n k is =
       (λ d. if known-ext-signed w bits index.long k d && known-vec w n d then vec (length-ext w true bits d) (snum-ext w bits index.long d -ℤ is d) else unknown (length-ext w true bits d))
 
-  under-known : (n : ℤ) → known bits ≡ true → snum (vec w n) ≡ n → arithmetic (λ x y. x -ℤ y) true (vec w n) (ext w true bits) ≡ vec w (n -ℤ snum bits)
+  pub under-known : (n : ℤ) → known bits ≡ true → snum (vec w n) ≡ n → arithmetic (λ x y. x -ℤ y) true (vec w n) (ext w true bits) ≡ vec w (n -ℤ snum bits)
   under-known n k is =
       (λ d. if known-vec w n d && known-ext-signed w bits index.long k d then vec (length-vec w n d) (is d -ℤ snum-ext w bits index.long d) else unknown (length-vec w n d))
 
-  above-unknown : (n : ℤ) → known bits ≡ false → arithmetic (λ x y. x -ℤ y) true (ext w true bits) (vec w n) ≡ unknown w
+  pub above-unknown : (n : ℤ) → known bits ≡ false → arithmetic (λ x y. x -ℤ y) true (ext w true bits) (vec w n) ≡ unknown w
   above-unknown n k =
       ap (λ c. if c && known (vec w n) then vec (length (ext w true bits)) (snum (ext w true bits) -ℤ snum (vec w n)) else unknown (length (ext w true bits))) (unknown-ext-signed w bits index.long k)
       ∙ ap unknown (length-ext w true bits)
 
-  under-unknown : (n : ℤ) → known bits ≡ false → arithmetic (λ x y. x -ℤ y) true (vec w n) (ext w true bits) ≡ unknown w
+  pub under-unknown : (n : ℤ) → known bits ≡ false → arithmetic (λ x y. x -ℤ y) true (vec w n) (ext w true bits) ≡ unknown w
   under-unknown n k =
       (λ d. if known-vec w n d && unknown-ext-signed w bits index.long k d then vec (length (vec w n)) (snum (vec w n) -ℤ snum (ext w true bits)) else unknown (length (vec w n)))
       ∙ ap unknown (length-vec w n)
 
 -- something of w bits in braces
-braced-bits : (e : T.Meaning) (w : ℕ) (u : List Bit4) (sc : Scope) (v : Valuation) → e.width sc ≡ w → T.alone e sc v ≡ u → length u ≡ w
+pub braced-bits : (e : T.Meaning) (w : ℕ) (u : List Bit4) (sc : Scope) (v : Valuation) → e.width sc ≡ w → T.alone e sc v ≡ u → length u ≡ w
     → ((T.concatenation (e ∷ [])).width sc ≡ w) × ((T.concatenation (e ∷ [])).signed ≡ false) × ((T.concatenation (e ∷ [])).value w false sc v ≡ u)
 unfolding T.concatenation
 braced-bits e w u sc v width is long = (omega arith, refl, ap (ext w false) is ∙ ext-at w false u long)
@@ -150,7 +144,7 @@ le-no (negsuc a) (pos b) h = absurd (cc)
 le-no (negsuc a) (negsuc b) h = (let n : a < b = grind (arith, nat_tests) in omega (arith, ints))
 
 -- how far an index lies above the lower of two bounds
-record IsOffset (low high z : ℤ) (q : ℕ) : Type 0 where
+pub record IsOffset (low high z : ℤ) (q : ℕ) : Type 0 where
   pub is : z ≡ pos q
   pub below : q < unsigned_abs (high -ℤ low) + 1
 
@@ -162,7 +156,7 @@ offset-by low high k (pos d) (pos q) e f h g =
 offset-by low high k (negsuc d) (pos q) e f h g = absurd (omega (arith, ints))
 offset-by low high k d (negsuc q) e f h g = absurd (omega (arith, ints))
 
-offset : (low high k : ℤ) → low ≤ℤ k → k ≤ℤ high → (q : ℕ) × IsOffset low high (k -ℤ low) q
+pub offset : (low high k : ℤ) → low ≤ℤ k → k ≤ℤ high → (q : ℕ) × IsOffset low high (k -ℤ low) q
 offset low high k h g = offset-by low high k (high -ℤ low) (k -ℤ low) refl refl h g
 
 -- an index outside two bounds has no offset
@@ -214,7 +208,7 @@ beyond-by low high k (negsuc d) (pos q) e f h (inl g) = (let far : suc d < q = o
     test : (x y : ℕ) → y < x → (int_le (pos 0) (pos x) && int_lt (pos x) (pos (y + 1))) ≡ false
     test x y less = grind (arith, nat_tests)
 
-vec-offset : (w q : ℕ) (z : ℤ) → z ≡ pos q → q < 2 ^ w → num (vec w z) ≡ q
+pub vec-offset : (w q : ℕ) (z : ℤ) → z ≡ pos q → q < 2 ^ w → num (vec w z) ≡ q
 vec-offset w q z is few = ap (λ x. num (vec w x)) is ∙ ap num (vec_pos w q) ∙ num-digits w q few
 
 -- Bounds and a number of elements that fit the width.

@@ -10,6 +10,7 @@ use Rattle.b4_core.specs.declared.bit.Bit4.TheVariants.{Zero, One, X, Z}
 use Rattle.b4_core.specs.Bits.{is_one}
 use Rattle.b4_core.specs.Vectors.{known, num, snum, digits, vec, ext, top_bit}
 use Rattle.b4_core.proofs.TwosComplement.{vec_is, vec_pos}
+pub use Rattle.lowering_laws.specs.Signed.{FitsSigned}
 use Rattle.lowering_laws.proofs.Extensions.{take-whole}
 use Rattle.lowering_laws.proofs.Numbers.{num-digits, known-digits, length-digits}
 
@@ -51,7 +52,7 @@ length-filled [] (suc c) b = (let rest = length-filled [] c b in omega arith)
 length-filled (x ∷ v) c b = (let rest = length-filled v c b in omega arith)
 
 -- filling up with the top bit keeps the signed number
-snum-of : (v : List Bit4) (t : Bool) → is_one (top_bit v) ≡ t → snum v ≡ (if t then pos (num v) -ℤ pos (2 ^ length v) else pos (num v))
+pub snum-of : (v : List Bit4) (t : Bool) → is_one (top_bit v) ≡ t → snum v ≡ (if t then pos (num v) -ℤ pos (2 ^ length v) else pos (num v))
 snum-of v t e = ap (λ b. if b then pos (num v) -ℤ pos (2 ^ length v) else pos (num v)) e
 
 filled-number : (v : List Bit4) (c : ℕ) (b : Bit4) → is_one b ≡ true → num (v ++ replicate c b) + 2 ^ length v ≡ num v + 2 ^ (length v + c)
@@ -129,7 +130,7 @@ unknown-ext-signed w v h k =
     ap (λ x. known (x ++ replicate (w - length v) (top_bit v))) (take-whole w v h) ∙ unknown-filled v (replicate (w - length v) (top_bit v)) k
 
 -- the top bit is 1 where the number is in the upper half
-top-half : (w : ℕ) (v : List Bit4) → known v ≡ true → length v ≡ suc w → is_one (top_bit v) ≡ nat_le (2 ^ w) (num v)
+pub top-half : (w : ℕ) (v : List Bit4) → known v ≡ true → length v ≡ suc w → is_one (top_bit v) ≡ nat_le (2 ^ w) (num v)
 top-half w [] k h = absurd (omega arith)
 top-half zero (Zero ∷ []) k h = refl
 top-half zero (One ∷ []) k h = refl
@@ -145,11 +146,6 @@ top-half (suc w) (One ∷ y ∷ v) k h = ap is_one (top-behind One y v) ∙ top-
   where
     halves : (n k d : ℕ) → d ≤ 1 → nat_le (2 ^ k) n ≡ nat_le (2 ^ suc k) (d + 2 * n)
     halves n k d h = (let power = pow-suc 2 k in grind (arith, nat_tests))
-
--- a number that fits so many bits as a signed one
-pub record FitsSigned (w : ℕ) (n : ℤ) : Type 0 where
-  pub above : neg_ℤ (pos (2 ^ w)) ≤ℤ n
-  pub below : n <ℤ pos (2 ^ w)
 
 literal-low : (w m : ℕ) → m < 2 ^ w → snum (digits (suc w) m) ≡ pos m
 literal-low w m h =

@@ -7,3 +7,7 @@ pub mod Reached
 pub mod NamedImages
 pub mod Agreeing
 pub mod Held
+pub mod Slid
+pub mod Words
+pub mod Steps
+pub mod Signed
