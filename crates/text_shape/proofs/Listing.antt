@@ -1,15 +1,13 @@
 -- The table of signals has the signals by their names.
-use Rattle.std.proofs.Common.{◌≡◌, ℕ, suc, ◌+◌, Bool, true, false, List, [], ◌∷◌, ◌++◌, map, filter, replicate, not, Option, Some, None, cond, refl, sym, ap, ◌∙◌, subst, if◌then◌else◌}
+use Rattle.std.proofs.Common.{◌≡◌, ℕ, suc, Bool, true, false, List, [], ◌∷◌, ◌++◌, map, filter, replicate, not, Option, Some, None, cond, refl, sym, ap, ◌∙◌, subst, if◌then◌else◌}
 use Rattle.std.specs.Str.{bytes_eq}
 use Rattle.std.proofs.lemmas.Slice.Eq.{bytes_eq-Decides}
 use Rattle.b4_core.specs.declared.bit.Bit4.TheVariants.{Zero}
 use Rattle.stim_rows.specs.declared.shape.Port.{Port}
 use Rattle.v_tree.specs.Names.{Name}
 use Rattle.v_tree.specs.Scopes.{bits_of}
-use Rattle.v_tree.specs.declared.items.VInit.{VInit}
 use Rattle.v_tree.specs.declared.items.VItem.{VItem}
 use Rattle.v_tree.specs.declared.items.VItem.TheVariants as I
-use Rattle.v_tree.specs.declared.items.VRegRest.{VRegRest}
 use Rattle.v_tree.specs.declared.items.VRegRest.TheVariants as R
 use Rattle.v_tree.specs.declared.items.VSignal.{VSignal}
 use Rattle.v_tree.specs.declared.items.VSignal.TheVariants.{Input, Output, OutputReg, Wire, Reg}
@@ -17,8 +15,8 @@ use Rattle.v_meaning.specs.Scopes.{Named, bits_of_range, named}
 use Rattle.v_meaning.specs.Modules as M
 use Rattle.v_meaning.specs.Modules.{Kind, input_net, net, variable, Signal, signals, numbered, kind_of}
 use Rattle.text_shape.specs.declared.signals.Entry.{Entry}
-use Rattle.text_shape.specs.Signals.{Entries, no_entries, put, added_to, added, entry_of, signal_added, Adding, adding, items_added}
-use Rattle.text_shape.specs.Shapes.{is_input, port_named, inputs, outputs, port_of, undeclared, declared, same, port_if, ports_from, shape_with}
+use Rattle.text_shape.specs.Signals.{Entries, no_entries, added_to, added, entry_of, signal_added, adding, items_added}
+use Rattle.text_shape.specs.Shapes.{is_input, port_named, inputs, outputs, port_of, declared, same, ports_from}
 
 -- a signal as an entry
 abbrev entry_is : ℕ → Signal → Entry

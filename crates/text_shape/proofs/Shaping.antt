@@ -1,11 +1,10 @@
 -- The shape that the table gives is that of the top.
-use Rattle.std.proofs.Common.{◌≡◌, ℕ, List, [], length, Option, Some, None, refl, sym, ap, ◌∙◌}
-use Rattle.stim_rows.specs.declared.shape.Shape.{Shape}
+use Rattle.std.proofs.Common.{◌≡◌, ℕ, List, length, Option, Some, None, refl, ap, ◌∙◌}
 use Rattle.v_tree.specs.Names.{Name}
 use Rattle.v_tree.specs.Rules.{module_named, bits_below}
 use Rattle.v_tree.specs.declared.items.VDesign.{VDesign}
 use Rattle.v_tree.specs.declared.items.VModule.{VModule}
-use Rattle.text_shape.specs.Shapes.{inputs, outputs, top_items, top_ports, shape_of, shape_with, shape_if}
+use Rattle.text_shape.specs.Shapes.{inputs, outputs, top_items, top_ports, shape_of, shape_if}
 use Rattle.v_rules.specs.Tables.{no_numbers, numbers_from}
 use Rattle.v_top_rules.specs.Sums.{at_module}
 use Rattle.v_top_rules.proofs.Counting.{numbered_module}

@@ -1,6 +1,6 @@
 -- The shape of a top: its ports in the order of its port list, each with the number of its signal, which is its place in a
 -- valuation, and the bits of all signals in it and below it, memories with all their words.
-use Rattle.std.specs.Prelude.{◌≡◌, ℕ, Bool, true, false, List, [], ◌∷◌, ◌++◌, length, map, replicate, filter, not, Option, Some, None, if◌then◌else◌}
+use Rattle.std.specs.Prelude.{ℕ, Bool, true, false, List, [], ◌∷◌, ◌++◌, length, map, replicate, filter, not, Option, Some, None, if◌then◌else◌}
 use Rattle.b4_core.specs.declared.bit.Bit4.TheVariants.{Zero}
 use Rattle.stim_rows.specs.declared.shape.Port.{Port}
 use Rattle.stim_rows.specs.declared.shape.Shape.{Shape}
@@ -9,7 +9,7 @@ use Rattle.v_tree.specs.Rules.{module_named, bits_below}
 use Rattle.v_tree.specs.declared.items.VDesign.{VDesign}
 use Rattle.v_tree.specs.declared.items.VItem.{VItem}
 use Rattle.v_tree.specs.declared.items.VModule.{VModule}
-use Rattle.v_meaning.specs.Scopes.{Named, named}
+use Rattle.v_meaning.specs.Scopes.{named}
 use Rattle.v_meaning.specs.Modules.{Kind, input_net, net, variable, Signal, signals, numbered, kind_of}
 use Rattle.text_shape.specs.declared.signals.Entry.{Entry}
 use Rattle.text_shape.specs.Signals.{Entries, no_entries, adding, items_added}

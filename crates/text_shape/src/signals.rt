@@ -72,7 +72,12 @@ impl Signals {
     }
 
     // Adds a declared signal, which has this number.
-    fn add_signal(&mut self, alloc: Global, signal: &VSignal, number: usize) -> Result<(), AllocError>
+    fn add_signal(
+        &mut self,
+        alloc: Global,
+        signal: &VSignal,
+        number: usize,
+    ) -> Result<(), AllocError>
         ensures { OnOk result (means.entries self.new ≡ means.signal_added signal.now number (means.entries self.old)) }
     {
         match signal {

@@ -1,13 +1,11 @@
 -- A text that was written is read as the design that it was written from.
-use Rattle.std.proofs.Common.{◌≡◌, ℕ, List, [], ◌++◌, Result, Ok, Err, sym, subst}
+use Rattle.std.proofs.Common.{ℕ, List, [], Ok, Err, sym, subst}
 use Rattle.v_tree.specs.declared.items.VDesign.{VDesign}
 use Rattle.v_tree.specs.Reading.{VReads}
 use Rattle.v_writer.specs.Writing.{Writes}
-use Rattle.v_reader.specs.declared.fails.ReadFail.{ReadFail}
 use Rattle.v_reader.specs.declared.fails.ReadFail.TheVariants as F
-use Rattle.v_reader.specs.Refusing.{ReadGives}
 use Rattle.v_reader.proofs.OneAnswer.{one_answer}
-use Rattle.v_round_trip.specs.RoundTrip.{ReadsBack, WrittenReadsBack}
+use Rattle.v_round_trip.specs.RoundTrip.{WrittenReadsBack}
 
 reads : (e : VDesign) (text : List ℕ) → Writes e [] text → VReads text e
 reads e text w = subst (λ (bytes : List ℕ). VReads bytes e) (sym w.is_added) w.reads

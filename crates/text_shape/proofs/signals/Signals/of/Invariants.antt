@@ -1,5 +1,5 @@
 use Rattle.std.proofs.Common.{◌≡◌, ◌≤◌, drop}
-use Rattle.text_shape.specs.Signals.{entries, adding, no_entries, items_added, Adding}
+use Rattle.text_shape.specs.Signals.{entries, adding, no_entries, items_added}
 use Rattle.text_shape.proofs.signals.Signals.of.Given as goal
 
 abbrev pub invariant-loop-item : goal.invariant-loop-item
