@@ -1,12 +1,11 @@
 -- Locals that are made x, one by one.
-use Rattle.std.proofs.Common.{◌≡◌, List, [], ◌∷◌, ◌++◌, refl, ap, sym, ◌∙◌}
+use Rattle.std.proofs.Common.{◌≡◌, List, [], ◌∷◌, ◌++◌, ap, ◌∙◌}
 use Rattle.row_machine.specs.Valuation.{Changes}
 use Rattle.row_machine.specs.Steps.{then_changes}
 use Rattle.v_meaning.specs.Scopes.{Named}
 use Rattle.v_meaning.specs.Runs.{cleared}
-use Rattle.v_eval.specs.Windows.{IsNear}
 use Rattle.v_run.specs.declared.pieces.Piece.{Piece}
-use Rattle.v_run.specs.Changes.{change_of, changes_of, cleared_one, AllNear}
+use Rattle.v_run.specs.Changes.{change_of, changes_of, cleared_one}
 use Rattle.v_run.proofs.Changed.{changes-more, then-assoc}
 use Rattle.v_run.proofs.Targeted.{near-next}
 

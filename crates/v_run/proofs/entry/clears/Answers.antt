@@ -1,11 +1,10 @@
-use Rattle.std.proofs.Common.{◌≡◌, ◌+◌, ◌≤◌, List, [], ◌∷◌, drop, map, length, arith, ap, sym, ◌∙◌, subst}
+use Rattle.std.proofs.Common.{◌≡◌, ◌+◌, [], drop, map, arith, ap, sym, ◌∙◌, subst}
 use Rattle.std.proofs.Math.ListN.{drop_of_length-le}
 use Rattle.row_machine.specs.Steps.{then_changes}
 use Rattle.v_meaning.specs.Runs.{cleared}
 use Rattle.v_eval.specs.Names.{local_named}
 use Rattle.v_eval.proofs.Loops.{at-front}
 use Rattle.v_run.specs.Changes.{changes_of}
-use Rattle.v_run.proofs.Changed.{none-first}
 use Rattle.v_run.proofs.Clearing.{clear-next}
 use Rattle.v_run.proofs.Targeted.{near-next}
 use Rattle.v_run.proofs.entry.clears.Goals as goal
