@@ -4,3 +4,4 @@ pub mod Changed
 pub mod Targeted
 pub mod Assigning
 pub mod Deciding
+pub mod Clearing
