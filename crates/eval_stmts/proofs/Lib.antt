@@ -1,0 +1,12 @@
+pub mod Chains
+pub mod Assigning
+pub mod Places
+pub mod Fitting
+pub mod Branches
+pub mod Turning
+pub mod Sizes
+pub mod Matching
+pub mod Choosing
+pub mod Unwritten
+pub mod Collecting
+pub mod Given

@@ -1,0 +1,9 @@
+pub mod Environments
+pub mod Stepping
+pub mod Values
+pub mod Limits
+pub mod Controls
+pub mod Targets
+pub mod Parts
+pub mod Assignments
+pub mod Routines
