@@ -269,12 +269,12 @@ pub met : (ks ms : List VModule) (top : Name) (w : Walk) (ns : Numbers) (ss : Li
     → Meets ms top w
 met ks ms top w ns ss is e s i n h g = record {
   signals = h ∙ (ap (λ l. map signal_of l ++ signals_from (length ks) ks top) s ∙ (ap (λ l. signals_from (length l) l top) e ∙ sym (signals-are (length ms) ms 0 top)));
-  numbers = ns;
   instances = g
       ∙ (ap (λ l. l ++ map (inst_of ns) (instances_from (length ks) ks (length ss) top)) i
       ∙ (ap (λ l. map (inst_of ns) (instances_from (length ks) ks (length l) top)) s
-      ∙ ap (λ l. map (inst_of ns) (instances_from (length l) l 0 top)) e));
-  items = λ name. ap (λ (m : Numbers). items_at ms (m name)) n ∙ (ap (λ l. items_at ms (numbers_from 0 l no_numbers name)) e ∙ items-numbered ms name);
+      ∙ (ap (λ l. map (inst_of ns) (instances_from (length l) l 0 top)) e
+      ∙ ap (λ (m : Numbers). map (inst_of m) (instances_from (length ms) ms 0 top)) (n ∙ ap (λ l. numbers_from 0 l no_numbers) e))));
+  items = items-numbered ms;
 }
 
 suc-is-add : (i : ℕ) → suc i ≡ i + 1

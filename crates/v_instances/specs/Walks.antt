@@ -5,7 +5,7 @@ use Rattle.v_tree.specs.declared.items.VItem.{VItem}
 use Rattle.v_tree.specs.declared.items.VItem.TheVariants as I
 use Rattle.v_tree.specs.declared.items.VModule.{VModule}
 use Rattle.v_meaning.specs.Modules.{Signal, signals, items_of, parts}
-use Rattle.v_rules.specs.Tables.{Numbers}
+use Rattle.v_rules.specs.Tables.{Numbers, numbers_from, no_numbers}
 use Rattle.v_instances.specs.Instances.{Instance, instances}
 use Rattle.v_instances.specs.Slots.{signal_of}
 use Rattle.v_instances.specs.declared.walk.VInst.{VInst}
@@ -38,9 +38,9 @@ unfoldable pub signals_from : ℕ → List VModule → Name → List Signal
 signals_from zero ms name = []
 signals_from (suc depth) ms name = signals (items_of ms name) ++ child_signals (signals_from depth ms) (items_of ms name)
 
--- The walk has met the signals and the instances of the design, and each instance has the items of its module.
+-- The walk has met the signals and the instances of the design. A module is named by the number of the first one with its name,
+-- and that has the items that the name stands for.
 pub record Meets (ms : List VModule) (top : Name) (w : Walk) : Type 0 where
   pub signals : map signal_of w.slots ≡ (parts ms top).signals
-  pub numbers : Numbers
-  pub instances : w.insts ≡ map (inst_of numbers) (instances ms top)
-  pub items : (name : Name) → items_at ms (numbers name) ≡ items_of ms name
+  pub instances : w.insts ≡ map (inst_of (numbers_from 0 ms no_numbers)) (instances ms top)
+  pub items : (name : Name) → items_at ms (numbers_from 0 ms no_numbers name) ≡ items_of ms name
