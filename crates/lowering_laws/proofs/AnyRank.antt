@@ -87,7 +87,7 @@ module _ (i : Option ℤ) (m : T.Meaning) (w : ℕ) (sc : Scope) (v : Valuation)
   abbrev under : ℤ → T.Meaning
   under n = terms.under z w n
 
-  difference-above : (n : ℤ) → ((T.binary Sub z (bound w n)).width sc ≡ w) × (T.alone (T.binary Sub z (bound w n)) sc v ≡ arithmetic (λ x y. x -ℤ y) true (ext w true bits) (vec w n))
+  pub difference-above : (n : ℤ) → ((T.binary Sub z (bound w n)).width sc ≡ w) × (T.alone (T.binary Sub z (bound w n)) sc v ≡ arithmetic (λ x y. x -ℤ y) true (ext w true bits) (vec w n))
   unfolding T.binary T.signing T.literal
   difference-above n =
       let long = length-vec w n in
@@ -99,7 +99,7 @@ module _ (i : Option ℤ) (m : T.Meaning) (w : ℕ) (sc : Scope) (v : Valuation)
             ∙ ap (λ u. arithmetic (λ x y. x -ℤ y) true (ext w true bits) u) (ext-at w true (vec w n) long),
       )
 
-  difference-under : (n : ℤ) → ((T.binary Sub (bound w n) z).width sc ≡ w) × (T.alone (T.binary Sub (bound w n) z) sc v ≡ arithmetic (λ x y. x -ℤ y) true (vec w n) (ext w true bits))
+  pub difference-under : (n : ℤ) → ((T.binary Sub (bound w n) z).width sc ≡ w) × (T.alone (T.binary Sub (bound w n) z) sc v ≡ arithmetic (λ x y. x -ℤ y) true (vec w n) (ext w true bits))
   unfolding T.binary T.signing T.literal
   difference-under n =
       let long = length-vec w n in
@@ -112,26 +112,26 @@ module _ (i : Option ℤ) (m : T.Meaning) (w : ℕ) (sc : Scope) (v : Valuation)
       )
 
   -- their values where the index is known, and where it isn't
-  above-known : (n : ℤ) → known bits ≡ true → snum (vec w n) ≡ n → arithmetic (λ x y. x -ℤ y) true (ext w true bits) (vec w n) ≡ vec w (snum bits -ℤ n)
+  pub above-known : (n : ℤ) → known bits ≡ true → snum (vec w n) ≡ n → arithmetic (λ x y. x -ℤ y) true (ext w true bits) (vec w n) ≡ vec w (snum bits -ℤ n)
   above-known n k is =
       (λ d. if known-ext-signed w bits index.long k d && known-vec w n d then vec (length-ext w true bits d) (snum-ext w bits index.long d -ℤ is d) else unknown (length-ext w true bits d))
 
-  under-known : (n : ℤ) → known bits ≡ true → snum (vec w n) ≡ n → arithmetic (λ x y. x -ℤ y) true (vec w n) (ext w true bits) ≡ vec w (n -ℤ snum bits)
+  pub under-known : (n : ℤ) → known bits ≡ true → snum (vec w n) ≡ n → arithmetic (λ x y. x -ℤ y) true (vec w n) (ext w true bits) ≡ vec w (n -ℤ snum bits)
   under-known n k is =
       (λ d. if known-vec w n d && known-ext-signed w bits index.long k d then vec (length-vec w n d) (is d -ℤ snum-ext w bits index.long d) else unknown (length-vec w n d))
 
-  above-unknown : (n : ℤ) → known bits ≡ false → arithmetic (λ x y. x -ℤ y) true (ext w true bits) (vec w n) ≡ unknown w
+  pub above-unknown : (n : ℤ) → known bits ≡ false → arithmetic (λ x y. x -ℤ y) true (ext w true bits) (vec w n) ≡ unknown w
   above-unknown n k =
       ap (λ c. if c && known (vec w n) then vec (length (ext w true bits)) (snum (ext w true bits) -ℤ snum (vec w n)) else unknown (length (ext w true bits))) (unknown-ext-signed w bits index.long k)
       ∙ ap unknown (length-ext w true bits)
 
-  under-unknown : (n : ℤ) → known bits ≡ false → arithmetic (λ x y. x -ℤ y) true (vec w n) (ext w true bits) ≡ unknown w
+  pub under-unknown : (n : ℤ) → known bits ≡ false → arithmetic (λ x y. x -ℤ y) true (vec w n) (ext w true bits) ≡ unknown w
   under-unknown n k =
       (λ d. if known-vec w n d && unknown-ext-signed w bits index.long k d then vec (length (vec w n)) (snum (vec w n) -ℤ snum (ext w true bits)) else unknown (length (vec w n)))
       ∙ ap unknown (length-vec w n)
 
 -- something of w bits in braces
-braced-bits : (e : T.Meaning) (w : ℕ) (u : List Bit4) (sc : Scope) (v : Valuation) → e.width sc ≡ w → T.alone e sc v ≡ u → length u ≡ w
+pub braced-bits : (e : T.Meaning) (w : ℕ) (u : List Bit4) (sc : Scope) (v : Valuation) → e.width sc ≡ w → T.alone e sc v ≡ u → length u ≡ w
     → ((T.concatenation (e ∷ [])).width sc ≡ w) × ((T.concatenation (e ∷ [])).signed ≡ false) × ((T.concatenation (e ∷ [])).value w false sc v ≡ u)
 unfolding T.concatenation
 braced-bits e w u sc v width is long = (omega arith, refl, ap (ext w false) is ∙ ext-at w false u long)

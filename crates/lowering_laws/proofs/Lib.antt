@@ -24,6 +24,7 @@ pub mod AnyRank
 pub mod Indices
 pub mod Slides
 pub mod SlideCalls
+pub mod SlideOffsets
 pub mod Inside
 pub mod Logarithms
 pub mod Runs

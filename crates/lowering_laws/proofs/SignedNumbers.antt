@@ -51,7 +51,7 @@ length-filled [] (suc c) b = (let rest = length-filled [] c b in omega arith)
 length-filled (x ∷ v) c b = (let rest = length-filled v c b in omega arith)
 
 -- filling up with the top bit keeps the signed number
-snum-of : (v : List Bit4) (t : Bool) → is_one (top_bit v) ≡ t → snum v ≡ (if t then pos (num v) -ℤ pos (2 ^ length v) else pos (num v))
+pub snum-of : (v : List Bit4) (t : Bool) → is_one (top_bit v) ≡ t → snum v ≡ (if t then pos (num v) -ℤ pos (2 ^ length v) else pos (num v))
 snum-of v t e = ap (λ b. if b then pos (num v) -ℤ pos (2 ^ length v) else pos (num v)) e
 
 filled-number : (v : List Bit4) (c : ℕ) (b : Bit4) → is_one b ≡ true → num (v ++ replicate c b) + 2 ^ length v ≡ num v + 2 ^ (length v + c)
@@ -129,7 +129,7 @@ unknown-ext-signed w v h k =
     ap (λ x. known (x ++ replicate (w - length v) (top_bit v))) (take-whole w v h) ∙ unknown-filled v (replicate (w - length v) (top_bit v)) k
 
 -- the top bit is 1 where the number is in the upper half
-top-half : (w : ℕ) (v : List Bit4) → known v ≡ true → length v ≡ suc w → is_one (top_bit v) ≡ nat_le (2 ^ w) (num v)
+pub top-half : (w : ℕ) (v : List Bit4) → known v ≡ true → length v ≡ suc w → is_one (top_bit v) ≡ nat_le (2 ^ w) (num v)
 top-half w [] k h = absurd (omega arith)
 top-half zero (Zero ∷ []) k h = refl
 top-half zero (One ∷ []) k h = refl

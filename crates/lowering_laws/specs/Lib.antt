@@ -7,3 +7,4 @@ pub mod Reached
 pub mod NamedImages
 pub mod Agreeing
 pub mod Held
+pub mod Slid

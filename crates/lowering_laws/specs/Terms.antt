@@ -1,5 +1,5 @@
 -- The expressions of the target that place, guard and read a select path.
-use Rattle.std.specs.Prelude.{ℕ, ◌+◌, ◌-◌, true, ℤ, [], ◌∷◌, Option, Some, None}
+use Rattle.std.specs.Prelude.{ℕ, ◌+◌, ◌-◌, true, ℤ, pos, [], ◌∷◌, Option, Some, None}
 use Rattle.b4_core.specs.declared.operators.BinOp.TheVariants.{Add, Sub, Mul}
 use Rattle.b4_core.specs.declared.operators.OrdOp.TheVariants.{LessEqual, GreaterEqual}
 use Rattle.b4_core.specs.Vectors.{digits, vec}
@@ -31,6 +31,10 @@ above z w n = braced (binary Sub z (bound w n))
 
 abbrev pub under : Meaning → ℕ → ℤ → Meaning
 under z w n = braced (binary Sub (bound w n) z)
+
+-- so many items, of a difference that is read as a signed number
+abbrev pub scaled : Meaning → ℕ → ℕ → Meaning
+scaled r item w = binary Mul (signing true r) (bound w (pos item))
 
 -- two guards as one
 abbrev pub and_guard : Option Meaning → Option Meaning → Option Meaning
