@@ -68,7 +68,7 @@ module _ (i : Option ℤ) (m : T.Meaning) (w : ℕ) (sc : Scope) (v : Valuation)
   abbrev between : ℤ → ℤ → T.Meaning
   between low high = terms.between z w low high
 
-  between-is : (low high : ℤ) → snum (vec w low) ≡ low → snum (vec w high) ≡ high
+  pub between-is : (low high : ℤ) → snum (vec w low) ≡ low → snum (vec w high) ≡ high
       → is_one (T.truth (between low high) sc v) ≡ (known bits && (int_le low (snum bits) && int_le (snum bits) high))
   between-is low high l h =
       both-holds (T.order GreaterEqual z (bound w low)) (T.order LessEqual z (bound w high)) sc v
@@ -150,7 +150,7 @@ le-no (negsuc a) (pos b) h = absurd (cc)
 le-no (negsuc a) (negsuc b) h = (let n : a < b = grind (arith, nat_tests) in omega (arith, ints))
 
 -- how far an index lies above the lower of two bounds
-record IsOffset (low high z : ℤ) (q : ℕ) : Type 0 where
+pub record IsOffset (low high z : ℤ) (q : ℕ) : Type 0 where
   pub is : z ≡ pos q
   pub below : q < unsigned_abs (high -ℤ low) + 1
 
@@ -162,7 +162,7 @@ offset-by low high k (pos d) (pos q) e f h g =
 offset-by low high k (negsuc d) (pos q) e f h g = absurd (omega (arith, ints))
 offset-by low high k d (negsuc q) e f h g = absurd (omega (arith, ints))
 
-offset : (low high k : ℤ) → low ≤ℤ k → k ≤ℤ high → (q : ℕ) × IsOffset low high (k -ℤ low) q
+pub offset : (low high k : ℤ) → low ≤ℤ k → k ≤ℤ high → (q : ℕ) × IsOffset low high (k -ℤ low) q
 offset low high k h g = offset-by low high k (high -ℤ low) (k -ℤ low) refl refl h g
 
 -- an index outside two bounds has no offset
@@ -214,7 +214,7 @@ beyond-by low high k (negsuc d) (pos q) e f h (inl g) = (let far : suc d < q = o
     test : (x y : ℕ) → y < x → (int_le (pos 0) (pos x) && int_lt (pos x) (pos (y + 1))) ≡ false
     test x y less = grind (arith, nat_tests)
 
-vec-offset : (w q : ℕ) (z : ℤ) → z ≡ pos q → q < 2 ^ w → num (vec w z) ≡ q
+pub vec-offset : (w q : ℕ) (z : ℤ) → z ≡ pos q → q < 2 ^ w → num (vec w z) ≡ q
 vec-offset w q z is few = ap (λ x. num (vec w x)) is ∙ ap num (vec_pos w q) ∙ num-digits w q few
 
 -- Bounds and a number of elements that fit the width.

@@ -14,11 +14,11 @@ use Rattle.lowering_laws.proofs.Contexts.{alone-width, alone-value}
 use Rattle.lowering_laws.proofs.Extensions.{ext-at}
 use Rattle.lowering_laws.proofs.SignedNumbers.{snum-by-zero, known-zero-above}
 
-index-there : (i : S.Meaning) (a : Around) (s : Bool) → S.signed i ≡ s → known (S.alone i a) ≡ true → P.index_of i a ≡ Some (number s (S.alone i a))
+pub index-there : (i : S.Meaning) (a : Around) (s : Bool) → S.signed i ≡ s → known (S.alone i a) ≡ true → P.index_of i a ≡ Some (number s (S.alone i a))
 index-there i a s sign k =
     ap (λ b. cond b (Some (number (S.signed i) (S.alone i a))) None) k ∙ ap (λ t. Some (number t (S.alone i a))) sign
 
-index-lost : (i : S.Meaning) (a : Around) → known (S.alone i a) ≡ false → P.index_of i a ≡ None
+pub index-lost : (i : S.Meaning) (a : Around) → known (S.alone i a) ≡ false → P.index_of i a ≡ None
 index-lost i a k = ap (λ b. cond b (Some (number (S.signed i) (S.alone i a))) None) k
 
 module _ (i : S.Meaning) (a : Around) (y : T.Meaning) (w : ℕ) (sc : Scope) (v : Valuation)

@@ -25,6 +25,7 @@ pub mod Indices
 pub mod Slides
 pub mod SlideCalls
 pub mod SlideOffsets
+pub mod Words
 pub mod Inside
 pub mod Logarithms
 pub mod Runs

@@ -8,3 +8,4 @@ pub mod NamedImages
 pub mod Agreeing
 pub mod Held
 pub mod Slid
+pub mod Words
