@@ -1,5 +1,5 @@
 -- The rank of any index of any array, by signed numbers.
-use Rattle.std.proofs.Common.{◌≡◌, ◌⊎◌, inl, inr, ℕ, zero, suc, ◌+◌, ◌<◌, ◌≤◌, ◌^◌, max, Bool, true, false, ◌&&◌, cond, if◌then◌else◌, ℤ, pos, negsuc, ◌-ℤ◌, ◌≤ℤ◌, ◌<ℤ◌, length, List, [], ◌∷◌, Option, Some, None, refl, arith, sym, ◌∙◌, subst, ap, true≢false}
+use Rattle.std.proofs.Common.{◌≡◌, ◌⊎◌, inl, inr, ℕ, zero, suc, ◌+◌, ◌<◌, ◌≤◌, ◌^◌, max, Bool, true, false, ◌&&◌, cond, if◌then◌else◌, ℤ, pos, negsuc, ◌-ℤ◌, ◌≤ℤ◌, ◌<ℤ◌, length, List, [], ◌∷◌, Option, Some, refl, arith, sym, ◌∙◌, subst, ap, true≢false}
 use Rattle.std.specs.Prelude.{int_le, int_lt, unsigned_abs}
 use Rattle.std.proofs.lemmas.Int.{ints}
 use Rattle.std.proofs.lemmas.Bool.Decides.{nat_tests}
@@ -19,6 +19,7 @@ use Rattle.sv_types.specs.Windows.{rank, falls}
 use Rattle.sv_types.proofs.OperatorLengths.{length-ext}
 use Rattle.v_meaning.specs.Scopes.{Scope}
 use Rattle.v_meaning.specs.Values as T
+pub use Rattle.lowering_laws.specs.Signed.{IsIndex}
 use Rattle.lowering_laws.specs.Terms.{bound}
 use Rattle.lowering_laws.specs.Terms as terms
 use Rattle.lowering_laws.specs.Placed.{HasRank, NoRank, IsRank, unknown as no_index, outside}
@@ -26,13 +27,6 @@ use Rattle.lowering_laws.proofs.Extensions.{ext-at}
 use Rattle.lowering_laws.proofs.Numbers.{num-digits}
 use Rattle.lowering_laws.proofs.Offsets.{truth-one, and-cases, and-false, both-holds, unknown-bits}
 use Rattle.lowering_laws.proofs.SignedNumbers.{snum-ext, known-ext-signed, unknown-ext-signed, FitsSigned, literal-signed, known-vec, length-vec}
-
--- An index as a signed number: what has its bits, and where they are known its number.
-pub record IsIndex (i : Option ℤ) (m : T.Meaning) (w : ℕ) (sc : Scope) (v : Valuation) : Type 0 where
-  pub width : m.width sc ≤ w
-  pub long : length (T.alone m sc v) ≤ w
-  pub there : known (T.alone m sc v) ≡ true → i ≡ Some (snum (T.alone m sc v))
-  pub lost : known (T.alone m sc v) ≡ false → i ≡ None
 
 module _ (i : Option ℤ) (m : T.Meaning) (w : ℕ) (sc : Scope) (v : Valuation) (index : IsIndex i m w sc v) where
   abbrev bits : List Bit4

@@ -26,6 +26,7 @@ pub mod Slides
 pub mod SlideCalls
 pub mod SlideOffsets
 pub mod Words
+pub mod Wholes
 pub mod Inside
 pub mod Logarithms
 pub mod Runs

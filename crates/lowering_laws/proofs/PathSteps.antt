@@ -12,6 +12,7 @@ use Rattle.sv_types.specs.Paths as P
 use Rattle.sv_types.proofs.Picks.{picked-part, nothing-there}
 use Rattle.lowering_laws.specs.Images.{Names, NamesNone}
 use Rattle.lowering_laws.specs.Placed.{HasRank, NoRank, unknown, outside}
+pub use Rattle.lowering_laws.specs.Steps.{IsElement}
 
 -- a whole signal or local
 pub signal-names : (of : Layout) (at n : ℕ) (a : Around) → Names (P.signal of at n) a 0 (length of.two_state)
@@ -56,12 +57,6 @@ rows-fit q n w all h is =
     let step : suc q * w ≡ q * w + w = grind arith in
     let most = mul-le (suc q) w n w (omega arith) (omega arith) in
     omega arith
-
--- A step by an index, known or not, of which the number is z.
-pub record IsElement (e from : S.Meaning) (a : Around) (z : Option ℤ) : Type 0 where
-  pub window : e.window a ≡ element_of from.of z (from.window a)
-  pub wide : S.wide e ≡ length from.of.element.two_state
-  pub all : count_of from.of.left from.of.right * length from.of.element.two_state ≡ S.wide from
 
 pub index-is-element : (of : Layout) (at : ℕ) (from i : S.Meaning) (a : Around) → length of.two_state ≡ length from.of.element.two_state
     → count_of from.of.left from.of.right * length from.of.element.two_state ≡ S.wide from → IsElement (P.index of at from i) from a (P.index_of i a)

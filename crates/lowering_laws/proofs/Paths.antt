@@ -17,12 +17,9 @@ use Rattle.v_meaning.specs.Selects.{SelMeaning, select, taken, lowest, bits_name
 use Rattle.v_meaning.specs.Values as T
 use Rattle.v_meaning.specs.Values.{decimal_base, expression_base}
 use Rattle.lowering_laws.specs.Images.{IsImage, raw}
+pub use Rattle.lowering_laws.specs.Steps.{IsPath, AllFour}
 use Rattle.lowering_laws.proofs.Extensions.{ext-at}
 use Rattle.lowering_laws.proofs.Constants.{IsItself}
-
--- A path: its value is what it reads, as its type stores it.
-pub record IsPath (e : S.Meaning) (a : Around) : Type 0 where
-  pub value : (w : ℕ) (s : Bool) → e.value w s a ≡ ext w s (stored e.of.two_state (raw e a))
 
 pub selected-is-path : (of : Layout) (at : ℕ) (p : Path) (a : Around) → IsPath (S.selected of at p) a
 selected-is-path of at p a = record { value = λ w s. refl }
@@ -37,10 +34,6 @@ pub path-itself : (e : S.Meaning) (a : Around) → IsPath e a → IsItself e a
 path-itself e a p w s = p.value w s ∙ sym (ap (ext w s) (path-alone e a p))
 
 -- the types of four-state bits store what they are given
-abbrev pub AllFour : List Bool → Type 0
-AllFour [] = Unit {0}
-AllFour (b ∷ bs) = (b ≡ false) × AllFour bs
-
 pub stored-four-bits : (bs : List Bool) (v : List Bit4) → AllFour bs → length v ≡ length bs → stored bs v ≡ v
 stored-four-bits [] [] h long = refl
 stored-four-bits [] (x ∷ v) h long = absurd (omega arith)

@@ -17,6 +17,7 @@ use Rattle.v_meaning.specs.Scopes.{Scope}
 use Rattle.v_meaning.specs.Values as T
 use Rattle.lowering_laws.specs.Images.{Names, NamesNone}
 use Rattle.lowering_laws.specs.Placed.{holds, IsPlaced, IsSure}
+pub use Rattle.lowering_laws.specs.Steps.{IsPart}
 use Rattle.lowering_laws.proofs.Extensions.{ext-at}
 use Rattle.lowering_laws.proofs.Numbers.{HasNumber, literal-number, sum-number, number-alone, known-digits, num-digits, length-digits}
 use Rattle.lowering_laws.proofs.Offsets.{arithmetic-known, and-true}
@@ -57,11 +58,6 @@ pub local-placed : (of : Layout) (at n w : ℕ) (a : Around) (sc : Scope) (v : V
     → IsPlaced (P.local of at n) a None (T.literal (digits w 0)) w (length of.two_state) sc v
 unfolding P.local
 local-placed of at n w a sc v small = literal-placed (P.local of at n) a 0 w (length of.two_state) sc v (local-names of at n a) (omega arith) small
-
--- A step to so many bits from a known bit on: a member, or a part-select in range.
-pub record IsPart (e from : S.Meaning) (a : Around) (below : ℕ) : Type 0 where
-  pub window : e.window a ≡ part (pos below) (S.wide e) (from.window a)
-  pub within : below + S.wide e ≤ S.wide from
 
 part-none : (e from : S.Meaning) (a : Around) (below : ℕ) → IsPart e from a below → NamesNone from a → NamesNone e a
 part-none e from a below is none j h =

@@ -19,17 +19,13 @@ use Rattle.sv_types.specs.Paths as P
 use Rattle.v_meaning.specs.Scopes.{Scope}
 use Rattle.v_meaning.specs.Values as T
 use Rattle.lowering_laws.specs.Same.{SameAlone}
+pub use Rattle.lowering_laws.specs.Steps.{CountsDown}
 use Rattle.lowering_laws.specs.Placed.{HasRank, NoRank, unknown, outside, IsRank}
 use Rattle.lowering_laws.specs.Terms.{braced, at_most}
 use Rattle.lowering_laws.proofs.Contexts.{alone-width, alone-value}
 use Rattle.lowering_laws.proofs.Extensions.{ext-at}
 use Rattle.lowering_laws.proofs.Numbers.{num-ext, known-ext, num-digits, known-digits, length-digits}
 use Rattle.lowering_laws.proofs.Offsets.{truth-one, and-cases, and-false}
-
--- an array `[last:0]`
-pub record CountsDown (of : Layout) (last : ℕ) : Type 0 where
-  pub left_is : of.left ≡ pos last
-  pub right_is : of.right ≡ pos 0
 
 count-down : (of : Layout) (last : ℕ) → CountsDown of last → count_of of.left of.right ≡ last + 1
 count-down of last h = (λ i. count_of (h.left_is i) (h.right_is i)) ∙ down last

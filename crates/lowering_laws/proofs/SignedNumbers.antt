@@ -1,5 +1,5 @@
 -- Signed numbers of vectors: extended, and of literals.
-use Rattle.std.proofs.Common.{◌≡◌, ℕ, zero, suc, ◌+◌, ◌-◌, ◌*◌, ◌^◌, ◌<◌, ◌≤◌, ℤ, pos, negsuc, ◌-ℤ◌, ◌≤ℤ◌, ◌<ℤ◌, neg_ℤ, Bool, true, false, if◌then◌else◌, length, replicate, List, [], ◌∷◌, ◌++◌, refl, arith, sym, ◌∙◌, ap, append-nil, true≢false}
+use Rattle.std.proofs.Common.{◌≡◌, ℕ, zero, suc, ◌+◌, ◌-◌, ◌*◌, ◌^◌, ◌<◌, ◌≤◌, ℤ, pos, negsuc, ◌-ℤ◌, Bool, true, false, if◌then◌else◌, length, replicate, List, [], ◌∷◌, ◌++◌, refl, arith, sym, ◌∙◌, ap, append-nil, true≢false}
 use Rattle.std.specs.Prelude.{nat_le, slice_index_or}
 use Rattle.std.proofs.Math.Nat.{pow-suc, mul_assoc, mul-add}
 use Rattle.std.proofs.lemmas.Int.{ints}
@@ -10,6 +10,7 @@ use Rattle.b4_core.specs.declared.bit.Bit4.TheVariants.{Zero, One, X, Z}
 use Rattle.b4_core.specs.Bits.{is_one}
 use Rattle.b4_core.specs.Vectors.{known, num, snum, digits, vec, ext, top_bit}
 use Rattle.b4_core.proofs.TwosComplement.{vec_is, vec_pos}
+pub use Rattle.lowering_laws.specs.Signed.{FitsSigned}
 use Rattle.lowering_laws.proofs.Extensions.{take-whole}
 use Rattle.lowering_laws.proofs.Numbers.{num-digits, known-digits, length-digits}
 
@@ -145,11 +146,6 @@ top-half (suc w) (One ∷ y ∷ v) k h = ap is_one (top-behind One y v) ∙ top-
   where
     halves : (n k d : ℕ) → d ≤ 1 → nat_le (2 ^ k) n ≡ nat_le (2 ^ suc k) (d + 2 * n)
     halves n k d h = (let power = pow-suc 2 k in grind (arith, nat_tests))
-
--- a number that fits so many bits as a signed one
-pub record FitsSigned (w : ℕ) (n : ℤ) : Type 0 where
-  pub above : neg_ℤ (pos (2 ^ w)) ≤ℤ n
-  pub below : n <ℤ pos (2 ^ w)
 
 literal-low : (w m : ℕ) → m < 2 ^ w → snum (digits (suc w) m) ≡ pos m
 literal-low w m h =

@@ -9,3 +9,5 @@ pub mod Agreeing
 pub mod Held
 pub mod Slid
 pub mod Words
+pub mod Steps
+pub mod Signed
