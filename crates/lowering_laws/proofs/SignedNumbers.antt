@@ -1,5 +1,5 @@
 -- Signed numbers of vectors: extended, and of literals.
-use Rattle.std.proofs.Common.{◌≡◌, ℕ, zero, suc, ◌+◌, ◌-◌, ◌*◌, ◌^◌, ◌<◌, ◌≤◌, ℤ, pos, negsuc, ◌-ℤ◌, ◌≤ℤ◌, ◌<ℤ◌, neg_ℤ, Bool, true, false, if◌then◌else◌, length, replicate, List, [], ◌∷◌, ◌++◌, refl, arith, sym, ◌∙◌, ap, append-nil, true≢false}
+use Rattle.std.proofs.Common.{◌≡◌, ℕ, zero, suc, ◌+◌, ◌-◌, ◌*◌, ◌^◌, ◌<◌, ◌≤◌, ℤ, pos, negsuc, ◌-ℤ◌, Bool, true, false, if◌then◌else◌, length, replicate, List, [], ◌∷◌, ◌++◌, refl, arith, sym, ◌∙◌, ap, append-nil, true≢false}
 use Rattle.std.specs.Prelude.{nat_le, slice_index_or}
 use Rattle.std.proofs.Math.Nat.{pow-suc, mul_assoc, mul-add}
 use Rattle.std.proofs.lemmas.Int.{ints}

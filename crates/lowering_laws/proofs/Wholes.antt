@@ -1,13 +1,12 @@
 -- Members and elements lie within what they are parts of, and typed steps of a select path have the widths of their parts.
-use Rattle.std.proofs.Common.{◌≡◌, ℕ, zero, suc, ◌+◌, ◌*◌, ◌<◌, ◌≤◌, Bool, true, false, ◌&&◌, cond, ℤ, pos, ◌-ℤ◌, length, map, List, [], ◌∷◌, Option, Some, None, refl, arith, length-append, sym, ◌∙◌, subst, ap, true≢false}
+use Rattle.std.proofs.Common.{◌≡◌, ℕ, zero, suc, ◌+◌, ◌*◌, ◌≤◌, Bool, true, false, ◌&&◌, cond, ℤ, pos, ◌-ℤ◌, length, map, List, [], ◌∷◌, Option, Some, None, refl, arith, length-append, sym, ◌∙◌, subst, ap, true≢false}
 use Rattle.std.specs.Prelude.{slice_get, nat_lt, unsigned_abs}
 use Rattle.std.specs.List.{list_all}
 use Rattle.std.proofs.lemmas.Int.{ints}
 use Rattle.std.proofs.lemmas.Bool.Decides.{nat_tests}
-use Rattle.sv_types.specs.declared.types.SvType.{SvType, SvType-F}
-use Rattle.sv_types.specs.declared.types.SvType.TheVariants as V
+use Rattle.sv_types.specs.declared.types.SvType.{SvType}
 use Rattle.sv_types.specs.declared.types.Member.{Member}
-use Rattle.sv_types.specs.Layouts.{Layout, Part, layout, member_layout, width_of, count_of, type_step, array_layout, with_bits, stacked_marks, above_the_next, at_the_bottom, widest_marks, union_marks, struct_marks}
+use Rattle.sv_types.specs.Layouts.{Layout, Part, layout, member_layout, width_of, count_of, array_layout, with_bits, stacked_marks, above_the_next, at_the_bottom, widest_marks, union_marks, struct_marks}
 use Rattle.sv_types.specs.Meanings as S
 use Rattle.sv_types.specs.Meanings.{same_sign, without_bits}
 use Rattle.sv_types.specs.Paths as P

@@ -51,7 +51,8 @@ pub fn number(alloc: Global, width: u32, n: u32) -> Result<VExpr, AllocError>
     ensures { IfOk result (λ e. meaning e ≡ number_of_bits width n) }
 {
     let bits = digit_bits(alloc, width, u128::from(n))?;
-    Ok(literal(bits))
+    let made = literal(bits);
+    Ok(made)
 }
 
 /// A signed number of so many bits, at most 128.

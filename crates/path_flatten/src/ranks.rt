@@ -1,18 +1,18 @@
 //! How many elements of an array lie below the one with an index, and where the index is in range (IEEE 1800-2017 clause 7.4.5).
 
-ghost use Rattle.std.specs.Prelude.{◌≡◌, ◌≤◌, true, [], ◌∷◌, Some, None, IfOk};
-ghost use Rattle.b4_core.specs.declared.bit.Bit4.TheVariants.{Zero};
+ghost use Rattle.std.specs.Prelude.{◌≡◌, ◌≤◌, true, Some, None, IfOk};
 ghost use Rattle.v_meaning.specs.Values as means;
 ghost use Rattle.v_meaning.specs.Values.{meaning};
 ghost use Rattle.lowering_laws.specs.Terms as terms;
 ghost use Rattle.path_flatten.specs.Guards.{guard_meaning};
+ghost use Rattle.path_flatten.specs.Placing.{RanksFree, RanksGuarded, RanksSigned};
 
 use crate::copies::copy_expr;
 use crate::numbers::{bound, number};
-use b4_core::{BinOp, Bit4, OrdOp, Vec4};
+use b4_core::{BinOp, OrdOp};
 use std::alloc::{AllocError, Global};
 use sv_source::Items;
-use v_build::{binary, both, concatenation, literal, order, signing};
+use v_build::{binary, both, concatenation, order, signing};
 use v_tree::{VExpr, VExprs};
 
 /// The rank of an index, which is the number of elements below the one that it names, where the guard is 1. Where the guard
@@ -43,19 +43,14 @@ fn signed_copy(alloc: Global, index: &VExpr) -> Result<VExpr, AllocError>
     Ok(made)
 }
 
-/// An unsigned index with a 0 above it, which has its number also as a signed one.
-pub fn widened(alloc: Global, index: &VExpr) -> Result<VExpr, AllocError>
-    ensures { IfOk result (λ e. meaning e ≡ means.concatenation (means.literal (Zero ∷ []) ∷ meaning index.now ∷ [])) }
-{
-    let mut items: VExprs = Items::from_vec(Vec::new(alloc));
-    let zero = Vec4::from_slice(alloc, &[Bit4::Zero])?;
-    items.push(literal(zero))?;
-    items.push(copy_expr(alloc, index)?)?;
-    Ok(concatenation(items))
-}
-
 /// A comparison of a signed index with a bound.
-fn compared(alloc: Global, op: OrdOp, index: &VExpr, width: u32, n: i64) -> Result<VExpr, AllocError>
+fn compared(
+    alloc: Global,
+    op: OrdOp,
+    index: &VExpr,
+    width: u32,
+    n: i64,
+) -> Result<VExpr, AllocError>
     requires { width ≤ 128 }
     ensures { IfOk result (λ e. meaning e ≡ means.order op (means.signing true (meaning index.now)) (terms.bound width n)) }
 {
@@ -66,7 +61,13 @@ fn compared(alloc: Global, op: OrdOp, index: &VExpr, width: u32, n: i64) -> Resu
 }
 
 /// The condition that a signed index lies between two bounds, both included.
-fn between(alloc: Global, index: &VExpr, width: u32, low: i64, high: i64) -> Result<VExpr, AllocError>
+fn between(
+    alloc: Global,
+    index: &VExpr,
+    width: u32,
+    low: i64,
+    high: i64,
+) -> Result<VExpr, AllocError>
     requires { width ≤ 128 }
     ensures { IfOk result (λ e. meaning e ≡ terms.between (means.signing true (meaning index.now)) width low high) }
 {
@@ -87,24 +88,31 @@ fn above(alloc: Global, index: &VExpr, width: u32, n: i64) -> Result<VExpr, Allo
     braced(alloc, difference)
 }
 
-/// How far a signed index lies under a bound.
-fn under(alloc: Global, index: &VExpr, width: u32, n: i64) -> Result<VExpr, AllocError>
-    requires { width ≤ 128 }
-    ensures { IfOk result (λ e. meaning e ≡ terms.under (means.signing true (meaning index.now)) width n) }
+/// An index in braces.
+fn braced_copy(alloc: Global, index: &VExpr) -> Result<VExpr, AllocError>
+    ensures { IfOk result (λ b. meaning b ≡ terms.braced (meaning index.now)) }
 {
-    let right = signed_copy(alloc, index)?;
-    let left = bound(alloc, width, n)?;
-    let difference = binary(alloc, BinOp::Sub, left, right)?;
-    braced(alloc, difference)
+    let copy = copy_expr(alloc, index)?;
+    braced(alloc, copy)
+}
+
+/// The condition that an unsigned index of so many bits isn't behind the last one.
+fn at_most(alloc: Global, index: &VExpr, width: u32, last: u32) -> Result<VExpr, AllocError>
+    ensures { IfOk result (λ e. meaning e ≡ terms.at_most (meaning index.now) width last) }
+{
+    let copy = copy_expr(alloc, index)?;
+    let limit = number(alloc, width, last)?;
+    let made = order(alloc, OrdOp::LessEqual, copy, limit)?;
+    Ok(made)
 }
 
 /// The rank of an unsigned index that has too few bits to pass the last element of an array `[last:0]`.
 pub fn free_rank(alloc: Global, index: &VExpr) -> Result<Rank, AllocError>
     ensures guard { IfOk result (λ r. guard_meaning r.guard ≡ None) }
     ensures rank { IfOk result (λ r. meaning r.rank ≡ terms.braced (meaning index.now)) }
+    ensures ranked { IfOk result (RanksFree (meaning index.now)) }
 {
-    let copy = copy_expr(alloc, index)?;
-    let rank = braced(alloc, copy)?;
+    let rank = braced_copy(alloc, index)?;
     Ok(Rank { guard: None, rank })
 }
 
@@ -112,14 +120,13 @@ pub fn free_rank(alloc: Global, index: &VExpr) -> Result<Rank, AllocError>
 pub fn guarded_rank(alloc: Global, index: &VExpr, width: u32, last: u32) -> Result<Rank, AllocError>
     ensures guard { IfOk result (λ r. guard_meaning r.guard ≡ Some (terms.at_most (meaning index.now) width last)) }
     ensures rank { IfOk result (λ r. meaning r.rank ≡ terms.braced (meaning index.now)) }
+    ensures ranked { IfOk result (RanksGuarded (meaning index.now) width last) }
 {
-    let copy = copy_expr(alloc, index)?;
-    let limit = number(alloc, width, last)?;
-    let guard = order(alloc, OrdOp::LessEqual, copy, limit)?;
-    let rank = free_rank(alloc, index)?;
+    let guard = at_most(alloc, index, width, last)?;
+    let rank = braced_copy(alloc, index)?;
     Ok(Rank {
         guard: Some(guard),
-        rank: rank.rank,
+        rank,
     })
 }
 
@@ -134,29 +141,10 @@ pub fn falling_rank(
     requires { width ≤ 128 }
     ensures guard { IfOk result (λ r. guard_meaning r.guard ≡ Some (terms.between (means.signing true (meaning index.now)) width right left)) }
     ensures rank { IfOk result (λ r. meaning r.rank ≡ terms.above (means.signing true (meaning index.now)) width right) }
+    ensures ranked { IfOk result (RanksSigned (meaning index.now) width left right true) }
 {
     let guard = between(alloc, index, width, right, left)?;
     let rank = above(alloc, index, width, right)?;
-    Ok(Rank {
-        guard: Some(guard),
-        rank,
-    })
-}
-
-/// The rank of a signed index of an array whose bounds rise, by numbers of so many bits.
-pub fn rising_rank(
-    alloc: Global,
-    index: &VExpr,
-    width: u32,
-    left: i64,
-    right: i64,
-) -> Result<Rank, AllocError>
-    requires { width ≤ 128 }
-    ensures guard { IfOk result (λ r. guard_meaning r.guard ≡ Some (terms.between (means.signing true (meaning index.now)) width left right)) }
-    ensures rank { IfOk result (λ r. meaning r.rank ≡ terms.under (means.signing true (meaning index.now)) width right) }
-{
-    let guard = between(alloc, index, width, left, right)?;
-    let rank = under(alloc, index, width, right)?;
     Ok(Rank {
         guard: Some(guard),
         rank,
