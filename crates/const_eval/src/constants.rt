@@ -105,8 +105,9 @@ fn fail_of(halt: Halt, at: u32) -> EvalFail
     }
 }
 
-/// The value of an expression, where there are no functions (IEEE 1800-2017 clause 11). `NotConstant` exactly where it reads a
-/// signal that isn't held, at the first such read; `Memory` where memory runs out.
+/// The value of an expression, where there are no functions (IEEE 1800-2017 clause 11): it is for expressions without calls, since
+/// a call is valued as one of no function, which gives no bits. `NotConstant` exactly where it reads a signal that isn't held, at
+/// the first such read; `Memory` where memory runs out.
 pub fn value(alloc: Global, e: &Expr, env: &Env) -> Result<Value, EvalFail>
     requires { FitsAlone (meaning e.now) no_formals }
     ensures { ValueIs result e.now env.now }
