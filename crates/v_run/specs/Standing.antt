@@ -8,6 +8,6 @@ use Rattle.v_run.specs.declared.state.State.{State}
 
 -- a run over a valuation that has come to a state
 pub record Stands (v : Valuation) (s : R.State) (st : State) : Type 0 where
-  pub now : holding st.signals.items st.locals.items ≡ put s.written v
+  pub now : holding st.signals.now st.over.items st.locals.items ≡ put s.written v
   pub written : changes_of st.written ≡ s.written
   pub pending : changes_of st.pending ≡ s.pending

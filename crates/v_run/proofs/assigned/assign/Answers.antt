@@ -13,10 +13,10 @@ pub returns : goal.returns
 returns c = λ v s st.
     let old = c.args.state.now in
     let ps = c.args.pieces in
-    let held = c.in_ok-write_all.ensures ∙ ap (λ x. put (changes_of x) (holding old.signals.items old.locals.items)) c.as_slice.ensures in
+    let held = c.in_ok-write_all.ensures ∙ ap (λ x. put (changes_of x) (holding old.signals.now old.over.items old.locals.items)) c.as_slice.ensures in
     on-ok
     (λ is. subst
-    (λ b. Stands v (assign_as b (changes_of ps) s) (record { signals = c.write_all.new.signals; locals = c.write_all.new.locals; written = c.append-2.new.self; pending = old.pending }))
+    (λ b. Stands v (assign_as b (changes_of ps) s) (record { signals = old.signals; over = c.write_all.new.over; locals = c.write_all.new.locals; written = c.append-2.new.self; pending = old.pending }))
     (sym c.if-later.false)
     (record {
       now = held ∙ ap (put (changes_of ps)) st.now ∙ sym (put-then s.written (changes_of ps) v);
