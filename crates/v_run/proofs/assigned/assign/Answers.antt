@@ -4,9 +4,9 @@ use Rattle.row_machine.specs.Steps.{then_changes}
 use Rattle.v_meaning.specs.Runs.{assign_as}
 use Rattle.eval_store.proofs.Storing.{on-ok}
 use Rattle.v_eval.specs.Holding.{holding}
-use Rattle.v_run.specs.Changes.{changes_of}
+use Rattle.v_run.specs.Changes.{changes_of, AllNear}
 use Rattle.v_run.specs.Standing.{Stands}
-use Rattle.v_run.proofs.Changed.{put-then, changes-both}
+use Rattle.v_run.proofs.Changed.{put-then, changes-both, near-both}
 use Rattle.v_run.proofs.assigned.assign.Goals as goal
 
 pub returns : goal.returns
@@ -22,5 +22,7 @@ returns c = λ v s st.
       now = held ∙ ap (put (changes_of ps)) st.now ∙ sym (put-then s.written (changes_of ps) v);
       written = ap changes_of is ∙ changes-both old.written ps ∙ ap (λ x. then_changes x (changes_of ps)) st.written;
       pending = st.pending;
+      near_written = subst AllNear (sym is) (near-both old.written ps st.near_written c.requires);
+      near_pending = st.near_pending;
     }))
     c.append-2.result c.append-2.ensures
