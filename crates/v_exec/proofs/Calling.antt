@@ -1,7 +1,6 @@
 -- Functions that are called.
-use Rattle.std.proofs.Common.{◌≡◌, ℕ, zero, suc, ◌+◌, ◌≤◌, List, [], ◌∷◌, ◌++◌, length, map, Option, Some, None, refl, arith, ap, sym, ◌∙◌, subst}
+use Rattle.std.proofs.Common.{◌≡◌, ℕ, zero, suc, ◌≤◌, List, [], ◌∷◌, ◌++◌, length, map, Option, Some, arith, ap, sym, ◌∙◌, subst}
 use Rattle.std.proofs.lemmas.List.{length-map}
-use Rattle.std.specs.Prelude.{slice_get}
 use Rattle.v_tree.specs.Names.{Name}
 use Rattle.v_tree.specs.declared.items.VFunction.{VFunction}
 use Rattle.v_tree.specs.declared.items.VItem.{VItem}
@@ -9,7 +8,7 @@ use Rattle.v_tree.specs.declared.items.VItem.TheVariants as I
 use Rattle.v_meaning.specs.Scopes as S
 use Rattle.v_meaning.specs.Functions.{locals_of, scope_in}
 use Rattle.v_eval.specs.declared.modules.Local.{Local}
-use Rattle.v_eval.specs.Functions.{function_in, function_at}
+use Rattle.v_eval.specs.Functions.{function_at}
 use Rattle.v_eval.specs.Names.{local_named}
 use Rattle.b4_core.specs.declared.bit.Bit4.{Bit4}
 use Rattle.row_machine.specs.Valuation.{Valuation}

@@ -1,8 +1,6 @@
 -- Selectors and items of a `case`.
-use Rattle.std.proofs.Common.{◌≡◌, ℕ, zero, suc, ◌+◌, ◌<◌, ◌≤◌, max, Bool, true, false, ◌&&◌, List, [], ◌∷◌, ◌++◌, length, map, drop, get_or, Option, Some, None, refl, arith, ap, sym, ◌∙◌, subst}
-use Rattle.std.specs.Prelude.{IfSome}
+use Rattle.std.proofs.Common.{◌≡◌, ℕ, zero, suc, ◌+◌, ◌<◌, ◌≤◌, max, Bool, true, false, ◌&&◌, List, [], ◌∷◌, ◌++◌, length, map, drop, get_or, Option, Some, None, refl, arith, ap, sym, ◌∙◌}
 use Rattle.std.specs.List.{list_any}
-use Rattle.std.proofs.Math.Path.{fun_ext}
 use Rattle.std.proofs.Math.ListN.{drop_of_length-le}
 use Rattle.std.proofs.lemmas.List.{length-map}
 use Rattle.b4_core.specs.declared.bit.Bit4.{Bit4}
@@ -18,8 +16,7 @@ use Rattle.v_eval.specs.declared.operators.Context.{Context}
 use Rattle.v_eval.specs.Limits.{Limits}
 use Rattle.v_eval.specs.Scopes.{own}
 use Rattle.v_eval.proofs.Loops.{at-front}
-use Rattle.v_exec.specs.declared.selectors.Selector.{Selector}
-use Rattle.v_exec.specs.Choices.{item_of, values_of, widened, selector_of, run_at, is_default_item, IsDefault, Chooses, ChoosesIn}
+use Rattle.v_exec.specs.Choices.{item_of, values_of, widened, is_default_item, IsDefault, Chooses, ChoosesIn}
 use Rattle.v_exec.specs.Limits.{ItemLimits, widest_of, values_in, most_at}
 
 -- widths and signs

@@ -1,7 +1,6 @@
 -- What folds make of each form of a statement.
-use Rattle.std.proofs.Common.{◌≡◌, ℕ, ◌≤◌, max, Bool, List, [], ◌∷◌, ◌++◌, map, Option, Some, None, refl, arith, ap, sym, ◌∙◌, subst}
+use Rattle.std.proofs.Common.{◌≡◌, Bool, List, map, Option, Some, None, ap, sym, ◌∙◌}
 use Rattle.v_tree.specs.declared.expressions.VExpr.{VExpr}
-use Rattle.v_tree.specs.declared.items.VLocal.{VLocal}
 use Rattle.v_tree.specs.declared.statements.VBranch.{VBranch, VBranch-F, fold-VBranch, fold-roll-VBranch}
 use Rattle.v_tree.specs.declared.statements.VBranch.TheVariants as G
 use Rattle.v_tree.specs.declared.statements.VCaseItem.{VCaseItem, VCaseItem-F, fold-VCaseItem, fold-roll-VCaseItem}

@@ -4,3 +4,4 @@ pub mod Choosing
 pub mod Forms
 pub mod Running
 pub mod Calling
+pub mod Staying

@@ -1,6 +1,6 @@
 -- Runs of statements, form by form.
-use Rattle.std.proofs.Common.{◌≡◌, ℕ, zero, suc, ◌+◌, ◌<◌, ◌≤◌, max, Bool, true, false, List, [], ◌∷◌, ◌++◌, append_assoc, length, map, drop, get_or, Option, Some, None, refl, arith, ap, sym, ◌∙◌, subst}
-use Rattle.std.specs.Prelude.{take, Result, Ok, Err, OnOk, IfOk}
+use Rattle.std.proofs.Common.{◌≡◌, ℕ, zero, suc, ◌+◌, ◌<◌, ◌≤◌, Bool, true, false, List, [], ◌∷◌, ◌++◌, append_assoc, length, map, get_or, Option, Some, None, refl, arith, ap, sym, ◌∙◌, subst}
+use Rattle.std.specs.Prelude.{take, Result, Ok, Err, IfOk}
 use Rattle.std.proofs.lemmas.List.{length-map}
 use Rattle.row_machine.specs.Valuation.{Valuation}
 use Rattle.v_tree.specs.declared.expressions.VExpr.{VExpr}
@@ -8,7 +8,6 @@ use Rattle.v_tree.specs.declared.items.VLocal.{VLocal}
 use Rattle.v_tree.specs.declared.statements.VBranch.{VBranch}
 use Rattle.v_tree.specs.declared.statements.VBranch.TheVariants as G
 use Rattle.v_tree.specs.declared.statements.VCaseItem.{VCaseItem}
-use Rattle.v_tree.specs.declared.statements.VCaseItem.TheVariants as C
 use Rattle.v_tree.specs.declared.statements.VCaseKind.{VCaseKind}
 use Rattle.v_tree.specs.declared.statements.VLabel.{VLabel}
 use Rattle.v_tree.specs.declared.statements.VLval.{VLval}
@@ -18,16 +17,13 @@ use Rattle.v_meaning.specs.Scopes as S
 use Rattle.v_meaning.specs.Values.{Meaning, meaning}
 use Rattle.v_meaning.specs.Runs as R
 use Rattle.v_meaning.specs.Runs.{Run, State, current, one_of, is_true, assign_as, assign_now, cleared}
-use Rattle.v_meaning.specs.Statements.{Doing, Item, nothing, or_nothing, target, changes_of, assignment, sequence, conditional, cases, inside, block_with, declared, locals_of, branch_step, item_step, stmt_step, doing, doing_of}
-use Rattle.v_eval.specs.Limits.{limits, most_alone, most_given}
-use Rattle.v_run.specs.Limits.{target_most}
+use Rattle.v_meaning.specs.Statements.{Doing, nothing, target, changes_of, assignment, sequence, conditional, cases, inside, block_with, declared, locals_of, branch_step, item_step, stmt_step, doing, doing_of}
 use Rattle.v_tree.specs.Names.{Name}
 use Rattle.v_eval.specs.declared.modules.Local.{Local}
 use Rattle.v_eval.specs.Names.{local_named}
 use Rattle.v_run.proofs.Changed.{none-first}
-use Rattle.v_run.specs.Standing.{Stands}
 use Rattle.v_exec.specs.Choices.{item_of, run_at, ChoosesIn}
-use Rattle.v_exec.specs.Limits.{ItemLimits, branch_limits, item_limits, stmt_limits, stmt_most, branch_most, limits_of_item, values_in, bodies_in, most_compared, most_in_turn, or_zero}
+use Rattle.v_exec.specs.Limits.{limits_of_item, bodies_in, most_in_turn}
 use Rattle.v_exec.proofs.Forms as F
 
 -- blocks

@@ -1,5 +1,5 @@
 -- What items of a `case` match, and which one runs.
-use Rattle.std.specs.Prelude.{◌≡◌, ℕ, ◌<◌, max, Bool, true, false, ◌&&◌, List, [], ◌∷◌, length, map, Option, Some, None, IfSome, slice_index_or}
+use Rattle.std.specs.Prelude.{◌≡◌, ℕ, ◌<◌, max, Bool, true, false, ◌&&◌, List, [], ◌∷◌, length, Option, Some, None, IfSome, slice_index_or}
 use Rattle.row_machine.specs.Valuation.{Valuation}
 use Rattle.v_tree.specs.declared.statements.VCaseItem.{VCaseItem, fold-VCaseItem}
 use Rattle.v_tree.specs.declared.statements.VCaseKind.{VCaseKind}

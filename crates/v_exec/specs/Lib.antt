@@ -1,4 +1,5 @@
 pub mod Limits
 pub mod Choices
 pub mod Entering
+pub mod Inside
 pub mod Modules

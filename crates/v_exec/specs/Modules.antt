@@ -14,8 +14,9 @@ use Rattle.v_eval.specs.Functions.{function_at}
 use Rattle.v_eval.specs.Holding.{holds}
 use Rattle.v_eval.specs.Names.{signal_named}
 use Rattle.v_eval.specs.Scopes.{callee_within}
-use Rattle.v_run.specs.Changes.{changes_of, AllNear}
+use Rattle.v_run.specs.Changes.{changes_of, AllNear, Within}
 use Rattle.v_exec.specs.declared.processes.Ran.{Ran}
+use Rattle.v_exec.specs.Inside.{NamesFit}
 use Rattle.v_exec.specs.Limits.{functions_most}
 
 -- the signals of an instance whose signals are numbered from a number on
@@ -48,6 +49,9 @@ pub record HasRun (does : Doing) (sc : S.Scope) (v : Valuation) (r : Ran) : Type
   pub pending : changes_of r.pending ≡ (does.run sc v R.begun).pending
   pub near_written : AllNear r.written
   pub near_pending : AllNear r.pending
+  -- of signals it writes bits that are there
+  pub inside_written : (ws : List ℕ) → NamesFit ws sc.names → Within ws (changes_of r.written)
+  pub inside_pending : (ws : List ℕ) → NamesFit ws sc.names → Within ws (changes_of r.pending)
 
 -- each possible answer to a call is what the function at that item gives
 abbrev pub AnswersIn : {E : Type 0} → ℕ → ℕ → Module → (Held → ℕ → List (List Bit4) → Result (List Bit4) E → Type 0) → Type 0

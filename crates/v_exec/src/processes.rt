@@ -1,15 +1,16 @@
 //! Runs of processes (IEEE 1364-2005 clauses 6.1 and 9.9).
 
-ghost use Rattle.std.specs.Prelude.{◌≡◌, ◌≤◌, false, [], IfOk};
+ghost use Rattle.std.specs.Prelude.{◌≡◌, ◌≤◌, ℕ, List, false, [], IfOk};
 ghost use Rattle.v_meaning.specs.Runs.{begun};
 ghost use Rattle.v_meaning.specs.Statements as means;
 ghost use Rattle.v_meaning.specs.Values.{meaning, given as given_bits};
 ghost use Rattle.v_eval.specs.Holding.{holds, holding};
 ghost use Rattle.v_eval.specs.Limits.{limits, most_given};
-ghost use Rattle.v_run.specs.Changes.{changes_of, AllNear};
+ghost use Rattle.v_run.specs.Changes.{changes_of, AllNear, Within};
 ghost use Rattle.v_run.specs.Limits.{target_most};
+ghost use Rattle.v_exec.specs.Inside.{NamesFit};
 ghost use Rattle.v_exec.specs.Limits.{branch_most};
-ghost use Rattle.v_exec.specs.Modules.{scope_in, callee_in, FunctionsNarrow, HasRun};
+ghost use Rattle.v_exec.specs.Modules.{scope_in, signals_in, callee_in, FunctionsNarrow, HasRun};
 
 use crate::functions::{begun_on, call_function};
 use crate::statements::run_branch;
@@ -81,6 +82,7 @@ pub fn run_assignment(
     requires narrow { most_given ((means.target to.now).width (scope_in first depth of.now)) (limits value.now) (scope_in first depth of.now) ≤ 128 }
     ensures writes { IfOk result (λ ps. changes_of ps ≡ ((means.assignment false (means.target to.now) (meaning value.now)).run (scope_in first depth of.now) (holding signals.now [] []) begun).written) }
     ensures near { IfOk result AllNear }
+    ensures inside { IfOk result (λ ps. (ws : List ℕ) → NamesFit ws (signals_in first of.now) → Within ws (changes_of ps)) }
 {
     let call = |held: Held<'_>, i: usize, args: Vectors| -> Result<Vec4, AllocError>
         requires { FunctionsNarrow first of.now }

@@ -1,4 +1,4 @@
-use Rattle.std.proofs.Common.{rules, ◌≡◌, ◌<◌, ◌≤◌, ◌+◌, drop, map, length, arith, ap, sym, ◌∙◌, subst}
+use Rattle.std.proofs.Common.{rules, ◌<◌, ◌≤◌, ◌+◌, drop, map, length, ap, sym, ◌∙◌, subst}
 use Rattle.v_meaning.specs.Runs.{one_of, first_match}
 use Rattle.v_meaning.specs.Statements.{item_runs}
 use Rattle.v_meaning.specs.Values.{meaning}

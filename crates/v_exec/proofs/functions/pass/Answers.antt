@@ -1,5 +1,5 @@
-use Rattle.std.proofs.Common.{rules, ◌≡◌, map, ap, sym, ◌∙◌, subst}
-use Rattle.v_meaning.specs.Functions.{inputs_of, locals_of, bound}
+use Rattle.std.proofs.Common.{rules, ◌≡◌, map, ap, ◌∙◌, subst}
+use Rattle.v_meaning.specs.Functions.{locals_of, bound}
 use Rattle.v_meaning.specs.Runs.{begun, assign_now, cleared}
 use Rattle.eval_store.proofs.Storing.{on-ok}
 use Rattle.v_eval.specs.Names.{local_named}

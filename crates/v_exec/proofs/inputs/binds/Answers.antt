@@ -1,4 +1,4 @@
-use Rattle.std.proofs.Common.{rules, ◌≡◌, ◌+◌, ◌<◌, ◌∷◌, min, drop, length, map, arith, ap, sym, ◌∙◌, subst}
+use Rattle.std.proofs.Common.{rules, ◌≡◌, ◌+◌, ◌<◌, ◌∷◌, min, drop, length, map, arith, subst}
 use Rattle.std.proofs.lemmas.List.{length-map, length-drop}
 use Rattle.row_machine.specs.Steps.{then_changes}
 use Rattle.v_meaning.specs.Functions.{bound}

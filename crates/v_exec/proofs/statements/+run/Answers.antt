@@ -1,7 +1,7 @@
-use Rattle.std.proofs.Common.{rules, ◌≡◌, ◌+◌, ◌≤◌, ◌++◌, [], drop, length, map, Some, None, arith, ap, sym, ◌∙◌, subst}
+use Rattle.std.proofs.Common.{rules, ◌≡◌, ◌≤◌, [], drop, map, Some, None, arith, ap, sym, ◌∙◌, subst}
 use Rattle.std.proofs.Math.ListN.{drop_of_length-le}
 use Rattle.v_tree.specs.declared.statements.VStmt.TheVariants as T
-use Rattle.v_meaning.specs.Runs.{current, assign_now, cleared}
+use Rattle.v_meaning.specs.Runs.{assign_now, cleared}
 use Rattle.v_meaning.specs.Statements.{block_with, declared, doing, sequence}
 use Rattle.eval_store.proofs.Storing.{on-ok}
 use Rattle.v_eval.specs.Holding.{holding}

@@ -1,4 +1,4 @@
-use Rattle.std.proofs.Common.{ap, map, sym, ◌∙◌, subst}
+use Rattle.std.proofs.Common.{map, subst}
 use Rattle.v_meaning.specs.Values.{meaning}
 use Rattle.v_eval.specs.Holding.{holds}
 use Rattle.v_eval.specs.Scopes.{scope_of}
