@@ -5,3 +5,4 @@ pub mod Forms
 pub mod Running
 pub mod Calling
 pub mod Staying
+pub mod KeptExprs

@@ -2,4 +2,5 @@ pub mod Limits
 pub mod Choices
 pub mod Entering
 pub mod Inside
+pub mod Agreeing
 pub mod Modules
