@@ -46,7 +46,7 @@ pub not-if : (b : Bool) (t : ℕ) → only_if b t ≡ [] → b ≡ false
 not-if true t h = absurd (cc)
 not-if false t h = refl
 
-both-yes : (a b : Bool) → (a && b) ≡ true → (a ≡ true) × (b ≡ true)
+pub both-yes : (a b : Bool) → (a && b) ≡ true → (a ≡ true) × (b ≡ true)
 both-yes true b h = (refl, h)
 both-yes false b h = absurd (cc)
 
@@ -129,7 +129,7 @@ infixes B.LogicalAnd = record { wide = λ l r. refl; left = λ w l r. refl; righ
 infixes B.LogicalOr = record { wide = λ l r. refl; left = λ w l r. refl; right = λ w l r. refl; narrow = λ w l r h. omega arith }
 
 -- forms of operators
-unary-kept : (around : Around) (sc : M.Scope) (op : VUnaryOp) (r : Rules) (l : Limits) → Kept around sc r l → Kept around sc (expr_rules (VExpr-F.Unary op r)) (expr_limits (VExpr-F.Unary op l))
+pub unary-kept : (around : Around) (sc : M.Scope) (op : VUnaryOp) (r : Rules) (l : Limits) → Kept around sc r l → Kept around sc (expr_rules (VExpr-F.Unary op r)) (expr_limits (VExpr-F.Unary op l))
 unary-kept around sc op r l h w at none =
     let own = not-if (is_negative op && nat_lt 128 w) at (left-none (only_if (is_negative op && nat_lt 128 w) at) (r.broken around (if spreads op then w else r.width around) (suc at)) none) in
     let k = h (if spreads op then w else r.width around) (suc at) (right-none (only_if (is_negative op && nat_lt 128 w) at) (r.broken around (if spreads op then w else r.width around) (suc at)) none) in
@@ -138,7 +138,7 @@ unary-kept around sc op r l h w at none =
     let outer = unary-narrow op w (l.wide sc) own in
     (ap (prefix_width (prefix_of op)) k.0 ∙ unary-wide op (r.width around), omega (arith, inner, outer))
 
-binary-kept : (around : Around) (sc : M.Scope) (op : VBinaryOp) (r s : Rules) (l m : Limits) → Kept around sc r l → Kept around sc s m → Kept around sc (binary_rules (kind_of op) r s) (expr_limits (VExpr-F.Binary op l m))
+pub binary-kept : (around : Around) (sc : M.Scope) (op : VBinaryOp) (r s : Rules) (l m : Limits) → Kept around sc r l → Kept around sc s m → Kept around sc (binary_rules (kind_of op) r s) (expr_limits (VExpr-F.Binary op l m))
 binary-kept around sc op r s l m h g w at none =
     let o = kind_of op in
     let x = r.width around in
@@ -159,7 +159,7 @@ binary-kept around sc op r s l m h g w at none =
     (subst (λ n. infix_most (infix_of op) (V.left_width (infix_of op) w x y) n ≤ 128) (f.right w x y ∙ sym right) (f.narrow w x y (not-if (too_wide o w x y) (at + r.size) (left-none own last rest)))) in
     (ap (λ n. infix_width (infix_of op) n (m.wide sc)) k.0 ∙ ap (infix_width (infix_of op) x) j.0 ∙ f.wide x y, omega (arith, a, b, c))
 
-choose-kept : (around : Around) (sc : M.Scope) (q r s : Rules) (k l m : Limits) → Kept around sc q k → Kept around sc r l → Kept around sc s m → Kept around sc (expr_rules (VExpr-F.Choose q r s)) (expr_limits (VExpr-F.Choose k l m))
+pub choose-kept : (around : Around) (sc : M.Scope) (q r s : Rules) (k l m : Limits) → Kept around sc q k → Kept around sc r l → Kept around sc s m → Kept around sc (expr_rules (VExpr-F.Choose q r s)) (expr_limits (VExpr-F.Choose k l m))
 choose-kept around sc q r s k l m f g h w at none =
     let first = alone q around at in
     let second = r.broken around w (at + suc q.size) in
@@ -202,7 +202,7 @@ SelsKept around sc [] (l ∷ ls) = ⊥
 SelsKept around sc (s ∷ ss) [] = ⊥
 SelsKept around sc (s ∷ ss) (l ∷ ls) = SelKept around sc s l × SelsKept around sc ss ls
 
-sels-alike : (around : Around) (sc : M.Scope) (ss : List SelRules) (ls : List SelLimits) → SelsKept around sc ss ls → selected_of ss ≡ selects ls
+pub sels-alike : (around : Around) (sc : M.Scope) (ss : List SelRules) (ls : List SelLimits) → SelsKept around sc ss ls → selected_of ss ≡ selects ls
 sels-alike around sc [] [] h = refl
 sels-alike around sc [] (l ∷ ls) h = absurd h
 sels-alike around sc (s ∷ ss) [] h = absurd h
@@ -210,13 +210,13 @@ sels-alike around sc (s ∷ ss) (l ∷ ls) h =
     ap (λ (b : Option ℕ). record { base = b; extent = s.selected.extent } ∷ selected_of ss) h.0.base
     ∙ ap (λ (e : Option VExtent). record { base = l.decimal; extent = e } ∷ selected_of ss) h.0.extent ∙ ap (λ (xs : List Selected). record { base = l.decimal; extent = l.extent } ∷ xs) (sels-alike around sc ss ls h.1)
 
-sels-long : (around : Around) (sc : M.Scope) (ss : List SelRules) (ls : List SelLimits) → SelsKept around sc ss ls → length ss ≡ length ls
+pub sels-long : (around : Around) (sc : M.Scope) (ss : List SelRules) (ls : List SelLimits) → SelsKept around sc ss ls → length ss ≡ length ls
 sels-long around sc [] [] h = refl
 sels-long around sc [] (l ∷ ls) h = absurd h
 sels-long around sc (s ∷ ss) [] h = absurd h
 sels-long around sc (s ∷ ss) (l ∷ ls) h = ap suc (sels-long around sc ss ls h.1)
 
-sels-narrow : (around : Around) (sc : M.Scope) (ss : List SelRules) (ls : List SelLimits) (at : ℕ) → SelsKept around sc ss ls → sels_broken ss around at ≡ [] → most_of_sels ls sc ≤ 128
+pub sels-narrow : (around : Around) (sc : M.Scope) (ss : List SelRules) (ls : List SelLimits) (at : ℕ) → SelsKept around sc ss ls → sels_broken ss around at ≡ [] → most_of_sels ls sc ≤ 128
 sels-narrow around sc [] [] at h none = omega arith
 sels-narrow around sc [] (l ∷ ls) at h none = absurd h
 sels-narrow around sc (s ∷ ss) [] at h none = absurd h
@@ -233,7 +233,7 @@ not-false : (b : Bool) → not b ≡ false → b ≡ true
 not-false true h = refl
 not-false false h = absurd (cc)
 
-thing-wide : (t : Option Thing) (n : M.Named) (c : M.Callee) (ss : List SelRules) (ls : List SelLimits) (at : ℕ) → ThingAgrees t n c → selected_of ss ≡ selects ls → length ss ≡ length ls → nat_le (length ls) 2 ≡ true → name_broken t ss at ≡ []
+pub thing-wide : (t : Option Thing) (n : M.Named) (c : M.Callee) (ss : List SelRules) (ls : List SelLimits) (at : ℕ) → ThingAgrees t n c → selected_of ss ≡ selects ls → length ss ≡ length ls → nat_le (length ls) 2 ≡ true → name_broken t ss at ≡ []
     → width_of n (map (λ (l : SelLimits). selecting l.decimal l.extent) ls) ≡ named_bits t (selected_of ss)
 thing-wide None n c ss ls at agree same long few none = absurd (cc)
 thing-wide (Some (value kind width ranged)) n c ss ls at agree same long few none =
@@ -246,7 +246,7 @@ thing-wide (Some (result width ranged inputs)) n c ss ls at agree same long few 
     vector-wide n ls agree.0.1 (few-sels ss ls ranged (suc at) long none) ∙ ap (λ w. selected_bits w (selects ls)) agree.0.0 ∙ ap (selected_bits width) (sym same)
 thing-wide (Some part) n c ss ls at agree same long few none = absurd (cc)
 
-name-kept : (around : Around) (sc : M.Scope) (name : Name) (ss : List SelRules) (ls : List SelLimits) → Agrees around sc → nat_le (length ls) 2 ≡ true → SelsKept around sc ss ls
+pub name-kept : (around : Around) (sc : M.Scope) (name : Name) (ss : List SelRules) (ls : List SelLimits) → Agrees around sc → nat_le (length ls) 2 ≡ true → SelsKept around sc ss ls
     → Kept around sc (prim_rules (VPrim-F.Name name ss)) (prim_limits (VPrim-F.Name name ls))
 name-kept around sc name ss ls agree few h w at none =
     let first = name_broken (around.scope name) ss at in
@@ -294,7 +294,7 @@ called-wide (Some (function width inputs)) n c rs at agree none = agree
 called-wide (Some (result width ranged inputs)) n c rs at agree none = agree.1
 called-wide (Some part) n c rs at agree none = absurd (cc)
 
-call-kept : (around : Around) (sc : M.Scope) (name : Name) (rs : List Rules) (ls : List Limits) → Agrees around sc → AllKept around sc rs ls → Kept around sc (prim_rules (VPrim-F.Call name rs)) (prim_limits (VPrim-F.Call name ls))
+pub call-kept : (around : Around) (sc : M.Scope) (name : Name) (rs : List Rules) (ls : List Limits) → Agrees around sc → AllKept around sc rs ls → Kept around sc (prim_rules (VPrim-F.Call name rs)) (prim_limits (VPrim-F.Call name ls))
 call-kept around sc name rs ls agree h w at none =
     let first = call_broken (around.scope name) rs at in
     let second = only_if (around.leads_back name) at in
@@ -303,22 +303,22 @@ call-kept around sc name rs ls agree h w at none =
     let a = args-kept around sc (inputs_of (around.scope name)) rs ls (at + 2) h (right-none second third (right-none first (second ++ third) none)) in
     (c.0, subst (λ ns. most_of_args ns ls sc ≤ 128) (sym c.1) a)
 
-repeat-kept : (around : Around) (sc : M.Scope) (count : ℕ) (rs : List Rules) (ls : List Limits) → AllKept around sc rs ls → Kept around sc (prim_rules (VPrim-F.Repeat count rs)) (prim_limits (VPrim-F.Repeat count ls))
+pub repeat-kept : (around : Around) (sc : M.Scope) (count : ℕ) (rs : List Rules) (ls : List Limits) → AllKept around sc rs ls → Kept around sc (prim_rules (VPrim-F.Repeat count rs)) (prim_limits (VPrim-F.Repeat count ls))
 repeat-kept around sc count rs ls h w at none =
     let first = only_if (count == 0) (suc at) in
     let rest = each_from (λ r from. alone r around from) rs (at + 3) in
     let k = joined-kept around sc rs ls (at + 3) h (right-none first rest none) in
     (ap (λ n. count * n) k.0, k.1)
 
-concat-kept : (around : Around) (sc : M.Scope) (rs : List Rules) (ls : List Limits) → AllKept around sc rs ls → Kept around sc (prim_rules (VPrim-F.Concat rs)) (prim_limits (VPrim-F.Concat ls))
+pub concat-kept : (around : Around) (sc : M.Scope) (rs : List Rules) (ls : List Limits) → AllKept around sc rs ls → Kept around sc (prim_rules (VPrim-F.Concat rs)) (prim_limits (VPrim-F.Concat ls))
 concat-kept around sc rs ls h w at none = joined-kept around sc rs ls (suc at) h none
 
-sign-kept : (around : Around) (sc : M.Scope) (signed : Bool) (r : Rules) (l : Limits) → Kept around sc r l → Kept around sc (prim_rules (VPrim-F.Sign signed r)) (prim_limits (VPrim-F.Sign signed l))
+pub sign-kept : (around : Around) (sc : M.Scope) (signed : Bool) (r : Rules) (l : Limits) → Kept around sc r l → Kept around sc (prim_rules (VPrim-F.Sign signed r)) (prim_limits (VPrim-F.Sign signed l))
 sign-kept around sc signed r l h w at none =
     let k = h (r.width around) (at + 2) none in
     (k.0, subst (λ u. l.most u sc ≤ 128) (sym k.0) k.1)
 
-moving-kept : (around : Around) (sc : M.Scope) (r : Rules) (l : Limits) (e : Option VExtent) → Kept around sc r l → SelKept around sc (sel_rules (VSel-F.Expr r e)) (sel_limits (VSel-F.Expr l e))
+pub moving-kept : (around : Around) (sc : M.Scope) (r : Rules) (l : Limits) (e : Option VExtent) → Kept around sc r l → SelKept around sc (sel_rules (VSel-F.Expr r e)) (sel_limits (VSel-F.Expr l e))
 moving-kept around sc r l e h = record {
   base = refl;
   extent = refl;

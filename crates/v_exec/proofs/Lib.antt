@@ -6,3 +6,4 @@ pub mod Running
 pub mod Calling
 pub mod Staying
 pub mod KeptExprs
+pub mod KeptStmts
