@@ -56,7 +56,7 @@ prim_rules_of = fold-VPrim Rules Rules SelRules expr_rules prim_rules sel_rules
 abbrev pub fit_of_prim : VPrim → Fit
 fit_of_prim = fold-VPrim Fit Fit Fit expr_fit prim_fit sel_fit
 
-three-yes : (a b c : Bool) → ((a && b) && c) ≡ true → (a ≡ true) × ((b ≡ true) × (c ≡ true))
+pub three-yes : (a b c : Bool) → ((a && b) && c) ≡ true → (a ≡ true) × ((b ≡ true) × (c ≡ true))
 three-yes a b c h =
     let all = both-yes (a && b) c h in
     let first = both-yes a b all.0 in

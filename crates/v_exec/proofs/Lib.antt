@@ -7,3 +7,4 @@ pub mod Calling
 pub mod Staying
 pub mod KeptExprs
 pub mod KeptStmts
+pub mod KeptRuns
