@@ -6,7 +6,7 @@ use Rattle.v_tree.specs.Names.{Name}
 use Rattle.v_tree.specs.Grammatical.{Fit, Form, all_fit, has_some, is_perhaps, is_label, one_default, all_of_form, fit, fit_of_lval, branch_form, item_form, stmt_form, form_of_stmt, form_of_branch}
 use Rattle.v_tree.specs.Scopes as D
 use Rattle.v_tree.specs.Scopes.{local, Thing, value, part, Declared, bits_of, has_range, repeated}
-use Rattle.v_tree.specs.ExprRules.{Around, Rules, only_if, alone, each_from, rules_of}
+use Rattle.v_tree.specs.ExprRules.{Around, Rules, only_if, alone, each_from, listed_size, rules_of}
 use Rattle.v_tree.specs.StmtRules as Q
 use Rattle.v_tree.specs.StmtRules.{target_of, Procedure, mark_breaks, StmtRules, ItemRules, locals_from, locals_size, blocks_in, stmts_broken, branch_rules, values_at, widest, widest_item, item_rules, bodies, item_values, else_rules, block_rules, stmt_rules, rules_of_stmt, rules_of_branch}
 use Rattle.v_tree.specs.declared.expressions.VExpr.{VExpr}
@@ -217,3 +217,115 @@ assign-kept to x later fits good around sc p at agree none =
     let given : most_given ((target to).width sc) (limits x) sc ≤ 128 = subst (λ n. (limits x).most n sc ≤ 128) (sym same) b.1 in
     let indices = a.1 in
     omega (arith, indices, given)
+
+-- all forms
+abbrev pub item_rules_of : VCaseItem → ItemRules
+item_rules_of = fold-VCaseItem StmtRules ItemRules StmtRules branch_rules item_rules stmt_rules
+
+abbrev pub form_of_item : VCaseItem → Form
+form_of_item = fold-VCaseItem Form Form Form branch_form item_form stmt_form
+
+abbrev pub BranchGood : VBranch → Type 0
+BranchGood b = BlocksAre (rules_of_branch b) × ((form_of_branch b).fits ≡ true → StmtKept (rules_of_branch b) (branch_most b))
+
+abbrev pub ItemGood : VCaseItem → Type 0
+ItemGood i = BlocksAre (item_rules_of i).stmt × ((form_of_item i).fits ≡ true → ItemKept (item_rules_of i) (limits_of_item i))
+
+abbrev pub StmtGood : VStmt → Type 0
+StmtGood s = BlocksAre (rules_of_stmt s) × ((form_of_stmt s).fits ≡ true → StmtKept (rules_of_stmt s) (stmt_most s))
+
+good-as : (r q : StmtRules) (m k : M.Scope → ℕ) (f g : Form) → r ≡ q → m ≡ k → f ≡ g → BlocksAre q × (g.fits ≡ true → StmtKept q k) → BlocksAre r × (f.fits ≡ true → StmtKept r m)
+good-as r q m k f g e d c h =
+    (subst BlocksAre (sym e) h.0, λ fits. subst (λ x. StmtKept x m) (sym e) (subst (StmtKept q) (sym d) (h.1 (subst (λ (x : Form). x.fits ≡ true) c fits))))
+
+item-as : (r q : ItemRules) (m k : ItemLimits) (f g : Form) → r ≡ q → m ≡ k → f ≡ g → BlocksAre q.stmt × (g.fits ≡ true → ItemKept q k) → BlocksAre r.stmt × (f.fits ≡ true → ItemKept r m)
+item-as r q m k f g e d c h =
+    (subst (λ (x : ItemRules). BlocksAre x.stmt) (sym e) h.0, λ fits. subst (λ x. ItemKept x m) (sym e) (subst (ItemKept q) (sym d) (h.1 (subst (λ (x : Form). x.fits ≡ true) c fits))))
+
+values-good : (xs : List VExpr) → all_fit (map fit xs) ≡ true → ValuesKept (map rules_of xs) (map limits xs)
+values-good [] f around sc agree = tt
+values-good (x ∷ xs) f around sc agree =
+    let b = both-yes (fit x).fits (all_fit (map fit xs)) f in
+    (expr-kept around sc agree x b.0, values-good xs b.1 around sc agree)
+
+all-blocks : (ss : List VStmt) → Each StmtGood ss → AllBlocks (map rules_of_stmt ss)
+all-blocks [] h = tt
+all-blocks (s ∷ ss) h = (h.0.0, all-blocks ss h.1)
+
+all-stmts : (ss : List VStmt) → Each StmtGood ss → all_of_form (map form_of_stmt ss) ≡ true → AllStmts (map rules_of_stmt ss) (map stmt_most ss)
+all-stmts [] h f = tt
+all-stmts (s ∷ ss) h f = let b = both-yes (form_of_stmt s).fits (all_of_form (map form_of_stmt ss)) f in (h.0.1 b.0, all-stmts ss h.1 b.1)
+
+item-blocks : (is : List VCaseItem) → Each ItemGood is → AllBlocks (bodies (map item_rules_of is))
+item-blocks [] h = tt
+item-blocks (i ∷ is) h = (h.0.0, item-blocks is h.1)
+
+all-items : (is : List VCaseItem) → Each ItemGood is → all_of_form (map form_of_item is) ≡ true → AllItems (map item_rules_of is) (map limits_of_item is)
+all-items [] h f = tt
+all-items (i ∷ is) h f = let b = both-yes (form_of_item i).fits (all_of_form (map form_of_item is)) f in (h.0.1 b.0, all-items is h.1 b.1)
+
+block-parts : (label : Option VLabel) (rs : List StmtRules) → AllBlocks rs → BlocksAre (block_rules label rs)
+block-parts None rs h at = blocks-in rs (suc at) h
+block-parts (Some l) rs h at = (refl, tt)
+
+if-good : (on : VExpr) (b : VBranch) (o : Option VBranch) → BranchGood b → Perhaps BranchGood o → StmtGood (T.If on b o)
+if-good on b None h g =
+    good-as (rules_of_stmt (T.If on b None)) (stmt_rules (VStmt-F.If on (rules_of_branch b) None)) (stmt_most (T.If on b None)) (stmt_limits (VStmt-F.If on (branch_most b) None)) (form_of_stmt (T.If on b None))
+    (stmt_form (VStmt-F.If on (form_of_branch b) None)) (F.at-if branch_rules item_rules stmt_rules on b) (F.at-if branch_limits item_limits stmt_limits on b) (F.at-if branch_form item_form stmt_form on b)
+    ((λ at. parts-both ((rules_of_branch b).blocks (at + (3 + (rules_of on).size))) [] (h.0 (at + (3 + (rules_of on).size))) tt),
+    λ f. (let x = both-yes (fit on).fits (form_of_branch b).fits f in if-kept on (rules_of_branch b) (branch_most b) x.0 (h.1 x.1)))
+if-good on b (Some c) h g =
+    good-as (rules_of_stmt (T.If on b (Some c))) (stmt_rules (VStmt-F.If on (rules_of_branch b) (Some (rules_of_branch c)))) (stmt_most (T.If on b (Some c))) (stmt_limits (VStmt-F.If on (branch_most b) (Some (branch_most c))))
+    (form_of_stmt (T.If on b (Some c))) (stmt_form (VStmt-F.If on (form_of_branch b) (Some (form_of_branch c)))) (F.at-else branch_rules item_rules stmt_rules on b c) (F.at-else branch_limits item_limits stmt_limits on b c)
+    (F.at-else branch_form item_form stmt_form on b c)
+    ((λ at. parts-both ((rules_of_branch b).blocks (at + (3 + (rules_of on).size))) ((rules_of_branch c).blocks (suc (at + (3 + ((rules_of on).size + (rules_of_branch b).size))))) (h.0 (at + (3 + (rules_of on).size)))
+    (g.0 (suc (at + (3 + ((rules_of on).size + (rules_of_branch b).size)))))),
+    λ f.
+    (
+    let all = both-yes ((fit on).fits && (form_of_branch b).fits && (form_of_branch b).closed) (form_of_branch c).fits f in
+    let x = three-yes (fit on).fits (form_of_branch b).fits (form_of_branch b).closed all.0 in
+    else-kept on (rules_of_branch b) (rules_of_branch c) (branch_most b) (branch_most c) x.0 (h.1 x.1.0) (g.1 all.1)
+    ))
+
+stmt-steps : I.StmtSteps BranchGood ItemGood StmtGood
+stmt-steps = record {
+  branch-statement = λ s h. good-as (rules_of_branch (G.Statement s)) (rules_of_stmt s) (branch_most (G.Statement s)) (stmt_most s) (form_of_branch (G.Statement s)) (form_of_stmt s) (F.at-statement branch_rules item_rules stmt_rules s)
+      (F.at-statement branch_limits item_limits stmt_limits s) (F.at-statement branch_form item_form stmt_form s) h;
+  branch-empty = good-as (rules_of_branch G.Empty) (branch_rules VBranch-F.Empty) (branch_most G.Empty) (λ sc. 0) (form_of_branch G.Empty) (branch_form VBranch-F.Empty) (F.at-empty branch_rules item_rules stmt_rules)
+      (F.at-empty branch_limits item_limits stmt_limits) (F.at-empty branch_form item_form stmt_form) ((λ at. tt), λ f around sc p at agree none. omega arith);
+  case-item = λ vs b h. item-as (item_rules_of (C.Item vs b)) (item_rules (VCaseItem-F.Item vs (rules_of_branch b))) (limits_of_item (C.Item vs b)) (item_limits (VCaseItem-F.Item vs (branch_most b))) (form_of_item (C.Item vs b))
+      (item_form (VCaseItem-F.Item vs (form_of_branch b))) (F.at-item branch_rules item_rules stmt_rules vs b) (F.at-item branch_limits item_limits stmt_limits vs b) (F.at-item branch_form item_form stmt_form vs b)
+      ((λ at. h.0 (at + suc (listed_size (map rules_of vs)))),
+      λ f.
+      (
+      let x = three-yes (has_some vs) (all_fit (map fit vs)) (form_of_branch b).fits f in
+      ((λ around sc p at agree none. h.1 x.1.1 around sc p (at + suc (listed_size (map rules_of vs))) agree none), values-good vs x.1.0)
+      ));
+  case-default = λ b h. item-as (item_rules_of (C.Default b)) (item_rules (VCaseItem-F.Default (rules_of_branch b))) (limits_of_item (C.Default b)) (item_limits (VCaseItem-F.Default (branch_most b))) (form_of_item (C.Default b))
+      (item_form (VCaseItem-F.Default (form_of_branch b))) (F.at-default branch_rules item_rules stmt_rules b) (F.at-default branch_limits item_limits stmt_limits b) (F.at-default branch_form item_form stmt_form b)
+      ((λ at. h.0 (at + 2)), λ f. ((λ around sc p at agree none. h.1 f around sc p (at + 2) agree none), λ around sc agree. tt));
+  stmt-block = λ label ss h. good-as (rules_of_stmt (T.Block label ss)) (block_rules label (map rules_of_stmt ss)) (stmt_most (T.Block label ss)) (stmt_limits (VStmt-F.Block label (map stmt_most ss))) (form_of_stmt (T.Block label ss))
+      (stmt_form (VStmt-F.Block label (map form_of_stmt ss))) (F.at-block branch_rules item_rules stmt_rules label ss) (F.at-block branch_limits item_limits stmt_limits label ss) (F.at-block branch_form item_form stmt_form label ss)
+      (block-parts label (map rules_of_stmt ss) (all-blocks ss h),
+      λ f. (let x = both-yes (is_perhaps is_label label) (all_of_form (map form_of_stmt ss)) f in block-kept label (map rules_of_stmt ss) (map stmt_most ss) (all-blocks ss h) (all-stmts ss h x.1)));
+  stmt-if = λ on b o h g. if-good on b o h g;
+  stmt-case = λ kind on is h. good-as (rules_of_stmt (T.Case kind on is)) (stmt_rules (VStmt-F.Case kind on (map item_rules_of is))) (stmt_most (T.Case kind on is)) (stmt_limits (VStmt-F.Case kind on (map limits_of_item is)))
+      (form_of_stmt (T.Case kind on is)) (stmt_form (VStmt-F.Case kind on (map form_of_item is))) (F.at-case branch_rules item_rules stmt_rules kind on is) (F.at-case branch_limits item_limits stmt_limits kind on is)
+      (F.at-case branch_form item_form stmt_form kind on is)
+      ((λ at. blocks-in (bodies (map item_rules_of is)) (at + (3 + (rules_of on).size)) (item-blocks is h)),
+      λ f.
+      (
+      let all = both-yes ((fit on).fits && has_some (map form_of_item is) && one_default (map form_of_item is)) (all_of_form (map form_of_item is)) f in
+      let x = three-yes (fit on).fits (has_some (map form_of_item is)) (one_default (map form_of_item is)) all.0 in
+      case-kept kind on (map item_rules_of is) (map limits_of_item is) x.0 (all-items is h all.1)
+      ));
+  stmt-assign = λ to x later. good-as (rules_of_stmt (T.Assign to x later)) (stmt_rules (VStmt-F.Assign to x later)) (stmt_most (T.Assign to x later)) (stmt_limits (VStmt-F.Assign to x later)) (form_of_stmt (T.Assign to x later))
+      (stmt_form (VStmt-F.Assign to x later)) (F.at-assign branch_rules item_rules stmt_rules to x later) (F.at-assign branch_limits item_limits stmt_limits to x later) (F.at-assign branch_form item_form stmt_form to x later)
+      ((λ at. tt), λ f. (let y = both-yes (fit_of_lval to).fits (fit x).fits f in assign-kept to x later y.0 y.1));
+}
+
+pub branch-good : (b : VBranch) → BranchGood b
+branch-good = I.ind-branch BranchGood ItemGood StmtGood stmt-steps
+
+pub stmt-good : (s : VStmt) → StmtGood s
+stmt-good = I.ind-stmt BranchGood ItemGood StmtGood stmt-steps
