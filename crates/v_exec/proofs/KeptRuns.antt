@@ -54,14 +54,14 @@ blocks-in [] at h = tt
 blocks-in (r ∷ rs) at h = parts-both (r.blocks at) (blocks_in rs (at + r.size)) (h.0 at) (blocks-in rs (at + r.size) h.1)
 
 -- what names stand for in a block
-agrees-if : (b : Bool) (t u : Option Thing) (n m : M.Named) (c : M.Callee) → ThingAgrees t n c → ThingAgrees u m c → ThingAgrees (if b then t else u) (cond b n m) c
+pub agrees-if : (b : Bool) (t u : Option Thing) (n m : M.Named) (c : M.Callee) → ThingAgrees t n c → ThingAgrees u m c → ThingAgrees (if b then t else u) (cond b n m) c
 agrees-if true t u n m c h g = h
 agrees-if false t u n m c h g = g
 
-part-agrees : (t : Thing) (n : M.Named) (c : M.Callee) → t ≡ part → ThingAgrees (Some t) n c
+pub part-agrees : (t : Thing) (n : M.Named) (c : M.Callee) → t ≡ part → ThingAgrees (Some t) n c
 part-agrees t n c is = subst (λ x. ThingAgrees (Some x) n c) (sym is) tt
 
-parts-agree : (ds : List Declared) (outer : D.Scope) (name : Name) (n : M.Named) (c : M.Callee) → AllParts ds → ThingAgrees (outer name) n c → ThingAgrees (D.inside ds outer name) n c
+pub parts-agree : (ds : List Declared) (outer : D.Scope) (name : Name) (n : M.Named) (c : M.Callee) → AllParts ds → ThingAgrees (outer name) n c → ThingAgrees (D.inside ds outer name) n c
 parts-agree [] outer name n c h g = g
 parts-agree (d ∷ ds) outer name n c h g = by (bytes_eq d.name name)
   (parts-agree ds outer name n c h.1 g)
@@ -70,7 +70,7 @@ parts-agree (d ∷ ds) outer name n c h g = by (bytes_eq d.name name)
     by true rest = part-agrees d.thing n c h.0
     by false rest = rest
 
-range-bits : (r : Option ℕ) → M.bits_of_range r ≡ bits_of r
+pub range-bits : (r : Option ℕ) → M.bits_of_range r ≡ bits_of r
 range-bits None = refl
 range-bits (Some left) = refl
 

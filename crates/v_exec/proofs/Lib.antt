@@ -8,3 +8,4 @@ pub mod Staying
 pub mod KeptExprs
 pub mod KeptStmts
 pub mod KeptRuns
+pub mod KeptModules

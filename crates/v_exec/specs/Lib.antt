@@ -3,4 +3,5 @@ pub mod Choices
 pub mod Entering
 pub mod Inside
 pub mod Agreeing
+pub mod Keeping
 pub mod Modules
