@@ -12,7 +12,7 @@ use Rattle.v_tree.specs.Scopes.{input, net, variable, Thing, value, memory, func
 use Rattle.v_tree.specs.ExprRules.{Around, rules_of, alone}
 use Rattle.v_tree.specs.StmtRules.{target_of, in_function, at_star, at_edges, range_size, locals_size, locals_from, rules_of_stmt, rules_of_branch}
 use Rattle.v_tree.specs.Rules as R
-use Rattle.v_tree.specs.Rules.{declared_signal, reg_thing, declared_by, declared_in, item_size, event_size, input_bits, function_token, function_names, function_broken, function_links, links_of, leads, item_broken, items_broken, process_broken, edges_broken}
+use Rattle.v_tree.specs.Rules.{declared_signal, reg_thing, declared_by, declared_in, item_size, event_size, input_bits, function_token, function_names, function_broken, function_links, links_of, leads, item_broken, items_broken, process_broken, edges_broken, ports_size, ports_of, listed_ports, unlisted, undeclared, module_broken}
 use Rattle.v_tree.specs.declared.expressions.VExpr.{VExpr}
 use Rattle.v_tree.specs.declared.items.VEdge.{VEdge}
 use Rattle.v_tree.specs.declared.items.VFunction.{VFunction}
@@ -25,6 +25,7 @@ use Rattle.v_tree.specs.declared.items.VProcess.{VProcess}
 use Rattle.v_tree.specs.declared.items.VProcess.TheVariants.{Assign, Always}
 use Rattle.v_tree.specs.declared.items.VRegRest.{VRegRest}
 use Rattle.v_tree.specs.declared.items.VRegRest.TheVariants as G
+use Rattle.v_tree.specs.declared.items.VSensitivity.{VSensitivity}
 use Rattle.v_tree.specs.declared.items.VSensitivity.TheVariants.{Star, Edges}
 use Rattle.v_tree.specs.declared.items.VSignal.{VSignal}
 use Rattle.v_tree.specs.declared.items.VSignal.TheVariants.{Input, Output, OutputReg, Wire, Reg}
@@ -159,3 +160,147 @@ function-agrees f at around leads_back sc agree own name =
         let t = D.inside (locals_from f.inputs (at + (3 + range_size f.range)) ++ (locals_from f.locals (at + (3 + range_size f.range) + locals_size f.inputs) ++ (rules_of_stmt f.body).blocks (at + (3 + range_size f.range) + (locals_size f.inputs + locals_size f.locals)))) around.scope name in
         let m = M.named ((declared 1 f.inputs ++ declared (suc (length f.inputs)) f.locals) ++ sc.names) name in
         subst (λ b. ThingAgrees (if b then Some (result (bits_of f.range) (has_range f.range) (input_bits f)) else t) (cond b (result_of f) m) (sc.callee name)) (sym is) rest
+
+-- names that are declared once
+if-none : (b : Bool) (t : ℕ) (xs ys : List ℕ) → (if b then t ∷ xs else ys) ≡ [] → (b ≡ false) × (ys ≡ [])
+if-none true t xs ys h = absurd (cc)
+if-none false t xs ys h = (refl, h)
+
+added : List Declared → List Declared → List Declared
+added [] before = before
+added (d ∷ ds) before = added ds (d ∷ before)
+
+repeated-behind : (ds es before : List Declared) → repeated before (ds ++ es) ≡ [] → repeated (added ds before) es ≡ []
+unfolding added
+repeated-behind [] es before h = h
+repeated-behind (d ∷ ds) es before h =
+    repeated-behind ds es (d ∷ before) (if-none (is_declared before d.name) d.token (repeated (d ∷ before) (ds ++ es)) (repeated (d ∷ before) (ds ++ es)) h).1
+
+if-false : (b c : Bool) → (if b then true else c) ≡ false → (b ≡ false) × (c ≡ false)
+if-false true c h = absurd (cc)
+if-false false c h = (refl, h)
+
+declared-before : (ds before : List Declared) (name : Name) → is_declared (added ds before) name ≡ false → is_declared before name ≡ false
+unfolding added
+declared-before [] before name h = h
+declared-before (d ∷ ds) before name h = (if-false (bytes_eq d.name name) (is_declared before name) (declared-before ds (d ∷ before) name h)).1
+
+abbrev pub Finds : List VFunction → List Declared → List VItem → Type 0
+Finds all before is = (name : Name) → is_declared before name ≡ false → find all name ≡ find (functions is) name
+
+found-here : (all : List VFunction) (f : VFunction) (before : List Declared) (is : List VItem) (name : Name) → Finds all before (I.Function f ∷ is) → is_declared before f.name ≡ false → bytes_eq f.name name ≡ true → find all name ≡ Some f
+found-here all f before is name finds fresh same =
+    let e : f.name ≡ name = (bytes_eq-Decides f.name name).0 same in
+    finds name (ap (is_declared before) (sym e) ∙ fresh) ∙ ap (λ b. cond b (Some f) (find (functions is) name)) same
+
+finds-behind : (all : List VFunction) (f : VFunction) (d : Declared) (before : List Declared) (is : List VItem) → d.name ≡ f.name → Finds all before (I.Function f ∷ is) → Finds all (d ∷ before) is
+finds-behind all f d before is named finds name fresh =
+    let h = if-false (bytes_eq d.name name) (is_declared before name) fresh in
+    finds name h.1 ∙ ap (λ b. cond b (Some f) (find (functions is) name)) (ap (λ (k : Name). bytes_eq k name) (sym named) ∙ h.0)
+
+-- the functions
+function-kept : (around : Around) (sc : M.Scope) (links : List R.Link) (f : VFunction) (at : ℕ) → Agrees around sc → ((name : Name) → bytes_eq f.name name ≡ true → IsFunction (bits_of f.range) (input_bits f) (sc.callee name)) → is_function f ≡ true
+    → function_broken around.scope links f at ≡ [] → stmt_most f.body (scope_in f sc) ≤ 128
+function-kept around sc links f at agree own fits none =
+    let leads_back : Name → Bool = λ g. leads (length links) links g f.name in
+    let names = function_names f at in
+    let inner : Around = record { scope = D.inside names around.scope; leads_back = leads_back } in
+    let from = at + (3 + (range_size f.range + (locals_size f.inputs + locals_size f.locals))) in
+    let body = both-yes (has_names f.range f.name && has_some f.inputs && list_all is_local f.inputs && list_all is_local f.locals) (is_stmt f.body) fits in
+    let form = both-yes (form_of_stmt f.body).fits (nat_le (form_of_stmt f.body).depth nesting_limit) body.1 in
+    (stmt-good f.body).1 form.0 inner (scope_in f sc) in_function from (function-agrees f at around leads_back sc agree own) (right-none (repeated [] names) ((rules_of_stmt f.body).broken in_function inner from) none)
+
+functions-kept : (ms : List VModule) (m : VModule) (around : Around) (sc : M.Scope) (all : List VFunction) (is : List VItem) (at : ℕ) (before : List Declared) → Agrees around sc
+    → ((name : Name) (f : VFunction) → find all name ≡ Some f → IsFunction (bits_of f.range) (input_bits f) (sc.callee name)) → Finds all before is → repeated before (declared_in is at) ≡ [] → list_all is_item is ≡ true
+    → items_broken ms m around is at ≡ [] → functions_most is sc ≤ 128
+functions-kept ms m around sc all [] at before agree calls finds once fits none = omega arith
+functions-kept ms m around sc all (I.Signal s ∷ is) at before agree calls finds once fits none =
+    functions-kept ms m around sc all is (at + item_size (I.Signal s)) (added (declared_by (I.Signal s) at) before) agree calls (λ name fresh. finds name (declared-before (declared_by (I.Signal s) at) before name fresh))
+    (repeated-behind (declared_by (I.Signal s) at) (declared_in is (at + item_size (I.Signal s))) before once) (both-yes (is_item (I.Signal s)) (list_all is_item is) fits).1
+    (right-none (item_broken ms m around (I.Signal s) at) (items_broken ms m around is (at + item_size (I.Signal s))) none)
+functions-kept ms m around sc all (I.Initial s ∷ is) at before agree calls finds once fits none =
+    functions-kept ms m around sc all is (at + item_size (I.Initial s)) before agree calls finds once (both-yes (is_item (I.Initial s)) (list_all is_item is) fits).1
+    (right-none (item_broken ms m around (I.Initial s) at) (items_broken ms m around is (at + item_size (I.Initial s))) none)
+functions-kept ms m around sc all (I.Process p ∷ is) at before agree calls finds once fits none =
+    functions-kept ms m around sc all is (at + item_size (I.Process p)) (added (declared_by (I.Process p) at) before) agree calls (λ name fresh. finds name (declared-before (declared_by (I.Process p) at) before name fresh))
+    (repeated-behind (declared_by (I.Process p) at) (declared_in is (at + item_size (I.Process p))) before once) (both-yes (is_item (I.Process p)) (list_all is_item is) fits).1
+    (right-none (item_broken ms m around (I.Process p) at) (items_broken ms m around is (at + item_size (I.Process p))) none)
+functions-kept ms m around sc all (I.Function f ∷ is) at before agree calls finds once fits none =
+    let d : Declared = record { name = f.name; token = function_token f at; thing = function (bits_of f.range) (input_bits f) } in
+    let rest = declared_in is (at + item_size (I.Function f)) in
+    let fresh = if-none (is_declared before f.name) d.token (repeated (d ∷ before) rest) (repeated (d ∷ before) rest) once in
+    let item = both-yes (is_item (I.Function f)) (list_all is_item is) fits in
+    let own = function-kept around sc (function_links around.scope m.items) f at agree (λ name same. calls name f (found-here all f before is name finds fresh.0 same)) item.0
+    (left-none (item_broken ms m around (I.Function f) at) (items_broken ms m around is (at + item_size (I.Function f))) none) in
+    let others = functions-kept ms m around sc all is (at + item_size (I.Function f)) (d ∷ before) agree calls (finds-behind all f d before is refl finds) fresh.1 item.1
+    (right-none (item_broken ms m around (I.Function f) at) (items_broken ms m around is (at + item_size (I.Function f))) none) in
+    omega (arith, own, others)
+functions-kept ms m around sc all (I.Instance s ∷ is) at before agree calls finds once fits none =
+    functions-kept ms m around sc all is (at + item_size (I.Instance s)) (added (declared_by (I.Instance s) at) before) agree calls (λ name fresh. finds name (declared-before (declared_by (I.Instance s) at) before name fresh))
+    (repeated-behind (declared_by (I.Instance s) at) (declared_in is (at + item_size (I.Instance s))) before once) (both-yes (is_item (I.Instance s)) (list_all is_item is) fits).1
+    (right-none (item_broken ms m around (I.Instance s) at) (items_broken ms m around is (at + item_size (I.Instance s))) none)
+
+-- the processes
+assign-narrow : (around : Around) (sc : M.Scope) (to : VLval) (x : VExpr) (at : ℕ) → Agrees around sc → is_lval to ≡ true → is_expr x ≡ true → process_broken around (Assign to x) at ≡ []
+    → (target_most to sc ≤ 128) × (most_given ((target to).width sc) (limits x) sc ≤ 128)
+assign-narrow around sc to x at agree fits good none =
+    let t = target_of to in
+    let r = rules_of x in
+    let first = t.broken around (suc at) in
+    let second = t.by_assign around (suc at) in
+    let third = r.broken around (max (t.width around) (r.width around)) (at + (2 + t.size)) in
+    let a = target-kept around sc agree to (both-yes (fit_of_lval to).fits (nat_le (fit_of_lval to).depth nesting_limit) fits).0 (suc at) (left-none first (second ++ third) none) in
+    let b = expr-kept around sc agree x (both-yes (fit x).fits (nat_le (fit x).depth nesting_limit) good).0 (max (t.width around) (r.width around)) (at + (2 + t.size)) (right-none second third (right-none first (second ++ third) none)) in
+    let same : max ((target to).width sc) ((limits x).wide sc) ≡ max (t.width around) (r.width around) = ap (λ n. max n ((limits x).wide sc)) a.0 ∙ ap (max (t.width around)) b.0 in
+    (a.1, subst (λ n. (limits x).most n sc ≤ 128) (sym same) b.1)
+
+always-narrow : (around : Around) (sc : M.Scope) (on : VSensitivity) (body : VBranch) (at : ℕ) → Agrees around sc → is_branch body ≡ true → process_broken around (Always on body) at ≡ [] → branch_most body sc ≤ 128
+always-narrow around sc Star body at agree fits none =
+    (branch-good body).1 (both-yes (form_of_branch body).fits (nat_le (form_of_branch body).depth nesting_limit) fits).0 around sc at_star (at + 3) agree none
+always-narrow around sc (Edges es) body at agree fits none =
+    let from = at + (2 + event_size (Edges es)) in
+    (branch-good body).1 (both-yes (form_of_branch body).fits (nat_le (form_of_branch body).depth nesting_limit) fits).0 around sc at_edges from agree
+    (right-none (edges_broken around.scope es (at + 4)) ((rules_of_branch body).broken at_edges around from) none)
+
+item-narrow : (ms : List VModule) (m : VModule) (around : Around) (sc : M.Scope) (i : VItem) (at : ℕ) → Agrees around sc → is_item i ≡ true → item_broken ms m around i at ≡ [] → ItemNarrow sc i
+item-narrow ms m around sc (I.Signal s) at agree fits none = tt
+item-narrow ms m around sc (I.Initial s) at agree fits none = tt
+item-narrow ms m around sc (I.Process (Assign to x)) at agree fits none =
+    let b = both-yes (is_lval to) (is_expr x) fits in assign-narrow around sc to x at agree b.0 b.1 none
+item-narrow ms m around sc (I.Process (Always on body)) at agree fits none = always-narrow around sc on body at agree (both-yes (is_sensitivity on) (is_branch body) fits).1 none
+item-narrow ms m around sc (I.Function f) at agree fits none = tt
+item-narrow ms m around sc (I.Instance s) at agree fits none = tt
+
+items-narrow : (ms : List VModule) (m : VModule) (around : Around) (sc : M.Scope) (is : List VItem) (at : ℕ) → Agrees around sc → list_all is_item is ≡ true → items_broken ms m around is at ≡ [] → ItemsNarrow sc is
+items-narrow ms m around sc [] at agree fits none = tt
+items-narrow ms m around sc (i ∷ is) at agree fits none =
+    let b = both-yes (is_item i) (list_all is_item is) fits in
+    (item-narrow ms m around sc i at agree b.0 (left-none (item_broken ms m around i at) (items_broken ms m around is (at + item_size i)) none),
+    items-narrow ms m around sc is (at + item_size i) agree b.1 (right-none (item_broken ms m around i at) (items_broken ms m around is (at + item_size i)) none))
+
+-- a module
+module-parts : (ms : List VModule) (m : VModule) (at : ℕ) → module_broken ms m at ≡ []
+    → (repeated [] (declared_in m.items (at + (3 + ports_size m.ports))) ≡ [])
+    × (items_broken ms m (record { scope = D.inside (declared_in m.items (at + (3 + ports_size m.ports))) D.nowhere; leads_back = λ f. false }) m.items (at + (3 + ports_size m.ports)) ≡ [])
+module-parts ms m at none =
+    let first = at + (3 + ports_size m.ports) in
+    let own = declared_in m.items first in
+    let ports = ports_of m.items first in
+    let list = listed_ports m.ports (at + 3) in
+    let around : Around = record { scope = D.inside own D.nowhere; leads_back = λ f. false } in
+    let last = repeated [] own ++ items_broken ms m around m.items first in
+    let third = unlisted m.ports ports in
+    let second = undeclared ports list in
+    let rest = right-none third last (right-none second (third ++ last) (right-none (repeated [] list) (second ++ (third ++ last)) none)) in
+    (left-none (repeated [] own) (items_broken ms m around m.items first) rest, right-none (repeated [] own) (items_broken ms m around m.items first) rest)
+
+-- The functions and processes of a module that is of the grammar and breaks no rule.
+pub module-narrow : (ms : List VModule) (m : VModule) (at n d : ℕ) → list_all is_item m.items ≡ true → module_broken ms m at ≡ [] → (functions_most m.items (scope_at n d m.items) ≤ 128) × ItemsNarrow (scope_at n d m.items) m.items
+module-narrow ms m at n d fits none =
+    let first = at + (3 + ports_size m.ports) in
+    let around : Around = record { scope = D.inside (declared_in m.items first) D.nowhere; leads_back = λ f. false } in
+    let sc = scope_at n d m.items in
+    let kept = module-parts ms m at none in
+    let agree = module-agrees m.items first n d (λ f. false) in
+    (functions-kept ms m around sc (functions m.items) m.items first [] agree (λ name f is. found-function d (numbered n (signals m.items)) (functions m.items) name f is) (λ name fresh. refl) kept.0 fits kept.1,
+    items-narrow ms m around sc m.items first agree fits kept.1)
