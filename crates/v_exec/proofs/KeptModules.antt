@@ -5,14 +5,14 @@ use Rattle.std.specs.List.{list_all}
 use Rattle.std.specs.Str.{bytes_eq}
 use Rattle.std.proofs.lemmas.Slice.Eq.{bytes_eq-Decides}
 use Rattle.v_tree.specs.Names.{Name}
-use Rattle.v_tree.specs.Grammatical.{Fit, Form, fit, fit_of_lval, form_of_stmt, form_of_branch, is_item, is_expr, is_lval, is_stmt, is_branch, is_function, is_sensitivity, has_some, is_declared as has_names, is_local}
+use Rattle.v_tree.specs.Grammatical.{Fit, Form, is_module, is_of_grammar, fit, fit_of_lval, form_of_stmt, form_of_branch, is_item, is_expr, is_lval, is_stmt, is_branch, is_function, is_sensitivity, has_some, is_declared as has_names, is_local}
 use Rattle.v_tree.specs.Reading.{nesting_limit}
 use Rattle.v_tree.specs.Scopes as D
 use Rattle.v_tree.specs.Scopes.{input, net, variable, Thing, value, memory, function, result, part, Declared, bits_of, has_range, repeated, is_declared}
 use Rattle.v_tree.specs.ExprRules.{Around, rules_of, alone}
 use Rattle.v_tree.specs.StmtRules.{target_of, in_function, at_star, at_edges, range_size, locals_size, locals_from, rules_of_stmt, rules_of_branch}
 use Rattle.v_tree.specs.Rules as R
-use Rattle.v_tree.specs.Rules.{declared_signal, reg_thing, declared_by, declared_in, item_size, event_size, input_bits, function_token, function_names, function_broken, function_links, links_of, leads, item_broken, items_broken, process_broken, edges_broken, ports_size, ports_of, listed_ports, unlisted, undeclared, module_broken}
+use Rattle.v_tree.specs.Rules.{declared_signal, reg_thing, declared_by, declared_in, item_size, event_size, input_bits, function_token, function_names, function_broken, function_links, links_of, leads, item_broken, items_broken, process_broken, edges_broken, ports_size, ports_of, listed_ports, unlisted, undeclared, module_broken, module_size, module_names, modules_broken, Keeps}
 use Rattle.v_tree.specs.declared.expressions.VExpr.{VExpr}
 use Rattle.v_tree.specs.declared.items.VEdge.{VEdge}
 use Rattle.v_tree.specs.declared.items.VFunction.{VFunction}
@@ -41,7 +41,12 @@ use Rattle.v_eval.specs.Scopes.{callee_within}
 use Rattle.v_run.specs.Limits.{target_most}
 use Rattle.v_exec.specs.Agreeing.{ThingAgrees, Agrees, IsVector, IsFunction}
 use Rattle.v_exec.specs.Limits.{stmt_most, branch_most, functions_most}
-use Rattle.v_exec.specs.Keeping.{scope_at, ItemNarrow, ItemsNarrow}
+use Rattle.v_exec.specs.Keeping.{scope_at, ItemNarrow, ItemsNarrow, ModuleNarrow}
+use Rattle.v_exec.specs.Modules as N
+use Rattle.v_exec.specs.Modules.{signals_in, FunctionsNarrow}
+use Rattle.v_eval.specs.declared.modules.Module.{Module}
+use Rattle.v_tree.specs.declared.items.VDesign.{VDesign}
+use Rattle.v_tree.specs.Tokens.{is_name}
 use Rattle.v_exec.proofs.KeptExprs.{left-none, right-none, both-yes}
 use Rattle.v_exec.proofs.KeptStmts.{expr-kept, target-kept}
 use Rattle.v_exec.proofs.KeptRuns.{AllParts, agrees-if, part-agrees, parts-agree, range-bits, locals-agree, branch-good, stmt-good}
@@ -295,12 +300,41 @@ module-parts ms m at none =
     (left-none (repeated [] own) (items_broken ms m around m.items first) rest, right-none (repeated [] own) (items_broken ms m around m.items first) rest)
 
 -- The functions and processes of a module that is of the grammar and breaks no rule.
-pub module-narrow : (ms : List VModule) (m : VModule) (at n d : ℕ) → list_all is_item m.items ≡ true → module_broken ms m at ≡ [] → (functions_most m.items (scope_at n d m.items) ≤ 128) × ItemsNarrow (scope_at n d m.items) m.items
+pub module-narrow : (ms : List VModule) (m : VModule) (at n d : ℕ) → list_all is_item m.items ≡ true → module_broken ms m at ≡ [] → ModuleNarrow n d m.items
 module-narrow ms m at n d fits none =
     let first = at + (3 + ports_size m.ports) in
     let around : Around = record { scope = D.inside (declared_in m.items first) D.nowhere; leads_back = λ f. false } in
     let sc = scope_at n d m.items in
     let kept = module-parts ms m at none in
     let agree = module-agrees m.items first n d (λ f. false) in
-    (functions-kept ms m around sc (functions m.items) m.items first [] agree (λ name f is. found-function d (numbered n (signals m.items)) (functions m.items) name f is) (λ name fresh. refl) kept.0 fits kept.1,
-    items-narrow ms m around sc m.items first agree fits kept.1)
+    record {
+      functions = functions-kept ms m around sc (functions m.items) m.items first [] agree (λ name f is. found-function d (numbered n (signals m.items)) (functions m.items) name f is) (λ name fresh. refl) kept.0 fits kept.1;
+      processes = items-narrow ms m around sc m.items first agree fits kept.1;
+    }
+
+none-narrow : (n d : ℕ) → ModuleNarrow n d []
+none-narrow n d = record { functions = omega arith; processes = tt }
+
+narrow-if : (b : Bool) (n d : ℕ) (is js : List VItem) → ModuleNarrow n d is → ModuleNarrow n d js → ModuleNarrow n d (cond b is js)
+narrow-if true n d is js h g = h
+narrow-if false n d is js h g = g
+
+modules-narrow : (all ms : List VModule) (at n d : ℕ) (name : Name) → list_all is_module ms ≡ true → modules_broken all ms at ≡ [] → ModuleNarrow n d (P.items_of ms name)
+modules-narrow all [] at n d name fits none = none-narrow n d
+modules-narrow all (m ∷ ms) at n d name fits none =
+    let b = both-yes (is_module m) (list_all is_module ms) fits in
+    let items = both-yes (is_name m.name && list_all is_name m.ports) (list_all is_item m.items) b.0 in
+    narrow-if (bytes_eq m.name name) n d m.items (P.items_of ms name) (module-narrow all m at n d items.1 (left-none (module_broken all m at) (modules_broken all ms (at + module_size m)) none))
+    (modules-narrow all ms (at + module_size m) n d name b.1 (right-none (module_broken all m at) (modules_broken all ms (at + module_size m)) none))
+
+-- The modules of a design that is of the grammar and keeps the rules, in any instance and however deep calls go.
+pub design-narrow : (e : VDesign) (n d : ℕ) (name : Name) → is_of_grammar e ≡ true → Keeps e → ModuleNarrow n d (P.items_of e.modules name)
+design-narrow e n d name fits keeps = modules-narrow e.modules e.modules 0 n d name fits (right-none (repeated [] (module_names e.modules 0)) (modules_broken e.modules e.modules 0) keeps)
+
+-- the same where signals are looked up in a table
+pub scope-is : (first d : ℕ) (m : Module) → signals_in first m ≡ numbered first (signals m.items.now) → N.scope_in first d m ≡ scope_at first d m.items.now
+scope-is first d m is =
+    ap (λ (ns : List M.Named). record { names = ns; next = 0; callee = callees_within d ns (functions m.items.now) }) is
+
+pub functions-narrow : (first : ℕ) (m : Module) → signals_in first m ≡ numbered first (signals m.items.now) → ((d : ℕ) → ModuleNarrow first d m.items.now) → FunctionsNarrow first m
+functions-narrow first m is narrow d = subst (λ (sc : M.Scope). functions_most m.items.now sc ≤ 128) (sym (scope-is first d m is)) (narrow d).functions

@@ -9,7 +9,7 @@ use Rattle.v_meaning.specs.Modules.{signals, functions, numbered}
 use Rattle.v_meaning.specs.Statements.{target}
 use Rattle.v_eval.specs.Limits.{limits, most_given}
 use Rattle.v_run.specs.Limits.{target_most}
-use Rattle.v_exec.specs.Limits.{branch_most}
+use Rattle.v_exec.specs.Limits.{branch_most, functions_most}
 
 -- what names stand for in an instance whose signals are numbered from n on, where calls go so deep
 abbrev pub scope_at : ℕ → ℕ → List VItem → S.Scope
@@ -31,3 +31,8 @@ ItemNarrow sc (I.Instance i) = Unit {0}
 abbrev pub ItemsNarrow : S.Scope → List VItem → Type 0
 ItemsNarrow sc [] = Unit {0}
 ItemsNarrow sc (i ∷ is) = ItemNarrow sc i × ItemsNarrow sc is
+
+-- neither do its functions and its other processes
+pub record ModuleNarrow (n depth : ℕ) (items : List VItem) : Type 0 where
+  pub functions : functions_most items (scope_at n depth items) ≤ 128
+  pub processes : ItemsNarrow (scope_at n depth items) items
