@@ -1,33 +1,24 @@
 -- An expression that breaks no rule of the grammar does no arithmetic on over 128 bits.
-use Rattle.std.proofs.Common.{◌≡◌, ℕ, zero, suc, ◌+◌, ◌*◌, ◌-◌, ◌<◌, ◌≤◌, ◌==◌, max, Bool, true, false, not, ◌&&◌, cond, List, [], ◌∷◌, ◌++◌, length, map, Option, Some, None, refl, arith, ap, sym, ◌∙◌, subst}
+use Rattle.std.proofs.Common.{◌≡◌, ℕ, suc, ◌+◌, ◌*◌, ◌≤◌, ◌==◌, max, Bool, true, false, not, ◌&&◌, List, [], ◌∷◌, ◌++◌, length, map, Option, Some, None, refl, arith, ap, sym, ◌∙◌, subst}
 use Rattle.std.specs.Prelude.{nat_le, nat_lt, is_some, if◌then◌else◌}
-use Rattle.std.specs.List.{list_all}
 use Rattle.std.proofs.lemmas.Bool.Decides.{nat_tests}
-use Rattle.b4_core.specs.declared.bit.Bit4.{Bit4}
 use Rattle.v_tree.specs.Names.{Name}
-use Rattle.v_tree.specs.Grammatical.{Fit, all_fit, expr_fit, prim_fit, sel_fit, fit, fit_of_sel}
 use Rattle.v_tree.specs.Scopes.{Thing, value, memory, function, result, part, Selected, part_bits, selected_bits, word_bits, named_bits, called_bits}
 use Rattle.v_tree.specs.ExprRules as R
 use Rattle.v_tree.specs.ExprRules.{Around, Rules, SelRules, only_if, alone, total, listed_size, each_from, widths, selected_of, sels_broken, more_than, is_index, has_index, name_broken, sels_on, second_sel, args_broken, call_broken, inputs_of, Operation, kind_of, operation_width, too_wide, binary_rules, spreads, is_negative, expr_rules, prim_rules, sel_rules, rules_of, sel_rules_of}
-use Rattle.v_tree.specs.declared.expressions.VExpr.{VExpr, VExpr-F}
-use Rattle.v_tree.specs.declared.expressions.VExpr.TheVariants as E
+use Rattle.v_tree.specs.declared.expressions.VExpr.{VExpr-F}
 use Rattle.v_tree.specs.declared.expressions.VExtent.{VExtent}
 use Rattle.v_tree.specs.declared.expressions.VExtent.TheVariants.{Down, Up}
-use Rattle.v_tree.specs.declared.expressions.VPrim.{VPrim, VPrim-F, fold-VPrim}
-use Rattle.v_tree.specs.declared.expressions.VPrim.TheVariants as O
-use Rattle.v_tree.specs.declared.expressions.VSel.{VSel, VSel-F}
-use Rattle.v_tree.specs.declared.expressions.VSel.TheVariants as S
+use Rattle.v_tree.specs.declared.expressions.VPrim.{VPrim-F}
+use Rattle.v_tree.specs.declared.expressions.VSel.{VSel-F}
 use Rattle.v_tree.specs.declared.operators.VBinaryOp.{VBinaryOp}
 use Rattle.v_tree.specs.declared.operators.VBinaryOp.TheVariants as B
 use Rattle.v_tree.specs.declared.operators.VUnaryOp.{VUnaryOp}
 use Rattle.v_tree.specs.declared.operators.VUnaryOp.TheVariants as U
-use Rattle.v_tree.proofs.Induction as I
-use Rattle.v_tree.proofs.Induction.{Each}
-use Rattle.v_expr_rules.proofs.Levels as L
 use Rattle.v_meaning.specs.Scopes as M
 use Rattle.v_meaning.specs.Selects.{taken}
 use Rattle.v_meaning.specs.Values.{width_of}
-use Rattle.v_eval.specs.Limits.{Limits, SelLimits, expr_limits, prim_limits, sel_limits, limits, limits_of_prim, limits_of_sel, most_alone, most_given, most_of_all, most_of_sels, most_of_args, joined_wide}
+use Rattle.v_eval.specs.Limits.{Limits, SelLimits, expr_limits, prim_limits, sel_limits, most_alone, most_given, most_of_all, most_of_sels, most_of_args, joined_wide}
 use Rattle.v_eval.specs.Operators as V
 use Rattle.v_eval.specs.Operators.{prefix_of, infix_of, prefix_width, operand_width, prefix_most, infix_width, infix_most}
 use Rattle.v_eval.specs.Paths.{selecting}
@@ -250,9 +241,10 @@ pub name-kept : (around : Around) (sc : M.Scope) (name : Name) (ss : List SelRul
     → Kept around sc (prim_rules (VPrim-F.Name name ss)) (prim_limits (VPrim-F.Name name ls))
 name-kept around sc name ss ls agree few h w at none =
     let first = name_broken (around.scope name) ss at in
-    let second = sels_broken ss around (suc at) in
-    (thing-wide (around.scope name) (M.named sc.names name) (sc.callee name) ss ls at (agree name) (sels-alike around sc ss ls h) (sels-long around sc ss ls h) few (left-none first second none),
-    sels-narrow around sc ss ls (suc at) h (right-none first second none))
+    let second = sels_broken ss around (suc at) in (
+      thing-wide (around.scope name) (M.named sc.names name) (sc.callee name) ss ls at (agree name) (sels-alike around sc ss ls h) (sels-long around sc ss ls h) few (left-none first second none),
+      sels-narrow around sc ss ls (suc at) h (right-none first second none),
+    )
 
 -- lists of expressions
 abbrev pub AllKept : Around → M.Scope → List Rules → List Limits → Type 0

@@ -5,23 +5,22 @@ use Rattle.std.specs.List.{list_all}
 use Rattle.std.specs.Str.{bytes_eq}
 use Rattle.std.proofs.lemmas.Slice.Eq.{bytes_eq-Decides}
 use Rattle.v_tree.specs.Names.{Name}
-use Rattle.v_tree.specs.Grammatical.{Fit, Form, is_module, is_of_grammar, fit, fit_of_lval, form_of_stmt, form_of_branch, is_item, is_expr, is_lval, is_stmt, is_branch, is_function, is_sensitivity, has_some, is_declared as has_names, is_local}
+use Rattle.v_tree.specs.Grammatical.{is_connection, is_module, is_of_grammar, fit, fit_of_lval, form_of_stmt, form_of_branch, is_item, is_expr, is_lval, is_stmt, is_branch, is_function, is_sensitivity, has_some, is_declared as has_names, is_local}
 use Rattle.v_tree.specs.Reading.{nesting_limit}
 use Rattle.v_tree.specs.Scopes as D
 use Rattle.v_tree.specs.Scopes.{input, net, variable, Thing, value, memory, function, result, part, Declared, bits_of, has_range, repeated, is_declared}
-use Rattle.v_tree.specs.ExprRules.{Around, rules_of, alone}
+use Rattle.v_tree.specs.ExprRules.{Around, only_if, rules_of}
 use Rattle.v_tree.specs.StmtRules.{target_of, in_function, at_star, at_edges, range_size, locals_size, locals_from, rules_of_stmt, rules_of_branch}
 use Rattle.v_tree.specs.Rules as R
-use Rattle.v_tree.specs.Rules.{declared_signal, reg_thing, declared_by, declared_in, item_size, event_size, input_bits, function_token, function_names, function_broken, function_links, links_of, leads, item_broken, items_broken, process_broken, edges_broken, ports_size, ports_of, listed_ports, unlisted, undeclared, module_broken, module_size, module_names, modules_broken, Keeps}
+use Rattle.v_tree.specs.Rules.{declared_signal, reg_thing, declared_by, declared_in, item_size, event_size, input_bits, function_token, function_names, function_broken, function_links, links_of, leads, item_broken, items_broken, process_broken, edges_broken, ports_size, ports_of, listed_ports, unlisted, undeclared, module_broken, module_size, module_names, modules_broken, module_named, module_links, child_broken, Keeps}
 use Rattle.v_tree.specs.declared.expressions.VExpr.{VExpr}
-use Rattle.v_tree.specs.declared.items.VEdge.{VEdge}
 use Rattle.v_tree.specs.declared.items.VFunction.{VFunction}
 use Rattle.v_tree.specs.declared.items.VInit.{VInit}
+use Rattle.v_tree.specs.declared.items.VInstance.{VInstance}
 use Rattle.v_tree.specs.declared.items.VItem.{VItem}
 use Rattle.v_tree.specs.declared.items.VItem.TheVariants as I
 use Rattle.v_tree.specs.declared.items.VLocal.{VLocal}
 use Rattle.v_tree.specs.declared.items.VModule.{VModule}
-use Rattle.v_tree.specs.declared.items.VProcess.{VProcess}
 use Rattle.v_tree.specs.declared.items.VProcess.TheVariants.{Assign, Always}
 use Rattle.v_tree.specs.declared.items.VRegRest.{VRegRest}
 use Rattle.v_tree.specs.declared.items.VRegRest.TheVariants as G
@@ -32,22 +31,23 @@ use Rattle.v_tree.specs.declared.items.VSignal.TheVariants.{Input, Output, Outpu
 use Rattle.v_tree.specs.declared.statements.VBranch.{VBranch}
 use Rattle.v_tree.specs.declared.statements.VLval.{VLval}
 use Rattle.v_meaning.specs.Scopes as M
-use Rattle.v_meaning.specs.Functions.{result_of, inputs_of, locals_of, scope_in, find, callees_within, callee_or_absent, callee_of, not_run}
+use Rattle.v_meaning.specs.Functions.{result_of, locals_of, scope_in, find, callees_within, callee_or_absent}
 use Rattle.v_meaning.specs.Modules as P
 use Rattle.v_meaning.specs.Modules.{Signal, signal, signals, functions, numbered}
 use Rattle.v_meaning.specs.Statements.{target, declared}
 use Rattle.v_eval.specs.Limits.{limits, most_given}
 use Rattle.v_eval.specs.Scopes.{callee_within}
 use Rattle.v_run.specs.Limits.{target_most}
-use Rattle.v_exec.specs.Agreeing.{ThingAgrees, Agrees, IsVector, IsFunction}
+use Rattle.v_exec.specs.Agreeing.{ThingAgrees, Agrees, IsFunction}
 use Rattle.v_exec.specs.Limits.{stmt_most, branch_most, functions_most}
-use Rattle.v_exec.specs.Keeping.{scope_at, ItemNarrow, ItemsNarrow, ModuleNarrow}
+use Rattle.v_exec.specs.Keeping.{scope_at, LinksNarrow, ItemNarrow, ItemsNarrow, ModuleNarrow}
 use Rattle.v_exec.specs.Modules as N
 use Rattle.v_exec.specs.Modules.{signals_in, FunctionsNarrow}
 use Rattle.v_eval.specs.declared.modules.Module.{Module}
 use Rattle.v_tree.specs.declared.items.VDesign.{VDesign}
 use Rattle.v_tree.specs.Tokens.{is_name}
 use Rattle.v_exec.proofs.KeptExprs.{left-none, right-none, both-yes}
+use Rattle.v_exec.proofs.KeptLinks.{links-narrow}
 use Rattle.v_exec.proofs.KeptStmts.{expr-kept, target-kept}
 use Rattle.v_exec.proofs.KeptRuns.{AllParts, agrees-if, part-agrees, parts-agree, range-bits, locals-agree, branch-good, stmt-good}
 
@@ -267,21 +267,37 @@ always-narrow around sc (Edges es) body at agree fits none =
     (branch-good body).1 (both-yes (form_of_branch body).fits (nat_le (form_of_branch body).depth nesting_limit) fits).0 around sc at_edges from agree
     (right-none (edges_broken around.scope es (at + 4)) ((rules_of_branch body).broken at_edges around from) none)
 
-item-narrow : (ms : List VModule) (m : VModule) (around : Around) (sc : M.Scope) (i : VItem) (at : ℕ) → Agrees around sc → is_item i ≡ true → item_broken ms m around i at ≡ [] → ItemNarrow sc i
+named-here : (b : Bool) (m k : VModule) (o : Option VModule) (is : List VItem) → (if b then Some m else o) ≡ Some k → (o ≡ Some k → is ≡ k.items) → cond b m.items is ≡ k.items
+named-here true m k o is e h = let same : m ≡ k = cc in ap (λ (x : VModule). x.items) same
+named-here false m k o is e h = h e
+
+items-named : (ms : List VModule) (name : Name) (k : VModule) → module_named ms name ≡ Some k → P.items_of ms name ≡ k.items
+items-named [] name k e = absurd (cc)
+items-named (m ∷ ms) name k e = named-here (bytes_eq m.name name) m k (module_named ms name) (P.items_of ms name) e (items-named ms name k)
+
+child-narrow : (ms : List VModule) (around : Around) (sc : M.Scope) (i : VInstance) (o : Option VModule) (at : ℕ) → Agrees around sc → list_all is_connection i.connections ≡ true → module_named ms i.of ≡ o → child_broken around o i at ≡ []
+    → LinksNarrow sc (P.items_of ms i.of) i.connections
+child-narrow ms around sc i None at agree fits is none = absurd (cc)
+child-narrow ms around sc i (Some k) at agree fits is none =
+    subst (λ js. LinksNarrow sc js i.connections) (sym (items-named ms i.of k is)) (links-narrow around sc k.items [] i.connections (at + 3) agree fits none)
+
+item-narrow : (ms : List VModule) (m : VModule) (around : Around) (sc : M.Scope) (i : VItem) (at : ℕ) → Agrees around sc → is_item i ≡ true → item_broken ms m around i at ≡ [] → ItemNarrow ms sc i
 item-narrow ms m around sc (I.Signal s) at agree fits none = tt
 item-narrow ms m around sc (I.Initial s) at agree fits none = tt
 item-narrow ms m around sc (I.Process (Assign to x)) at agree fits none =
     let b = both-yes (is_lval to) (is_expr x) fits in assign-narrow around sc to x at agree b.0 b.1 none
 item-narrow ms m around sc (I.Process (Always on body)) at agree fits none = always-narrow around sc on body at agree (both-yes (is_sensitivity on) (is_branch body) fits).1 none
 item-narrow ms m around sc (I.Function f) at agree fits none = tt
-item-narrow ms m around sc (I.Instance s) at agree fits none = tt
+item-narrow ms m around sc (I.Instance s) at agree fits none =
+    child-narrow ms around sc s (module_named ms s.of) at agree (both-yes (is_name s.of && is_name s.name) (list_all is_connection s.connections) fits).1 refl (right-none (only_if (leads (length ms) (module_links ms) s.of m.name) at) (child_broken around (module_named ms s.of) s at) none)
 
-items-narrow : (ms : List VModule) (m : VModule) (around : Around) (sc : M.Scope) (is : List VItem) (at : ℕ) → Agrees around sc → list_all is_item is ≡ true → items_broken ms m around is at ≡ [] → ItemsNarrow sc is
+items-narrow : (ms : List VModule) (m : VModule) (around : Around) (sc : M.Scope) (is : List VItem) (at : ℕ) → Agrees around sc → list_all is_item is ≡ true → items_broken ms m around is at ≡ [] → ItemsNarrow ms sc is
 items-narrow ms m around sc [] at agree fits none = tt
 items-narrow ms m around sc (i ∷ is) at agree fits none =
-    let b = both-yes (is_item i) (list_all is_item is) fits in
-    (item-narrow ms m around sc i at agree b.0 (left-none (item_broken ms m around i at) (items_broken ms m around is (at + item_size i)) none),
-    items-narrow ms m around sc is (at + item_size i) agree b.1 (right-none (item_broken ms m around i at) (items_broken ms m around is (at + item_size i)) none))
+    let b = both-yes (is_item i) (list_all is_item is) fits in (
+      item-narrow ms m around sc i at agree b.0 (left-none (item_broken ms m around i at) (items_broken ms m around is (at + item_size i)) none),
+      items-narrow ms m around sc is (at + item_size i) agree b.1 (right-none (item_broken ms m around i at) (items_broken ms m around is (at + item_size i)) none),
+    )
 
 -- a module
 module-parts : (ms : List VModule) (m : VModule) (at : ℕ) → module_broken ms m at ≡ []
@@ -300,7 +316,7 @@ module-parts ms m at none =
     (left-none (repeated [] own) (items_broken ms m around m.items first) rest, right-none (repeated [] own) (items_broken ms m around m.items first) rest)
 
 -- The functions and processes of a module that is of the grammar and breaks no rule.
-pub module-narrow : (ms : List VModule) (m : VModule) (at n d : ℕ) → list_all is_item m.items ≡ true → module_broken ms m at ≡ [] → ModuleNarrow n d m.items
+pub module-narrow : (ms : List VModule) (m : VModule) (at n d : ℕ) → list_all is_item m.items ≡ true → module_broken ms m at ≡ [] → ModuleNarrow ms n d m.items
 module-narrow ms m at n d fits none =
     let first = at + (3 + ports_size m.ports) in
     let around : Around = record { scope = D.inside (declared_in m.items first) D.nowhere; leads_back = λ f. false } in
@@ -312,23 +328,23 @@ module-narrow ms m at n d fits none =
       processes = items-narrow ms m around sc m.items first agree fits kept.1;
     }
 
-none-narrow : (n d : ℕ) → ModuleNarrow n d []
-none-narrow n d = record { functions = omega arith; processes = tt }
+none-narrow : (ms : List VModule) (n d : ℕ) → ModuleNarrow ms n d []
+none-narrow ms n d = record { functions = omega arith; processes = tt }
 
-narrow-if : (b : Bool) (n d : ℕ) (is js : List VItem) → ModuleNarrow n d is → ModuleNarrow n d js → ModuleNarrow n d (cond b is js)
-narrow-if true n d is js h g = h
-narrow-if false n d is js h g = g
+narrow-if : (ms : List VModule) (b : Bool) (n d : ℕ) (is js : List VItem) → ModuleNarrow ms n d is → ModuleNarrow ms n d js → ModuleNarrow ms n d (cond b is js)
+narrow-if ms true n d is js h g = h
+narrow-if ms false n d is js h g = g
 
-modules-narrow : (all ms : List VModule) (at n d : ℕ) (name : Name) → list_all is_module ms ≡ true → modules_broken all ms at ≡ [] → ModuleNarrow n d (P.items_of ms name)
-modules-narrow all [] at n d name fits none = none-narrow n d
+modules-narrow : (all ms : List VModule) (at n d : ℕ) (name : Name) → list_all is_module ms ≡ true → modules_broken all ms at ≡ [] → ModuleNarrow all n d (P.items_of ms name)
+modules-narrow all [] at n d name fits none = none-narrow all n d
 modules-narrow all (m ∷ ms) at n d name fits none =
     let b = both-yes (is_module m) (list_all is_module ms) fits in
     let items = both-yes (is_name m.name && list_all is_name m.ports) (list_all is_item m.items) b.0 in
-    narrow-if (bytes_eq m.name name) n d m.items (P.items_of ms name) (module-narrow all m at n d items.1 (left-none (module_broken all m at) (modules_broken all ms (at + module_size m)) none))
+    narrow-if all (bytes_eq m.name name) n d m.items (P.items_of ms name) (module-narrow all m at n d items.1 (left-none (module_broken all m at) (modules_broken all ms (at + module_size m)) none))
     (modules-narrow all ms (at + module_size m) n d name b.1 (right-none (module_broken all m at) (modules_broken all ms (at + module_size m)) none))
 
 -- The modules of a design that is of the grammar and keeps the rules, in any instance and however deep calls go.
-pub design-narrow : (e : VDesign) (n d : ℕ) (name : Name) → is_of_grammar e ≡ true → Keeps e → ModuleNarrow n d (P.items_of e.modules name)
+pub design-narrow : (e : VDesign) (n d : ℕ) (name : Name) → is_of_grammar e ≡ true → Keeps e → ModuleNarrow e.modules n d (P.items_of e.modules name)
 design-narrow e n d name fits keeps = modules-narrow e.modules e.modules 0 n d name fits (right-none (repeated [] (module_names e.modules 0)) (modules_broken e.modules e.modules 0) keeps)
 
 -- the same where signals are looked up in a table
@@ -336,5 +352,5 @@ pub scope-is : (first d : ℕ) (m : Module) → signals_in first m ≡ numbered 
 scope-is first d m is =
     ap (λ (ns : List M.Named). record { names = ns; next = 0; callee = callees_within d ns (functions m.items.now) }) is
 
-pub functions-narrow : (first : ℕ) (m : Module) → signals_in first m ≡ numbered first (signals m.items.now) → ((d : ℕ) → ModuleNarrow first d m.items.now) → FunctionsNarrow first m
-functions-narrow first m is narrow d = subst (λ (sc : M.Scope). functions_most m.items.now sc ≤ 128) (sym (scope-is first d m is)) (narrow d).functions
+pub functions-narrow : (ms : List VModule) (first : ℕ) (m : Module) → signals_in first m ≡ numbered first (signals m.items.now) → ((d : ℕ) → ModuleNarrow ms first d m.items.now) → FunctionsNarrow first m
+functions-narrow ms first m is narrow d = subst (λ (sc : M.Scope). functions_most m.items.now sc ≤ 128) (sym (scope-is first d m is)) (narrow d).functions

@@ -1,12 +1,12 @@
 -- A statement that breaks no rule of the grammar does no arithmetic on over 128 bits.
-use Rattle.std.proofs.Common.{◌≡◌, ℕ, zero, suc, ◌+◌, ◌≤◌, max, Bool, true, false, not, ◌&&◌, cond, List, [], ◌∷◌, ◌++◌, length, map, Option, Some, None, refl, arith, ap, sym, ◌∙◌, subst}
+use Rattle.std.proofs.Common.{◌≡◌, ℕ, suc, ◌+◌, ◌≤◌, max, Bool, true, false, ◌&&◌, cond, List, [], ◌∷◌, ◌++◌, map, Option, Some, None, refl, arith, ap, sym, ◌∙◌, subst}
 use Rattle.std.specs.Prelude.{if◌then◌else◌}
 use Rattle.std.specs.Str.{bytes_eq}
 use Rattle.v_tree.specs.Names.{Name}
-use Rattle.v_tree.specs.Grammatical.{Fit, Form, all_fit, has_some, is_perhaps, is_label, one_default, all_of_form, fit, fit_of_lval, branch_form, item_form, stmt_form, form_of_stmt, form_of_branch}
+use Rattle.v_tree.specs.Grammatical.{Form, all_fit, has_some, is_perhaps, is_label, one_default, all_of_form, fit, fit_of_lval, branch_form, item_form, stmt_form, form_of_stmt, form_of_branch}
 use Rattle.v_tree.specs.Scopes as D
 use Rattle.v_tree.specs.Scopes.{local, Thing, value, part, Declared, bits_of, has_range, repeated}
-use Rattle.v_tree.specs.ExprRules.{Around, Rules, only_if, alone, each_from, listed_size, rules_of}
+use Rattle.v_tree.specs.ExprRules.{Around, Rules, only_if, alone, listed_size, rules_of}
 use Rattle.v_tree.specs.StmtRules as Q
 use Rattle.v_tree.specs.StmtRules.{target_of, Procedure, mark_breaks, StmtRules, ItemRules, locals_from, locals_size, blocks_in, stmts_broken, branch_rules, values_at, widest, widest_item, item_rules, bodies, item_values, else_rules, block_rules, stmt_rules, rules_of_stmt, rules_of_branch}
 use Rattle.v_tree.specs.declared.expressions.VExpr.{VExpr}
@@ -23,14 +23,13 @@ use Rattle.v_tree.specs.declared.statements.VStmt.TheVariants as T
 use Rattle.v_tree.proofs.Induction as I
 use Rattle.v_tree.proofs.Induction.{Each, Perhaps}
 use Rattle.v_meaning.specs.Scopes as M
-use Rattle.v_meaning.specs.Statements.{target, declared, inside, locals_of}
+use Rattle.v_meaning.specs.Statements.{target, declared, inside}
 use Rattle.v_eval.specs.Limits.{Limits, limits, most_alone, most_given}
-use Rattle.v_run.specs.Limits.{target_most}
-use Rattle.v_exec.specs.Agreeing.{ThingAgrees, Agrees, IsVector}
+use Rattle.v_exec.specs.Agreeing.{ThingAgrees, Agrees}
 use Rattle.v_exec.specs.Limits.{ItemLimits, branch_limits, item_limits, stmt_limits, stmt_most, branch_most, limits_of_item, widest_of, most_at, most_compared, most_in_turn, values_in, bodies_in}
 use Rattle.v_exec.proofs.Choosing.{widest-both, most-both}
 use Rattle.v_exec.proofs.Forms as F
-use Rattle.v_exec.proofs.KeptExprs.{Kept, AllKept, left-none, right-none, both-yes}
+use Rattle.v_exec.proofs.KeptExprs.{AllKept, left-none, right-none, both-yes}
 use Rattle.v_exec.proofs.KeptStmts.{three-yes, expr-kept, target-kept}
 
 -- names of blocks
@@ -64,7 +63,7 @@ part-agrees t n c is = subst (λ x. ThingAgrees (Some x) n c) (sym is) tt
 pub parts-agree : (ds : List Declared) (outer : D.Scope) (name : Name) (n : M.Named) (c : M.Callee) → AllParts ds → ThingAgrees (outer name) n c → ThingAgrees (D.inside ds outer name) n c
 parts-agree [] outer name n c h g = g
 parts-agree (d ∷ ds) outer name n c h g = by (bytes_eq d.name name)
-  (parts-agree ds outer name n c h.1 g)
+    (parts-agree ds outer name n c h.1 g)
   where
     by : (b : Bool) → ThingAgrees (D.inside ds outer name) n c → ThingAgrees (if b then Some d.thing else D.inside ds outer name) n c
     by true rest = part-agrees d.thing n c h.0
@@ -271,21 +270,23 @@ block-parts (Some l) rs h at = (refl, tt)
 if-good : (on : VExpr) (b : VBranch) (o : Option VBranch) → BranchGood b → Perhaps BranchGood o → StmtGood (T.If on b o)
 if-good on b None h g =
     good-as (rules_of_stmt (T.If on b None)) (stmt_rules (VStmt-F.If on (rules_of_branch b) None)) (stmt_most (T.If on b None)) (stmt_limits (VStmt-F.If on (branch_most b) None)) (form_of_stmt (T.If on b None))
-    (stmt_form (VStmt-F.If on (form_of_branch b) None)) (F.at-if branch_rules item_rules stmt_rules on b) (F.at-if branch_limits item_limits stmt_limits on b) (F.at-if branch_form item_form stmt_form on b)
-    ((λ at. parts-both ((rules_of_branch b).blocks (at + (3 + (rules_of on).size))) [] (h.0 (at + (3 + (rules_of on).size))) tt),
-    λ f. (let x = both-yes (fit on).fits (form_of_branch b).fits f in if-kept on (rules_of_branch b) (branch_most b) x.0 (h.1 x.1)))
+    (stmt_form (VStmt-F.If on (form_of_branch b) None)) (F.at-if branch_rules item_rules stmt_rules on b) (F.at-if branch_limits item_limits stmt_limits on b) (F.at-if branch_form item_form stmt_form on b) (
+      (λ at. parts-both ((rules_of_branch b).blocks (at + (3 + (rules_of on).size))) [] (h.0 (at + (3 + (rules_of on).size))) tt),
+      λ f. (let x = both-yes (fit on).fits (form_of_branch b).fits f in if-kept on (rules_of_branch b) (branch_most b) x.0 (h.1 x.1)),
+    )
 if-good on b (Some c) h g =
     good-as (rules_of_stmt (T.If on b (Some c))) (stmt_rules (VStmt-F.If on (rules_of_branch b) (Some (rules_of_branch c)))) (stmt_most (T.If on b (Some c))) (stmt_limits (VStmt-F.If on (branch_most b) (Some (branch_most c))))
     (form_of_stmt (T.If on b (Some c))) (stmt_form (VStmt-F.If on (form_of_branch b) (Some (form_of_branch c)))) (F.at-else branch_rules item_rules stmt_rules on b c) (F.at-else branch_limits item_limits stmt_limits on b c)
-    (F.at-else branch_form item_form stmt_form on b c)
-    ((λ at. parts-both ((rules_of_branch b).blocks (at + (3 + (rules_of on).size))) ((rules_of_branch c).blocks (suc (at + (3 + ((rules_of on).size + (rules_of_branch b).size))))) (h.0 (at + (3 + (rules_of on).size)))
-    (g.0 (suc (at + (3 + ((rules_of on).size + (rules_of_branch b).size)))))),
-    λ f.
-    (
-    let all = both-yes ((fit on).fits && (form_of_branch b).fits && (form_of_branch b).closed) (form_of_branch c).fits f in
-    let x = three-yes (fit on).fits (form_of_branch b).fits (form_of_branch b).closed all.0 in
-    else-kept on (rules_of_branch b) (rules_of_branch c) (branch_most b) (branch_most c) x.0 (h.1 x.1.0) (g.1 all.1)
-    ))
+    (F.at-else branch_form item_form stmt_form on b c) (
+      (λ at. parts-both ((rules_of_branch b).blocks (at + (3 + (rules_of on).size))) ((rules_of_branch c).blocks (suc (at + (3 + ((rules_of on).size + (rules_of_branch b).size))))) (h.0 (at + (3 + (rules_of on).size)))
+          (g.0 (suc (at + (3 + ((rules_of on).size + (rules_of_branch b).size)))))),
+      λ f.
+          (
+          let all = both-yes ((fit on).fits && (form_of_branch b).fits && (form_of_branch b).closed) (form_of_branch c).fits f in
+          let x = three-yes (fit on).fits (form_of_branch b).fits (form_of_branch b).closed all.0 in
+          else-kept on (rules_of_branch b) (rules_of_branch c) (branch_most b) (branch_most c) x.0 (h.1 x.1.0) (g.1 all.1)
+          ),
+    )
 
 stmt-steps : I.StmtSteps BranchGood ItemGood StmtGood
 stmt-steps = record {
@@ -294,31 +295,34 @@ stmt-steps = record {
   branch-empty = good-as (rules_of_branch G.Empty) (branch_rules VBranch-F.Empty) (branch_most G.Empty) (λ sc. 0) (form_of_branch G.Empty) (branch_form VBranch-F.Empty) (F.at-empty branch_rules item_rules stmt_rules)
       (F.at-empty branch_limits item_limits stmt_limits) (F.at-empty branch_form item_form stmt_form) ((λ at. tt), λ f around sc p at agree none. omega arith);
   case-item = λ vs b h. item-as (item_rules_of (C.Item vs b)) (item_rules (VCaseItem-F.Item vs (rules_of_branch b))) (limits_of_item (C.Item vs b)) (item_limits (VCaseItem-F.Item vs (branch_most b))) (form_of_item (C.Item vs b))
-      (item_form (VCaseItem-F.Item vs (form_of_branch b))) (F.at-item branch_rules item_rules stmt_rules vs b) (F.at-item branch_limits item_limits stmt_limits vs b) (F.at-item branch_form item_form stmt_form vs b)
-      ((λ at. h.0 (at + suc (listed_size (map rules_of vs)))),
-      λ f.
-      (
-      let x = three-yes (has_some vs) (all_fit (map fit vs)) (form_of_branch b).fits f in
-      ((λ around sc p at agree none. h.1 x.1.1 around sc p (at + suc (listed_size (map rules_of vs))) agree none), values-good vs x.1.0)
-      ));
+      (item_form (VCaseItem-F.Item vs (form_of_branch b))) (F.at-item branch_rules item_rules stmt_rules vs b) (F.at-item branch_limits item_limits stmt_limits vs b) (F.at-item branch_form item_form stmt_form vs b) (
+        (λ at. h.0 (at + suc (listed_size (map rules_of vs)))),
+        λ f.
+            (
+            let x = three-yes (has_some vs) (all_fit (map fit vs)) (form_of_branch b).fits f in
+            ((λ around sc p at agree none. h.1 x.1.1 around sc p (at + suc (listed_size (map rules_of vs))) agree none), values-good vs x.1.0)
+            ),
+      );
   case-default = λ b h. item-as (item_rules_of (C.Default b)) (item_rules (VCaseItem-F.Default (rules_of_branch b))) (limits_of_item (C.Default b)) (item_limits (VCaseItem-F.Default (branch_most b))) (form_of_item (C.Default b))
       (item_form (VCaseItem-F.Default (form_of_branch b))) (F.at-default branch_rules item_rules stmt_rules b) (F.at-default branch_limits item_limits stmt_limits b) (F.at-default branch_form item_form stmt_form b)
       ((λ at. h.0 (at + 2)), λ f. ((λ around sc p at agree none. h.1 f around sc p (at + 2) agree none), λ around sc agree. tt));
   stmt-block = λ label ss h. good-as (rules_of_stmt (T.Block label ss)) (block_rules label (map rules_of_stmt ss)) (stmt_most (T.Block label ss)) (stmt_limits (VStmt-F.Block label (map stmt_most ss))) (form_of_stmt (T.Block label ss))
-      (stmt_form (VStmt-F.Block label (map form_of_stmt ss))) (F.at-block branch_rules item_rules stmt_rules label ss) (F.at-block branch_limits item_limits stmt_limits label ss) (F.at-block branch_form item_form stmt_form label ss)
-      (block-parts label (map rules_of_stmt ss) (all-blocks ss h),
-      λ f. (let x = both-yes (is_perhaps is_label label) (all_of_form (map form_of_stmt ss)) f in block-kept label (map rules_of_stmt ss) (map stmt_most ss) (all-blocks ss h) (all-stmts ss h x.1)));
+      (stmt_form (VStmt-F.Block label (map form_of_stmt ss))) (F.at-block branch_rules item_rules stmt_rules label ss) (F.at-block branch_limits item_limits stmt_limits label ss) (F.at-block branch_form item_form stmt_form label ss) (
+        block-parts label (map rules_of_stmt ss) (all-blocks ss h),
+        λ f. (let x = both-yes (is_perhaps is_label label) (all_of_form (map form_of_stmt ss)) f in block-kept label (map rules_of_stmt ss) (map stmt_most ss) (all-blocks ss h) (all-stmts ss h x.1)),
+      );
   stmt-if = λ on b o h g. if-good on b o h g;
   stmt-case = λ kind on is h. good-as (rules_of_stmt (T.Case kind on is)) (stmt_rules (VStmt-F.Case kind on (map item_rules_of is))) (stmt_most (T.Case kind on is)) (stmt_limits (VStmt-F.Case kind on (map limits_of_item is)))
       (form_of_stmt (T.Case kind on is)) (stmt_form (VStmt-F.Case kind on (map form_of_item is))) (F.at-case branch_rules item_rules stmt_rules kind on is) (F.at-case branch_limits item_limits stmt_limits kind on is)
-      (F.at-case branch_form item_form stmt_form kind on is)
-      ((λ at. blocks-in (bodies (map item_rules_of is)) (at + (3 + (rules_of on).size)) (item-blocks is h)),
-      λ f.
-      (
-      let all = both-yes ((fit on).fits && has_some (map form_of_item is) && one_default (map form_of_item is)) (all_of_form (map form_of_item is)) f in
-      let x = three-yes (fit on).fits (has_some (map form_of_item is)) (one_default (map form_of_item is)) all.0 in
-      case-kept kind on (map item_rules_of is) (map limits_of_item is) x.0 (all-items is h all.1)
-      ));
+      (F.at-case branch_form item_form stmt_form kind on is) (
+        (λ at. blocks-in (bodies (map item_rules_of is)) (at + (3 + (rules_of on).size)) (item-blocks is h)),
+        λ f.
+            (
+            let all = both-yes ((fit on).fits && has_some (map form_of_item is) && one_default (map form_of_item is)) (all_of_form (map form_of_item is)) f in
+            let x = three-yes (fit on).fits (has_some (map form_of_item is)) (one_default (map form_of_item is)) all.0 in
+            case-kept kind on (map item_rules_of is) (map limits_of_item is) x.0 (all-items is h all.1)
+            ),
+      );
   stmt-assign = λ to x later. good-as (rules_of_stmt (T.Assign to x later)) (stmt_rules (VStmt-F.Assign to x later)) (stmt_most (T.Assign to x later)) (stmt_limits (VStmt-F.Assign to x later)) (form_of_stmt (T.Assign to x later))
       (stmt_form (VStmt-F.Assign to x later)) (F.at-assign branch_rules item_rules stmt_rules to x later) (F.at-assign branch_limits item_limits stmt_limits to x later) (F.at-assign branch_form item_form stmt_form to x later)
       ((λ at. tt), λ f. (let y = both-yes (fit_of_lval to).fits (fit x).fits f in assign-kept to x later y.0 y.1));

@@ -1,51 +1,33 @@
 -- A statement that breaks no rule of the grammar does no arithmetic on over 128 bits.
-use Rattle.std.proofs.Common.{◌≡◌, ℕ, zero, suc, ◌+◌, ◌<◌, ◌≤◌, max, Bool, true, false, not, ◌&&◌, cond, List, [], ◌∷◌, ◌++◌, length, map, Option, Some, None, refl, arith, ap, sym, ◌∙◌, subst}
-use Rattle.std.specs.Prelude.{nat_le, ⊤, if◌then◌else◌}
-use Rattle.std.specs.Str.{bytes_eq}
+use Rattle.std.proofs.Common.{◌≡◌, ℕ, suc, ◌+◌, ◌≤◌, Bool, true, ◌&&◌, List, [], ◌∷◌, length, map, Some, None, refl, arith, ap, sym, ◌∙◌, subst}
+use Rattle.std.specs.Prelude.{nat_le, ⊤}
 use Rattle.std.proofs.lemmas.List.{length-map}
 use Rattle.v_tree.specs.Names.{Name}
 use Rattle.v_tree.specs.Tokens.{is_name}
-use Rattle.v_tree.specs.Grammatical.{Fit, Form, is_decimal, is_extent, all_fit, has_some, is_perhaps, is_label, one_default, all_of_form, expr_fit, prim_fit, sel_fit, fit, fit_of_sel, lval_fit, fit_of_lval, branch_form, item_form, stmt_form, form_of_stmt, form_of_branch}
-use Rattle.v_tree.specs.Scopes as D
-use Rattle.v_tree.specs.Scopes.{local, Thing, value, part, Declared, bits_of, has_range, named_bits}
-use Rattle.v_tree.specs.ExprRules as R
-use Rattle.v_tree.specs.ExprRules.{Around, Rules, SelRules, only_if, alone, total, each_from, selected_of, sels_broken, name_broken, expr_rules, prim_rules, sel_rules, rules_of, sel_rules_of}
+use Rattle.v_tree.specs.Grammatical.{Fit, is_decimal, is_extent, all_fit, has_some, is_perhaps, expr_fit, prim_fit, sel_fit, fit, fit_of_sel, lval_fit, fit_of_lval}
+use Rattle.v_tree.specs.ExprRules.{Around, Rules, SelRules, total, expr_rules, prim_rules, sel_rules, rules_of, sel_rules_of}
 use Rattle.v_tree.specs.StmtRules as Q
 use Rattle.v_tree.specs.StmtRules.{each_target, lval_target, target_of, Procedure, StmtRules, ItemRules, locals_from, locals_size, blocks_in, stmts_broken, branch_rules, values_at, widest, widest_item, item_rules, bodies, item_values, else_rules, block_rules, stmt_rules, rules_of_stmt, rules_of_branch}
 use Rattle.v_tree.specs.declared.expressions.VExpr.{VExpr, VExpr-F}
 use Rattle.v_tree.specs.declared.expressions.VExpr.TheVariants as E
-use Rattle.v_tree.specs.declared.expressions.VExtent.{VExtent}
 use Rattle.v_tree.specs.declared.expressions.VPrim.{VPrim, VPrim-F, fold-VPrim}
 use Rattle.v_tree.specs.declared.expressions.VPrim.TheVariants as O
 use Rattle.v_tree.specs.declared.expressions.VSel.{VSel, VSel-F}
 use Rattle.v_tree.specs.declared.expressions.VSel.TheVariants as S
-use Rattle.v_tree.specs.declared.items.VLocal.{VLocal}
-use Rattle.v_tree.specs.declared.statements.VBranch.{VBranch}
-use Rattle.v_tree.specs.declared.statements.VBranch.TheVariants as G
-use Rattle.v_tree.specs.declared.statements.VCaseItem.{VCaseItem}
-use Rattle.v_tree.specs.declared.statements.VCaseItem.TheVariants as C
-use Rattle.v_tree.specs.declared.statements.VCaseKind.{VCaseKind}
-use Rattle.v_tree.specs.declared.statements.VLabel.{VLabel}
 use Rattle.v_tree.specs.declared.statements.VLval.{VLval, VLval-F, fold-roll-VLval}
 use Rattle.v_tree.specs.declared.statements.VLval.TheVariants as W
-use Rattle.v_tree.specs.declared.statements.VStmt.{VStmt}
-use Rattle.v_tree.specs.declared.statements.VStmt.TheVariants as T
 use Rattle.v_tree.proofs.Induction as I
 use Rattle.v_tree.proofs.Induction.{Each, Perhaps}
 use Rattle.v_expr_rules.proofs.Levels as L
 use Rattle.v_meaning.specs.Scopes as M
 use Rattle.v_meaning.specs.Selects.{SelMeaning, Path, start, select, width_from}
 use Rattle.v_meaning.specs.Values.{meaning, sel_meaning, expr_step, prim_step, sel_step, width_of}
-use Rattle.v_meaning.specs.Statements.{Target, target, name_target, joined_target, parts_width, declared, inside, locals_of}
-use Rattle.v_eval.specs.Limits.{Limits, SelLimits, expr_limits, prim_limits, sel_limits, limits, limits_of_prim, limits_of_sel, most_alone, most_given, most_of_sels}
+use Rattle.v_meaning.specs.Statements.{Target, target, name_target, joined_target, parts_width}
+use Rattle.v_eval.specs.Limits.{Limits, SelLimits, expr_limits, prim_limits, sel_limits, limits, limits_of_prim, limits_of_sel}
 use Rattle.v_eval.specs.Paths.{selecting}
 use Rattle.v_run.specs.Limits.{target_most, lval_limits, most_of_parts}
 use Rattle.v_run.proofs.Targeted.{is-name, is-concat}
-use Rattle.v_exec.specs.Agreeing.{ThingAgrees, Agrees}
-use Rattle.v_exec.specs.Limits as Z
-use Rattle.v_exec.specs.Limits.{ItemLimits, branch_limits, item_limits, stmt_limits, stmt_most, branch_most, limits_of_item, widest_of, most_at, most_compared, most_in_turn, values_in, bodies_in}
-use Rattle.v_exec.proofs.Choosing.{widest-both, most-both}
-use Rattle.v_exec.proofs.Forms as F
+use Rattle.v_exec.specs.Agreeing.{Agrees}
 use Rattle.v_exec.proofs.KeptExprs as K
 use Rattle.v_exec.proofs.KeptExprs.{Kept, SelKept, SelsKept, AllKept, left-none, right-none, not-if, both-yes}
 
@@ -259,17 +241,19 @@ module _ (around : Around) (sc : M.Scope) (agree : Agrees around sc) where
         let all = fits-as (fit_of_lval (W.Name n ss)) (lval_fit (VLval-F.Name n ss)) (fit-name n ss) f in
         let b = (three-yes (is_name n) (nat_le (length ss) 2) (all_fit (map fit_of_sel ss)) all).1 in
         let short : nat_le (length (map fit_of_sel ss)) 2 ≡ true = ap (λ k. nat_le k 2) (length-map ss fit_of_sel) ∙ b.0 in
-        let kept = K.name-kept around sc n (map sel_rules_of ss) (map limits_of_sel ss) agree (few ss short) (each-sel ss b.1) 0 at (subst (λ (t : Q.Target). t.broken around at ≡ []) (rules-name n ss) none) in
-        (ap (λ (t : Target). t.width sc) (is-name (W.Name n ss) n ss refl) ∙ name-width n ss ∙ kept.0 ∙ sym (ap (λ (t : Q.Target). t.width around) (rules-name n ss)),
-        subst (λ (m : M.Scope → ℕ). m sc ≤ 128) (sym (most-name n ss)) kept.1)
+        let kept = K.name-kept around sc n (map sel_rules_of ss) (map limits_of_sel ss) agree (few ss short) (each-sel ss b.1) 0 at (subst (λ (t : Q.Target). t.broken around at ≡ []) (rules-name n ss) none) in (
+          ap (λ (t : Target). t.width sc) (is-name (W.Name n ss) n ss refl) ∙ name-width n ss ∙ kept.0 ∙ sym (ap (λ (t : Q.Target). t.width around) (rules-name n ss)),
+          subst (λ (m : M.Scope → ℕ). m sc ≤ 128) (sym (most-name n ss)) kept.1,
+        )
         );
     lval-concat = λ ls h f at none.
         (
         let all = fits-as (fit_of_lval (W.Concat ls)) (lval_fit (VLval-F.Concat (map fit_of_lval ls))) (fit-concat ls) f in
         let b = both-yes (has_some (map fit_of_lval ls)) (all_fit (map fit_of_lval ls)) all in
-        let kept = parts-kept ls (suc at) h b.1 (subst (λ (t : Q.Target). t.broken around at ≡ []) (rules-concat ls) none) in
-        (ap (λ (t : Target). t.width sc) (is-concat (W.Concat ls) ls refl) ∙ concat-width (map target ls) ∙ kept.0 ∙ sym (ap (λ (t : Q.Target). t.width around) (rules-concat ls)),
-        subst (λ (m : M.Scope → ℕ). m sc ≤ 128) (sym (most-concat ls)) kept.1)
+        let kept = parts-kept ls (suc at) h b.1 (subst (λ (t : Q.Target). t.broken around at ≡ []) (rules-concat ls) none) in (
+          ap (λ (t : Target). t.width sc) (is-concat (W.Concat ls) ls refl) ∙ concat-width (map target ls) ∙ kept.0 ∙ sym (ap (λ (t : Q.Target). t.width around) (rules-concat ls)),
+          subst (λ (m : M.Scope → ℕ). m sc ≤ 128) (sym (most-concat ls)) kept.1,
+        )
         );
   }
 

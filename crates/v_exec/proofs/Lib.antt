@@ -9,3 +9,4 @@ pub mod KeptExprs
 pub mod KeptStmts
 pub mod KeptRuns
 pub mod KeptModules
+pub mod KeptLinks
