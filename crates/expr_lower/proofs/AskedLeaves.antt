@@ -1,5 +1,5 @@
 -- The leaves of an expression are those of what it asks.
-use Rattle.std.proofs.Common.{◌≡◌, ℕ, ◌+◌, Bool, ℤ, List, [], ◌∷◌, ◌++◌, map, flat_map, rules, refl, ap, sym, ◌∙◌, subst}
+use Rattle.std.proofs.Common.{◌≡◌, ℕ, Bool, ℤ, List, [], ◌∷◌, ◌++◌, map, flat_map, rules, refl, ap, sym, ◌∙◌, subst}
 use Rattle.b4_core.specs.declared.bit.Bit4.{Bit4}
 use Rattle.b4_core.specs.declared.operators.UnOp.{UnOp}
 use Rattle.b4_core.specs.declared.operators.BinOp.{BinOp}
@@ -12,7 +12,7 @@ use Rattle.sv_types.specs.declared.types.Value.{Value}
 use Rattle.sv_types.specs.declared.expression.Expr.{Expr}
 use Rattle.sv_types.specs.declared.expression.Form.{Form, Form-F, fold-Form, out-Form, the_lemmas}
 use Rattle.sv_types.specs.declared.expression.Form.TheVariants as V
-use Rattle.sv_types.specs.declared.expression.Choice.{Choice, Choice-F, fold-Choice, out-Choice}
+use Rattle.sv_types.specs.declared.expression.Choice.{Choice, fold-Choice, out-Choice}
 use Rattle.sv_types.specs.declared.expression.Choice.TheVariants as C
 use Rattle.sv_types.specs.Layouts.{Layout, layout}
 use Rattle.sv_types.specs.Surroundings.{Parameter}

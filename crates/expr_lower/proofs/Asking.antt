@@ -1,8 +1,7 @@
 -- What is asked is lowered, one by one.
-use Rattle.std.proofs.Common.{◌≡◌, ℕ, suc, Bool, List, [], ◌∷◌, ◌++◌, append_assoc, append-nil, length, refl, ap, sym, ◌∙◌, subst}
+use Rattle.std.proofs.Common.{◌≡◌, suc, List, [], ◌∷◌, ◌++◌, append_assoc, append-nil, length, refl, ap, sym, ◌∙◌, subst}
 use Rattle.row_machine.specs.Valuation.{Valuation}
 use Rattle.sv_types.specs.declared.statement.Function.{Function}
-use Rattle.sv_types.specs.declared.expression.Expr.{Expr}
 use Rattle.sv_types.specs.Surroundings.{Around}
 use Rattle.sv_types.specs.Expressions.{meaning}
 use Rattle.v_tree.specs.declared.names.NameMap.{NameMap}
@@ -11,9 +10,8 @@ use Rattle.v_build.specs.Trees.{meanings}
 use Rattle.v_meaning.specs.Scopes.{Scope}
 use Rattle.v_meaning.specs.Values as T
 use Rattle.eval_forms.specs.Asked.{Asked, width_asked, sign_asked}
-use Rattle.lowering_laws.specs.Agreeing.{Images, Agree, Stands}
-use Rattle.expr_lower.specs.Leaves.{Leaf, leaves, Each}
-use Rattle.expr_lower.specs.Lowering.{LeafStands, Lowers, LowersEach, SameEach}
+use Rattle.lowering_laws.specs.Agreeing.{Images, Agree}
+use Rattle.expr_lower.specs.Lowering.{LeafStands, Lowers, LowersEach, SameEach, NamesEach}
 use Rattle.expr_lower.proofs.AskedLeaves.{EachAsked}
 
 -- one more
@@ -30,7 +28,15 @@ pub same-each : (names : NameMap) (fs : List Function) (qs : List Asked) (ms : L
 same-each names fs [] [] im a sc now v h all agree = tt
 same-each names fs [] (m ∷ ms) im a sc now v h all agree = absurd h
 same-each names fs (q ∷ qs) [] im a sc now v h all agree = absurd h
-same-each names fs (q ∷ qs) (m ∷ ms) im a sc now v h all agree = (h.0 im a sc all.0 now v agree, same-each names fs qs ms im a sc now v h.1 all.1 agree)
+same-each names fs (q ∷ qs) (m ∷ ms) im a sc now v h all agree = ((h.0 im a sc all.0).stands now v agree, same-each names fs qs ms im a sc now v h.1 all.1 agree)
+
+-- and what it names
+pub names-each : (names : NameMap) (fs : List Function) (qs : List Asked) (ms : List T.Meaning) (im : Images) (a : Around) (sc : Scope) → LowersEach names fs qs ms
+    → EachAsked (LeafStands names fs im a sc) qs → NamesEach im.number qs ms sc
+names-each names fs [] [] im a sc h all = tt
+names-each names fs [] (m ∷ ms) im a sc h all = absurd h
+names-each names fs (q ∷ qs) [] im a sc h all = absurd h
+names-each names fs (q ∷ qs) (m ∷ ms) im a sc h all = ((h.0 im a sc all.0).names, names-each names fs qs ms im a sc h.1 all.1)
 
 -- Some of what is asked is lowered, and the rest is still to do.
 pub record Made (names : NameMap) (fs : List Function) (rest all : List Asked) (ms : List T.Meaning) : Type 0 where

@@ -1,6 +1,5 @@
 -- Which forms are lowered, and how many operands each has.
-use Rattle.std.proofs.Common.{◌≡◌, ℕ, ◌+◌, ◌<◌, Bool, true, false, ℤ, List, [], ◌∷◌, ◌++◌, map, length, rules, refl, arith, ap, sym, ◌∙◌, subst}
-use Rattle.b4_core.specs.declared.bit.Bit4.{Bit4}
+use Rattle.std.proofs.Common.{◌≡◌, ℕ, Bool, true, false, ℤ, List, length, rules, refl, ap, sym, ◌∙◌, subst}
 use Rattle.b4_core.specs.declared.operators.UnOp.{UnOp}
 use Rattle.b4_core.specs.declared.operators.BinOp.{BinOp}
 use Rattle.b4_core.specs.declared.operators.RedOp.{RedOp}
@@ -8,7 +7,6 @@ use Rattle.b4_core.specs.declared.operators.ShiftOp.{ShiftOp}
 use Rattle.b4_core.specs.declared.operators.OrdOp.{OrdOp}
 use Rattle.b4_core.specs.declared.operators.EqOp.{EqOp}
 use Rattle.b4_core.specs.declared.operators.EqOp.TheVariants.{Wild}
-use Rattle.sv_types.specs.declared.types.Value.{Value}
 use Rattle.sv_types.specs.declared.expression.Expr.{Expr}
 use Rattle.sv_types.specs.declared.expression.Form.{Form, Form-F, out-Form, the_lemmas}
 use Rattle.sv_types.specs.declared.expression.Form.TheVariants as V
@@ -20,12 +18,12 @@ use Rattle.sv_types.proofs.Terms.{Steps, by-expr}
 use Rattle.eval_parts.specs.Limits.{Fits}
 use Rattle.eval_parts.specs.Steps.{is_path}
 use Rattle.eval_parts.proofs.Nodes.{nodes}
-use Rattle.eval_forms.specs.Asked.{Asked, form_asked, AllFitAsked}
-use Rattle.eval_forms.specs.Kinds.{IsOperator, is_call}
+use Rattle.eval_forms.specs.Asked.{form_asked, AllFitAsked}
+use Rattle.eval_forms.specs.Kinds.{is_call}
 use Rattle.eval_forms.proofs.AskedLaws.{AllFewer, asking}
 use Rattle.eval_forms.proofs.Strict as K
 use Rattle.eval_forms.proofs.Uncalled as U
-use Rattle.expr_lower.specs.Leaves.{Leaf, leaves, Each, IsLowered}
+use Rattle.expr_lower.specs.Leaves.{leaves, Each, IsLowered}
 use Rattle.expr_lower.specs.Lowering.{AreParts}
 use Rattle.expr_lower.proofs.AskedLeaves as A
 

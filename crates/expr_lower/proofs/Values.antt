@@ -1,5 +1,5 @@
 -- Numbers, and whole signals and locals.
-use Rattle.std.proofs.Common.{◌≡◌, ℕ, zero, suc, ◌+◌, ◌*◌, ◌<◌, ◌≤◌, max, Bool, true, false, ◌&&◌, ◌||◌, cond, pos, List, [], ◌∷◌, ◌++◌, append-nil, append_assoc, length, map, replicate, Option, Some, None, refl, arith, ap, sym, ◌∙◌, subst}
+use Rattle.std.proofs.Common.{◌≡◌, ℕ, zero, suc, ◌+◌, ◌*◌, ◌<◌, ◌≤◌, max, Bool, true, false, ◌&&◌, cond, pos, List, [], ◌∷◌, ◌++◌, append-nil, append_assoc, length, replicate, Option, Some, None, inl, inr, refl, arith, ap, sym, ◌∙◌, subst}
 use Rattle.std.specs.Prelude.{◌-◌, int_le, int_lt, slice_index_or, take, drop}
 use Rattle.std.proofs.lemmas.Bool.Decides.{nat_tests}
 use Rattle.b4_core.specs.declared.bit.Bit4.{Bit4}
@@ -28,19 +28,19 @@ use Rattle.v_tree.specs.declared.expressions.VExpr.{VExpr}
 use Rattle.v_build.specs.Trees.{meanings}
 use Rattle.v_meaning.specs.Scopes.{Scope, Named, named, all_bits}
 use Rattle.v_meaning.specs.Values as T
-use Rattle.eval_parts.specs.Limits.{Fits}
 use Rattle.eval_parts.proofs.Steps.{at-form, same-Literal}
 use Rattle.eval_parts.proofs.Selecting.{same-Signal, same-Local}
-use Rattle.eval_forms.specs.Callees.{formals_in}
 use Rattle.lowering_laws.specs.Agreeing.{Images, Agree}
 use Rattle.lowering_laws.specs.Held.{marked}
+use Rattle.lowering_laws.specs.NamedImages.{SameNames, AreImages}
 use Rattle.lowering_laws.specs.Same.{Same, HasBits, AllHaveBits}
-use Rattle.lowering_laws.proofs.Constants.{length-fill, fill-same, number-same, signed-same}
+use Rattle.lowering_laws.proofs.Constants.{fill-same, number-same, signed-same}
 use Rattle.lowering_laws.proofs.Contexts.{typed}
+use Rattle.lowering_laws.proofs.Naming.{no-images}
 use Rattle.lowering_laws.proofs.Extensions.{ext-larger}
 use Rattle.lowering_laws.proofs.Paths.{no-window, no-width}
 use Rattle.lowering_laws.proofs.Pieces.{literal-bits, pieces-bits}
-use Rattle.expr_lower.specs.Leaves.{Leaf, leaves, Each}
+use Rattle.expr_lower.specs.Leaves.{Each}
 use Rattle.expr_lower.specs.Named.{signal_name, local_name}
 use Rattle.expr_lower.specs.Numbers.{IsNumber, ArePieces, signed_as, written_bits}
 use Rattle.expr_lower.specs.Lowering.{IsShown, LeafStands, Lowers, Combines}
@@ -55,7 +55,7 @@ signed-as-same e c w s a m sc v has least most value false is = number-same e c 
 
 -- pieces
 pub pieces-none : (c : List Bit4) → c ≡ [] → ArePieces [] c
-pieces-none c is = record { pieces = []; all = sym is; have = λ sc v. tt }
+pieces-none c is = record { pieces = []; all = sym is; have = λ sc v. tt; none = λ sc. refl }
 
 have-next : (ms : List T.Meaning) (cs : List (List Bit4)) (c : List Bit4) (sc : Scope) (v : Valuation) → AllHaveBits ms cs sc v → AllHaveBits (ms ++ T.literal c ∷ []) (cs ++ c ∷ []) sc v
 have-next [] [] c sc v h = (literal-bits c sc v, tt)
@@ -67,19 +67,45 @@ stacked-next : (cs : List (List Bit4)) (c : List Bit4) → stacked (cs ++ c ∷ 
 stacked-next [] c = sym (append-nil c)
 stacked-next (d ∷ cs) c = ap (λ x. x ++ d) (stacked-next cs c) ∙ append_assoc c (stacked cs) d
 
+none-next : (ms : List T.Meaning) (c : List Bit4) (sc : Scope) → T.all_names ms sc ≡ [] → T.all_names (ms ++ T.literal c ∷ []) sc ≡ []
+unfolding T.literal
+none-next [] c sc h = refl
+none-next (m ∷ ms) c sc h = by (m.names sc) (T.all_names ms sc) refl refl h (λ k. none-next ms c sc k)
+  where
+    by : (xs ys : List ℕ) → m.names sc ≡ xs → T.all_names ms sc ≡ ys → xs ++ ys ≡ [] → (T.all_names ms sc ≡ [] → T.all_names (ms ++ T.literal c ∷ []) sc ≡ [])
+        → m.names sc ++ T.all_names (ms ++ T.literal c ∷ []) sc ≡ []
+    by [] [] first rest e later = (λ i. first i ++ later rest i)
+    by [] (y ∷ ys) first rest e later = absurd (cc)
+    by (x ∷ xs) ys first rest e later = absurd (cc)
+
 pub pieces-next : (ms : List T.Meaning) (c rest all : List Bit4) → ArePieces ms rest → c ++ rest ≡ all → ArePieces (ms ++ T.literal c ∷ []) all
 pieces-next ms c rest all h is = record {
   pieces = h.pieces ++ c ∷ [];
   all = stacked-next h.pieces c ∙ ap (λ x. c ++ x) h.all ∙ is;
   have = λ sc v. have-next ms h.pieces c sc v (h.have sc v);
+  none = λ sc. none-next ms c sc (h.none sc);
 }
 
+literal-none : (c : List Bit4) (sc : Scope) → (T.literal c).names sc ≡ []
+unfolding T.literal
+literal-none c sc = refl
+
+pieces-named : (ms : List T.Meaning) (sc : Scope) → (T.concatenation ms).names sc ≡ T.all_names ms sc
+unfolding T.concatenation
+pieces-named ms sc = refl
+
 pub number-short : (m : T.Meaning) (c : List Bit4) → m ≡ T.literal c → IsNumber m c
-number-short m c is sc v = subst (λ (k : T.Meaning). HasBits k c sc v) (sym is) (literal-bits c sc v)
+number-short m c is = record {
+  has = λ sc v. subst (λ (k : T.Meaning). HasBits k c sc v) (sym is) (literal-bits c sc v);
+  none = λ sc. ap (λ (k : T.Meaning). k.names sc) is ∙ literal-none c sc;
+}
 
 pub number-long : (m : T.Meaning) (ms : List T.Meaning) (c : List Bit4) → m ≡ T.concatenation ms → ArePieces ms c → IsNumber m c
-number-long m ms c is h sc v =
-    subst (λ (k : T.Meaning). HasBits k c sc v) (sym is) (subst (λ x. HasBits (T.concatenation ms) x sc v) h.all (pieces-bits ms h.pieces sc v (h.have sc v)))
+number-long m ms c is h = record {
+  has = λ sc v.
+      subst (λ (k : T.Meaning). HasBits k c sc v) (sym is) (subst (λ x. HasBits (T.concatenation ms) x sc v) h.all (pieces-bits ms h.pieces sc v (h.have sc v)));
+  none = λ sc. ap (λ (k : T.Meaning). k.names sc) is ∙ pieces-named ms sc ∙ h.none sc;
+}
 
 pub drop-end : {A : Type 0} (xs : List A) → drop (length xs) xs ≡ []
 drop-end [] = refl
@@ -109,6 +135,31 @@ drop-parts (x ∷ xs) (suc i) (suc j) h = (let e : suc j - suc i ≡ j - i = ome
 pub meanings-next : (es : List VExpr) (e : VExpr) → meanings (es ++ e ∷ []) ≡ meanings es ++ T.meaning e ∷ []
 meanings-next [] e = refl
 meanings-next (x ∷ es) e = ap (λ l. T.meaning x ∷ l) (meanings-next es e)
+
+-- the names of numbers
+signed-names : (b : Bool) (m : T.Meaning) (sc : Scope) → (signed_as b m).names sc ≡ m.names sc
+unfolding T.signing
+signed-names true m sc = append-nil (m.names sc)
+signed-names false m sc = refl
+
+no-names : (image : ℕ → ℕ) (e : M.Meaning) (m : T.Meaning) (sc : Scope) → e.names ≡ [] → m.names sc ≡ [] → SameNames image e m sc
+no-names image e m sc source target = subst (λ ns. AreImages image ns (m.names sc)) (sym source) (subst (AreImages image []) (sym target) (no-images image))
+
+literal-names : (of : Layout) (at : ℕ) (goes_on : Bool) (c : List Bit4) → (O.literal of at goes_on c).names ≡ []
+unfolding O.literal
+literal-names of at goes_on c = refl
+
+fill-names : (of : Layout) (at : ℕ) (x : Bit4) → (O.fill of at x).names ≡ []
+unfolding O.fill
+fill-names of at x = refl
+
+constant-names : (of : Layout) (at : ℕ) (x : Value) → (O.constant of at x).names ≡ []
+unfolding O.constant
+constant-names of at x = refl
+
+number-names : (image : ℕ → ℕ) (e f : M.Meaning) (n m : T.Meaning) (b : Bool) (c : List Bit4) (sc : Scope) → e ≡ f → f.names ≡ [] → IsNumber n c → m ≡ signed_as b n → SameNames image e m sc
+number-names image e f n m b c sc level source number made =
+    no-names image e m sc (ap (λ (k : M.Meaning). k.names) level ∙ source) (ap (λ (k : T.Meaning). k.names sc) made ∙ signed-names b n sc ∙ number.none sc)
 
 -- signs and widths
 literal-sign : (of : Layout) (at : ℕ) (goes_on : Bool) (c : List Bit4) → M.signed (O.literal of at goes_on c) ≡ of.signed
@@ -157,7 +208,8 @@ combines-Literal e c names fs w s parts n m b is number made sign =
     let level = same-Literal e c false is in
     subst (λ (k : T.Meaning). Same (meaning e) w s a k sc v) (sym made)
     (subst (λ (k : M.Meaning). Same k w s a (signed_as b n) sc v) (sym level)
-    (literal-in (layout e.of) e.spot.at c w s a n sc v (typed-as (meaning e) _ level fits.typed) (number sc v) b (sign ∙ (ap (λ (k : M.Meaning). M.signed k) level ∙ literal-sign (layout e.of) e.spot.at false c)))))
+    (literal-in (layout e.of) e.spot.at c w s a n sc v (typed-as (meaning e) _ level fits.typed) (number.has sc v) b (sign ∙ (ap (λ (k : M.Meaning). M.signed k) level ∙ literal-sign (layout e.of) e.spot.at false c)))))
+    (λ image sc h. number-names image (meaning e) (O.literal (layout e.of) e.spot.at false c) n m b c sc (same-Literal e c false is) (literal-names (layout e.of) e.spot.at false c) number made)
 
 combines-going-on : (e : Expr) (c : List Bit4) (names : NameMap) (fs : List Function) (w : ℕ) (s : Bool) (parts : List T.Meaning) (n m : T.Meaning) (b : Bool)
     → e.form ≡ V.Literal c true → IsNumber n (ext (max w (M.wide (meaning e))) true c) → m ≡ signed_as b n → b ≡ M.signed (meaning e) → Combines names fs e w s parts m
@@ -166,7 +218,8 @@ combines-going-on e c names fs w s parts n m b is number made sign =
     let level = same-Literal e c true is in
     subst (λ (k : T.Meaning). Same (meaning e) w s a k sc v) (sym made)
     (subst (λ (k : M.Meaning). Same k w s a (signed_as b n) sc v) (sym level)
-    (going-on-in (layout e.of) e.spot.at c w s a n sc v (typed-as (meaning e) _ level fits.typed) (subst (λ k. HasBits n (ext (max w k) true c) sc v) (ap (λ (k : M.Meaning). M.wide k) level ∙ literal-wide (layout e.of) e.spot.at true c) (number sc v)) b (sign ∙ (ap (λ (k : M.Meaning). M.signed k) level ∙ literal-sign (layout e.of) e.spot.at true c)))))
+    (going-on-in (layout e.of) e.spot.at c w s a n sc v (typed-as (meaning e) _ level fits.typed) (subst (λ k. HasBits n (ext (max w k) true c) sc v) (ap (λ (k : M.Meaning). M.wide k) level ∙ literal-wide (layout e.of) e.spot.at true c) (number.has sc v)) b (sign ∙ (ap (λ (k : M.Meaning). M.signed k) level ∙ literal-sign (layout e.of) e.spot.at true c)))))
+    (λ image sc h. number-names image (meaning e) (O.literal (layout e.of) e.spot.at true c) n m b _ sc (same-Literal e c true is) (literal-names (layout e.of) e.spot.at true c) number made)
 
 pub combines-number : (e : Expr) (c : List Bit4) (goes_on : Bool) (names : NameMap) (fs : List Function) (w : ℕ) (s : Bool) (parts : List T.Meaning) (n m : T.Meaning) (b : Bool)
     → e.form ≡ V.Literal c goes_on → IsNumber n (written_bits goes_on (max w (M.wide (meaning e))) c) → m ≡ signed_as b n → b ≡ M.signed (meaning e) → Combines names fs e w s parts m
@@ -181,7 +234,8 @@ combines-Fill e x names fs w s parts m is number =
     let level = at-form e (V.Fill x) _ is (L.form-Fill x) in
     let some = fits.some in
     subst (λ (k : M.Meaning). Same k w s a m sc v) (sym level)
-    (fill-same (layout e.of) e.spot.at x w s a m sc v (typed-as (meaning e) _ level fits.typed) (omega arith) (number sc v)))
+    (fill-same (layout e.of) e.spot.at x w s a m sc v (typed-as (meaning e) _ level fits.typed) (omega arith) (number.has sc v)))
+    (λ image sc h. number-names image (meaning e) (O.fill (layout e.of) e.spot.at x) m m false _ sc (at-form e (V.Fill x) _ is (L.form-Fill x)) (fill-names (layout e.of) e.spot.at x) number refl)
 
 -- constants
 constant-in : (of : Layout) (at : ℕ) (x : Value) (w : ℕ) (s : Bool) (a : Around) (m : T.Meaning) (sc : Scope) (v : Valuation) → (O.constant of at x).misfits ≡ 0 → HasBits m (bits x) sc v
@@ -199,7 +253,8 @@ combines-Constant e x names fs w s parts n m b is number made sign =
     let level = at-form e (V.Constant x) _ is (L.form-Constant x) in
     subst (λ (k : T.Meaning). Same (meaning e) w s a k sc v) (sym made)
     (subst (λ (k : M.Meaning). Same k w s a (signed_as b n) sc v) (sym level)
-    (constant-in (layout e.of) e.spot.at x w s a n sc v (typed-as (meaning e) _ level fits.typed) (number sc v) b (sign ∙ (ap (λ (k : M.Meaning). M.signed k) level ∙ constant-sign (layout e.of) e.spot.at x)))))
+    (constant-in (layout e.of) e.spot.at x w s a n sc v (typed-as (meaning e) _ level fits.typed) (number.has sc v) b (sign ∙ (ap (λ (k : M.Meaning). M.signed k) level ∙ constant-sign (layout e.of) e.spot.at x)))))
+    (λ image sc h. number-names image (meaning e) (O.constant (layout e.of) e.spot.at x) n m b _ sc (at-form e (V.Constant x) _ is (L.form-Constant x)) (constant-names (layout e.of) e.spot.at x) number made)
 
 -- whole signals and locals hold what their images do
 image-bits : (im : Images) (now v : Valuation) (n k r : ℕ) → Agree im now v → k + r ≤ im.width n → bits_from v (im.number n) k r ≡ bits_from now n k r
@@ -271,20 +326,54 @@ local-in : (of : Layout) (at n w : ℕ) (s : Bool) (name : Name) (im : Images) (
 unfolding P.local
 local-in of at n w s name im a sc now v b shown agree is = root-same of at (local_number n) w s name im a sc now v b shown agree is
 
+signal-names : (of : Layout) (at n : ℕ) → (P.signal of at n).names ≡ record { number = n; of = of } ∷ []
+unfolding P.signal
+signal-names of at n = refl
+
+local-names : (of : Layout) (at n : ℕ) → (P.local of at n).names ≡ record { number = local_number n; of = of } ∷ []
+unfolding P.local
+local-names of at n = refl
+
+reference-names : (name : Name) (sc : Scope) → (T.reference name []).names sc ≡ (named sc.names name).number ∷ []
+unfolding T.reference
+reference-names name sc = refl
+
+one-image : (image : ℕ → ℕ) (n q : ℕ) (of : Layout) → q ≡ image n → AreImages image (record { number = n; of = of } ∷ []) (q ∷ [])
+one-image image n q of is = record {
+  all = λ k h. elim h [ inl e ↦ inl (ap image e ∙ sym is) | inr none ↦ absurd none ];
+  only = λ k h. (n, inl refl, elim h [ inl e ↦ e ∙ is | inr none ↦ absurd none ]);
+}
+
+root-names : (image : ℕ → ℕ) (e : M.Meaning) (n : ℕ) (of : Layout) (name : Name) (m : T.Meaning) (b : Bool) (sc : Scope) → e.names ≡ record { number = n; of = of } ∷ [] → (named sc.names name).number ≡ image n
+    → m ≡ signed_as b (T.reference name []) → SameNames image e m sc
+root-names image e n of name m b sc source number made =
+    let target : m.names sc ≡ (named sc.names name).number ∷ [] = ap (λ (k : T.Meaning). k.names sc) made ∙ signed-names b (T.reference name []) sc ∙ reference-names name sc in
+    subst (λ ns. AreImages image ns (m.names sc)) (sym source) (subst (AreImages image (record { number = n; of = of } ∷ [])) (sym target) (one-image image n (named sc.names name).number of number))
+
 pub lowers-Signal : (e : Expr) (n : ℕ) (names : NameMap) (fs : List Function) (w : ℕ) (s : Bool) (k m : T.Meaning) (b : Bool)
     → e.form ≡ V.Signal n → k ≡ T.reference (signal_name names.signals n) [] → m ≡ signed_as b k → b ≡ M.signed (meaning e) → Lowers names fs e w s m
-lowers-Signal e n names fs w s k m b is name made sign im a sc all now v agree =
+lowers-Signal e n names fs w s k m b is name made sign im a sc all =
     let level = same-Signal e n is in
     let shown = (subst (Each (LeafStands names fs im a sc)) (leaves-Signal e n is) all).0 in
-    subst (λ (x : T.Meaning). Same (meaning e) w s (record a { now = now }) x sc v) (sym (made ∙ ap (signed_as b) name))
-    (subst (λ (x : M.Meaning). Same x w s (record a { now = now }) (signed_as b (T.reference (signal_name names.signals n) [])) sc v) (sym level)
-    (signal-in (layout e.of) e.spot.at n w s (signal_name names.signals n) im a sc now v b shown agree (sign ∙ (ap (λ (k : M.Meaning). M.signed k) level ∙ signal-sign (layout e.of) e.spot.at n))))
+    let whole = made ∙ ap (signed_as b) name in
+    record {
+      stands = λ now v agree.
+          subst (λ (x : T.Meaning). Same (meaning e) w s (record a { now = now }) x sc v) (sym whole)
+          (subst (λ (x : M.Meaning). Same x w s (record a { now = now }) (signed_as b (T.reference (signal_name names.signals n) [])) sc v) (sym level)
+          (signal-in (layout e.of) e.spot.at n w s (signal_name names.signals n) im a sc now v b shown agree (sign ∙ (ap (λ (x : M.Meaning). M.signed x) level ∙ signal-sign (layout e.of) e.spot.at n))));
+      names = root-names im.number (meaning e) n (layout e.of) (signal_name names.signals n) m b sc (ap (λ (x : M.Meaning). x.names) level ∙ signal-names (layout e.of) e.spot.at n) shown.number whole;
+    }
 
 pub lowers-Local : (e : Expr) (n : ℕ) (names : NameMap) (fs : List Function) (w : ℕ) (s : Bool) (k m : T.Meaning) (b : Bool)
     → e.form ≡ V.Local n → k ≡ T.reference (local_name names.locals n) [] → m ≡ signed_as b k → b ≡ M.signed (meaning e) → Lowers names fs e w s m
-lowers-Local e n names fs w s k m b is name made sign im a sc all now v agree =
+lowers-Local e n names fs w s k m b is name made sign im a sc all =
     let level = same-Local e n is in
     let shown = (subst (Each (LeafStands names fs im a sc)) (leaves-Local e n is) all).0 in
-    subst (λ (x : T.Meaning). Same (meaning e) w s (record a { now = now }) x sc v) (sym (made ∙ ap (signed_as b) name))
-    (subst (λ (x : M.Meaning). Same x w s (record a { now = now }) (signed_as b (T.reference (local_name names.locals n) [])) sc v) (sym level)
-    (local-in (layout e.of) e.spot.at n w s (local_name names.locals n) im a sc now v b shown agree (sign ∙ (ap (λ (k : M.Meaning). M.signed k) level ∙ local-sign (layout e.of) e.spot.at n))))
+    let whole = made ∙ ap (signed_as b) name in
+    record {
+      stands = λ now v agree.
+          subst (λ (x : T.Meaning). Same (meaning e) w s (record a { now = now }) x sc v) (sym whole)
+          (subst (λ (x : M.Meaning). Same x w s (record a { now = now }) (signed_as b (T.reference (local_name names.locals n) [])) sc v) (sym level)
+          (local-in (layout e.of) e.spot.at n w s (local_name names.locals n) im a sc now v b shown agree (sign ∙ (ap (λ (x : M.Meaning). M.signed x) level ∙ local-sign (layout e.of) e.spot.at n))));
+      names = root-names im.number (meaning e) (local_number n) (layout e.of) (local_name names.locals n) m b sc (ap (λ (x : M.Meaning). x.names) level ∙ local-names (layout e.of) e.spot.at n) shown.number whole;
+    }

@@ -15,8 +15,9 @@ use Rattle.v_meaning.specs.Values as T
 use Rattle.eval_forms.specs.Callees.{formals_in}
 use Rattle.eval_parts.specs.Limits.{Fits}
 use Rattle.eval_forms.specs.Asked.{Asked, width_asked, sign_asked, form_asked}
-use Rattle.lowering_laws.specs.Agreeing.{Images, Agree, Stands}
+use Rattle.lowering_laws.specs.Agreeing.{Images, Stands}
 use Rattle.lowering_laws.specs.Held.{marked}
+use Rattle.lowering_laws.specs.NamedImages.{SameNames}
 use Rattle.lowering_laws.specs.Same.{Same}
 use Rattle.expr_lower.specs.Leaves.{Leaf, Signals, Locals, Unlowered, leaves, Each}
 use Rattle.expr_lower.specs.Named.{signal_name, local_name}
@@ -35,9 +36,15 @@ LeafStands names fs im a sc (Signals n of) = IsShown (signal_name names.signals 
 LeafStands names fs im a sc (Locals n of) = IsShown (local_name names.locals n) im sc (local_number n) of
 LeafStands names fs im a sc Unlowered = ⊥
 
--- A target expression stands for an expression at a width and a sign, wherever the text has what its leaves need.
+-- A target expression stands for an expression on all valuations that agree, and names the images of what that names, all of
+-- them and no other.
+pub record Stood (im : Images) (a : Around) (sc : Scope) (e : S.Meaning) (w : ℕ) (s : Bool) (m : T.Meaning) : Type 0 where
+  pub stands : Stands im a sc e w s m
+  pub names : SameNames im.number e m sc
+
+-- so it is for an expression at a width and a sign, wherever the text has what the leaves need
 abbrev pub Lowers : NameMap → List Function → Expr → ℕ → Bool → T.Meaning → Type 0
-Lowers names fs e w s m = (im : Images) (a : Around) (sc : Scope) → Each (LeafStands names fs im a sc) (leaves e) → Stands im a sc (meaning e) w s m
+Lowers names fs e w s m = (im : Images) (a : Around) (sc : Scope) → Each (LeafStands names fs im a sc) (leaves e) → Stood im a sc (meaning e) w s m
 
 -- what is asked, one by one
 abbrev pub LowersEach : NameMap → List Function → List Asked → List T.Meaning → Type 0
@@ -52,6 +59,13 @@ SameEach [] a [] sc v = Unit {0}
 SameEach [] a (m ∷ ms) sc v = ⊥
 SameEach (q ∷ qs) a [] sc v = ⊥
 SameEach (q ∷ qs) a (m ∷ ms) sc v = Same (meaning q.of) (width_asked q.ask (meaning q.of)) (sign_asked q.ask (meaning q.of)) a m sc v × SameEach qs a ms sc v
+
+-- the names of what is asked
+abbrev pub NamesEach : (ℕ → ℕ) → List Asked → List T.Meaning → Scope → Type 0
+NamesEach image [] [] sc = Unit {0}
+NamesEach image [] (m ∷ ms) sc = ⊥
+NamesEach image (q ∷ qs) [] sc = ⊥
+NamesEach image (q ∷ qs) (m ∷ ms) sc = SameNames image (meaning q.of) m sc × NamesEach image qs ms sc
 
 -- A target expression that is made of the target expressions of what an expression asks stands for the expression.
 abbrev pub Combines : NameMap → List Function → Expr → ℕ → Bool → List T.Meaning → T.Meaning → Type 0

@@ -1,5 +1,5 @@
 -- Numbers in pieces, signs, and which equality is exact.
-use Rattle.std.specs.Prelude.{◌≡◌, ℕ, Bool, true, false, List, [], ◌∷◌}
+use Rattle.std.specs.Prelude.{◌≡◌, ℕ, Bool, true, false, List, []}
 use Rattle.b4_core.specs.declared.bit.Bit4.{Bit4}
 use Rattle.b4_core.specs.declared.operators.EqOp.{EqOp}
 use Rattle.b4_core.specs.declared.operators.EqOp.TheVariants.{Logic, Case, Wild}
@@ -11,15 +11,17 @@ use Rattle.v_meaning.specs.Scopes.{Scope}
 use Rattle.v_meaning.specs.Values as T
 use Rattle.lowering_laws.specs.Same.{HasBits, AllHaveBits}
 
--- it has these bits wherever it stands
-abbrev pub IsNumber : T.Meaning → List Bit4 → Type 0
-IsNumber m c = (sc : Scope) (v : Valuation) → HasBits m c sc v
+-- it has these bits wherever it stands, and names nothing
+pub record IsNumber (m : T.Meaning) (c : List Bit4) : Type 0 where
+  pub has : (sc : Scope) (v : Valuation) → HasBits m c sc v
+  pub none : (sc : Scope) → m.names sc ≡ []
 
 -- pieces of these bits, the first one most significant
 pub record ArePieces (ms : List T.Meaning) (c : List Bit4) : Type 0 where
   pub pieces : List (List Bit4)
   pub all : stacked pieces ≡ c
   pub have : (sc : Scope) (v : Valuation) → AllHaveBits ms pieces sc v
+  pub none : (sc : Scope) → T.all_names ms sc ≡ []
 
 -- signed, or as it is
 abbrev pub signed_as : Bool → T.Meaning → T.Meaning

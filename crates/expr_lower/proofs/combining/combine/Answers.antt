@@ -1,5 +1,4 @@
-use Rattle.std.proofs.Common.{[], ◌∷◌, refl, ap, sym, ◌∙◌, subst}
-use Rattle.sv_types.specs.Expressions.{meaning}
+use Rattle.std.proofs.Common.{ap, subst}
 use Rattle.v_meaning.specs.Values as T
 use Rattle.v_build.specs.Trees.{meanings}
 use Rattle.expr_lower.specs.Numbers.{IsNumber}

@@ -1,4 +1,4 @@
-use Rattle.std.proofs.Common.{◌≡◌, ◌+◌, ◌≤◌, [], ◌∷◌, ◌++◌, map, drop, length, arith, ap, sym, ◌∙◌, subst}
+use Rattle.std.proofs.Common.{◌≡◌, ◌+◌, [], ◌∷◌, ◌++◌, map, drop, arith, ap, sym, ◌∙◌, subst}
 use Rattle.sv_types.specs.declared.expression.Form.{out-Form}
 use Rattle.sv_types.specs.Layouts.{layout}
 use Rattle.sv_types.specs.Expressions.{meaning}

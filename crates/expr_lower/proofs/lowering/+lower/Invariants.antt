@@ -1,4 +1,4 @@
-use Rattle.std.proofs.Common.{◌≡◌, ◌+◌, ◌*◌, ◌++◌, List, map, drop}
+use Rattle.std.proofs.Common.{◌+◌, ◌*◌, map, drop}
 use Rattle.sv_types.specs.declared.expression.Form.{out-Form}
 use Rattle.sv_types.specs.Layouts.{layout}
 use Rattle.v_build.specs.Trees.{meanings}

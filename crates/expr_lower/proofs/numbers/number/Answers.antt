@@ -1,4 +1,4 @@
-use Rattle.std.proofs.Common.{refl, ap, subst, sym}
+use Rattle.std.proofs.Common.{subst}
 use Rattle.v_meaning.specs.Values.{meaning}
 use Rattle.v_build.specs.Trees.{meanings}
 use Rattle.expr_lower.specs.Numbers.{ArePieces}

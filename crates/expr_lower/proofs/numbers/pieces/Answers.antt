@@ -1,6 +1,4 @@
-use Rattle.std.proofs.Common.{◌≡◌, ◌+◌, ◌-◌, ◌*◌, ◌/◌, ◌≤◌, ◌<◌, [], ◌∷◌, ◌++◌, length, take, drop, map, refl, arith, ap, sym, ◌∙◌, subst}
-use Rattle.v_meaning.specs.Values as T
-use Rattle.v_meaning.specs.Values.{meaning}
+use Rattle.std.proofs.Common.{◌≡◌, ◌-◌, ◌*◌, ◌/◌, [], ◌∷◌, ◌++◌, length, take, drop, arith, ap, sym, ◌∙◌, subst}
 use Rattle.v_build.specs.Trees.{meanings}
 use Rattle.expr_lower.specs.Numbers.{ArePieces}
 use Rattle.expr_lower.proofs.Values.{pieces-none, pieces-next, drop-end, drop-parts, meanings-next}
