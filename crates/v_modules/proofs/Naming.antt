@@ -85,7 +85,7 @@ pub none-there : (ss : List M.Signal) → AllNew [] ss
 none-there [] = tt
 none-there (s ∷ ss) = (refl, none-there ss)
 
-signals-cons : (i : VItem) (is : List VItem) → signals (i ∷ is) ≡ signals (i ∷ []) ++ signals is
+pub signals-cons : (i : VItem) (is : List VItem) → signals (i ∷ is) ≡ signals (i ∷ []) ++ signals is
 signals-cons (I.Signal s) is = refl
 signals-cons (I.Initial x) is = refl
 signals-cons (I.Process p) is = refl
@@ -177,3 +177,15 @@ last-named es is i end h first =
     ∙ ap (λ l. map (signal_named first) es ++ numbered (first + length es) (signals l)) (sym (drop-done is i end)) ∙ h first
 
 pub ruleset naming = (new-entry)
+
+-- inputs of one item more
+pub next-inputs : {A : Type 0} (f : M.Signal → A) (i : VItem) (is : List VItem) (old new all : List A) → new ≡ old ++ map f (signals (i ∷ [])) → old ++ map f (signals (i ∷ is)) ≡ all → new ++ map f (signals is) ≡ all
+next-inputs f i is old new all e h =
+    ap (λ l. l ++ map f (signals is)) e ∙ append_assoc old (map f (signals (i ∷ []))) (map f (signals is))
+    ∙ ap (λ l. old ++ l) (sym (map-append f (signals (i ∷ [])) (signals is)) ∙ ap (map f) (sym (signals-cons i is))) ∙ h
+  where
+    map-append : {B C : Type 0} (g : B → C) (xs ys : List B) → map g (xs ++ ys) ≡ map g xs ++ map g ys
+    map-append g [] ys = refl
+    map-append g (x ∷ xs) ys = ap (λ l. g x ∷ l) (map-append g xs ys)
+
+pub ruleset inputs = (signals-cons)

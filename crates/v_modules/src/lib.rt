@@ -9,6 +9,6 @@ mod tables;
 
 pub use laws::names_stand_once;
 pub use places::{function_count, functions_of};
-pub use signals::{kept, signal_name, signals_of};
+pub use signals::{inputs_of, kept, signal_name, signals_of};
 pub use table::Table;
-pub use tables::{Tables, scope_in, table_of, tables_of};
+pub use tables::{Tables, names_input, scope_in, table_of, tables_of};

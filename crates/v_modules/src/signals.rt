@@ -3,13 +3,14 @@
 ghost use Rattle.std.specs.Prelude.{◌≡◌, ◌+◌, [], ◌∷◌, ◌++◌, ℕ, false, true, map, IfOk, OnOk};
 ghost use Rattle.indexmap.specs.IndexMap.{keys};
 ghost use Rattle.v_tree.specs.Names.{among, distinct};
+ghost use Rattle.v_meaning.specs.Machine as machine;
 ghost use Rattle.v_meaning.specs.Modules as means;
 ghost use Rattle.v_eval.specs.Names.{signal_named};
 ghost use Rattle.v_modules.specs.Named.{named_of, names_of_signals, AllNew, counted};
 
 use indexmap::IndexMap;
 use std::alloc::{AllocError, Global};
-use sv_source::Text;
+use sv_source::{Items, Text};
 use v_eval::Signal;
 use v_tree::{VItem, VRegRest, VSignal};
 
@@ -165,4 +166,65 @@ pub fn signals_of(alloc: Global, items: &[VItem]) -> Result<IndexMap<Text, Signa
         add_item(alloc, &mut signals, item)?;
     }
     Ok(signals)
+}
+
+// Whether a signal is an input.
+fn is_input(signal: &VSignal) -> bool
+    ensures { result ≡ machine.is_input (means.signal signal.now).kind }
+{
+    match signal {
+        VSignal::Input { range: _, name: _ } => true,
+        VSignal::Output { range: _, name: _ } => false,
+        VSignal::OutputReg {
+            range: _,
+            name: _,
+            initial: None,
+        } => false,
+        VSignal::OutputReg {
+            range: _,
+            name: _,
+            initial: Some(_),
+        } => false,
+        VSignal::Wire { range: _, name: _ } => false,
+        VSignal::Reg {
+            range: _,
+            name: _,
+            rest: None,
+        } => false,
+        VSignal::Reg {
+            range: _,
+            name: _,
+            rest: Some(VRegRest::Memory(_)),
+        } => false,
+        VSignal::Reg {
+            range: _,
+            name: _,
+            rest: Some(VRegRest::Initial(_)),
+        } => false,
+    }
+}
+
+// Adds whether an item that is a signal is an input.
+fn add_input(item: &VItem, inputs: &mut Items<bool>) -> Result<(), AllocError>
+    ensures { OnOk result (inputs.new ≡ inputs.old ++ map (λ (s : means.Signal). machine.is_input s.kind) (means.signals (item.now ∷ []))) }
+{
+    match item {
+        VItem::Signal(signal) => inputs.push(is_input(signal)),
+        VItem::Initial(_) => Ok(()),
+        VItem::Process(_) => Ok(()),
+        VItem::Function(_) => Ok(()),
+        VItem::Instance(_) => Ok(()),
+    }
+}
+
+/// Which of the signals among items are inputs, in their order. Or want of memory.
+#[tactic(auto, using(crate::proofs::Naming::inputs))]
+pub fn inputs_of(alloc: Global, items: &[VItem]) -> Result<Items<bool>, AllocError>
+    ensures { IfOk result (λ r. r ≡ map (λ (s : means.Signal). machine.is_input s.kind) (means.signals items.now)) }
+{
+    let mut inputs = Items::new(alloc);
+    for item in items {
+        add_input(item, &mut inputs)?;
+    }
+    Ok(inputs)
 }

@@ -2,16 +2,17 @@
 
 ghost use Rattle.std.specs.Prelude.{◌≡◌, true, map, IfOk};
 ghost use Rattle.v_tree.specs.Names.{distinct};
+ghost use Rattle.v_meaning.specs.Machine.{is_input};
 ghost use Rattle.v_meaning.specs.Modules as means;
 ghost use Rattle.v_eval.specs.Scopes as places;
 ghost use Rattle.v_modules.specs.Named.{names_of_signals};
 ghost use Rattle.v_modules.specs.Tables as spec;
 
 use crate::places::{function_count, functions_of};
-use crate::signals::signals_of;
+use crate::signals::{inputs_of, signals_of};
 use crate::table::Table;
 use std::alloc::{AllocError, Global};
-use sv_source::Items;
+use sv_source::{Items, Text, at};
 use v_eval::{Module, Scope};
 use v_tree::{VItem, VModule};
 
@@ -23,6 +24,7 @@ pub fn table_of<'a>(alloc: Global, items: &'a [VItem]) -> Result<Table<'a>, Allo
     requires { distinct (names_of_signals (means.signals items.now)) ≡ true }
     ensures { IfOk result (λ t. t.names.items.now ≡ items.now) }
 {
+    let inputs = inputs_of(alloc, items)?;
     let names = Module {
         signals: signals_of(alloc, items)?,
         functions: functions_of(alloc, items)?,
@@ -31,6 +33,7 @@ pub fn table_of<'a>(alloc: Global, items: &'a [VItem]) -> Result<Table<'a>, Allo
     Ok(Table {
         names,
         functions: function_count(items),
+        inputs,
     })
 }
 
@@ -56,5 +59,18 @@ pub fn scope_in<'t>(table: &'t Table<'_>, first: u32) -> Scope<'t>
         module: &table.names,
         first,
         depth: table.functions,
+    }
+}
+
+/// Whether the signal with a name is an input of the module.
+pub fn names_input(table: &Table<'_>, name: &Text) -> bool
+    ensures { result ≡ is_input (means.kind_of (means.signals (spec.items_of table.now)) name.now) }
+{
+    match table.names.signals.get(name) {
+        None => false,
+        Some(signal) => match at(table.inputs.as_slice(), signal.place as usize) {
+            None => false,
+            Some(input) => *input,
+        },
     }
 }
