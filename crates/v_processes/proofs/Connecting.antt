@@ -17,9 +17,8 @@ use Rattle.v_tree.specs.declared.statements.VLval.{VLval}
 use Rattle.v_tree.specs.declared.statements.VLval.TheVariants as G
 use Rattle.v_expr_rules.proofs.Levels as L
 use Rattle.v_footprints.proofs.Levels as K
-use Rattle.v_meaning.specs.Selects.{SelMeaning}
 use Rattle.v_meaning.specs.Values.{expr_step, prim_step, sel_step, sel_meaning}
-use Rattle.v_meaning.specs.Statements.{Target, target, lval_step, name_target, joined_target}
+use Rattle.v_meaning.specs.Statements.{target, lval_step, name_target, joined_target}
 use Rattle.v_meaning.specs.Modules.{all_some, over, connected_expr, connected_prim, connected_sel, as_target}
 use Rattle.v_processes.specs.Connected.{connected_of_prim, connected_of_sel, behind}
 

@@ -1,22 +1,19 @@
 -- Parts of processes.
-use Rattle.std.proofs.Common.{◌≡◌, ℕ, suc, ◌+◌, ◌<◌, Bool, true, false, List, [], ◌∷◌, ◌++◌, length, drop, get_or, map, Option, Some, None, Result, Ok, Err, OnOk, refl, sym, ap, ◌∙◌, append_assoc, arith}
+use Rattle.std.proofs.Common.{◌≡◌, ℕ, suc, ◌+◌, ◌<◌, Bool, true, false, List, [], ◌∷◌, ◌++◌, length, drop, get_or, Option, Some, None, Result, Ok, Err, OnOk, refl, sym, ap, ◌∙◌, append_assoc, arith}
 use Rattle.std.proofs.Math.Seq.{drop-cons}
 use Rattle.std.proofs.lemmas.List.{append-nil, map_push}
 use Rattle.v_tree.specs.declared.expressions.VExpr.{VExpr}
 use Rattle.v_tree.specs.declared.items.VConnection.{VConnection}
-use Rattle.v_tree.specs.declared.items.VItem.{VItem}
 use Rattle.v_tree.specs.declared.items.VModule.{VModule}
 use Rattle.v_meaning.specs.Scopes.{Named, Scope, all_bits, named}
 use Rattle.v_meaning.specs.Statements.{Target, target}
 use Rattle.v_meaning.specs.Values.{meaning}
 use Rattle.v_meaning.specs.Machine.{is_input}
-use Rattle.v_meaning.specs.Modules as M
 use Rattle.v_meaning.specs.Modules.{Kind, input_net, net, variable, Signal, Process, connect, connections, driving, from_output, port_target, port_value, as_target, over, kind_of, numbered}
 use Rattle.v_eval.specs.Names.{nameless}
 use Rattle.v_processes.specs.declared.process.Port.{Port}
 use Rattle.v_processes.specs.declared.process.Proc.{Proc}
-use Rattle.v_processes.specs.declared.process.Does.TheVariants as D
-use Rattle.v_processes.specs.Processes.{port_named, process_at, processes_at, items_at, does_in}
+use Rattle.v_processes.specs.Processes.{port_named, process_at, processes_at}
 use Rattle.v_processes.specs.Connections.{connected}
 
 pub numbered_alike : (k : ℕ) (n m : Named) → k ≡ n.number → n ≡ nameless m → k ≡ m.number

@@ -1,5 +1,5 @@
 -- Expressions that outputs are connected to, as targets.
-use Rattle.std.specs.Prelude.{◌++◌, Option, Some, None, List}
+use Rattle.std.specs.Prelude.{◌++◌, Option, List}
 use Rattle.v_tree.specs.declared.expressions.VPrim.{VPrim, fold-VPrim}
 use Rattle.v_tree.specs.declared.expressions.VSel.{VSel, fold-VSel}
 use Rattle.v_meaning.specs.Selects.{SelMeaning}

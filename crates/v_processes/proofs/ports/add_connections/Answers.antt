@@ -1,4 +1,4 @@
-use Rattle.std.proofs.Common.{◌+◌, ◌++◌, [], ◌∷◌, List, drop, sym, ap, ◌∙◌}
+use Rattle.std.proofs.Common.{◌+◌, [], ◌∷◌, List, drop, ap, ◌∙◌}
 use Rattle.std.specs.Option.{option_copied}
 use Rattle.v_tree.specs.declared.items.VConnection.{VConnection}
 use Rattle.v_meaning.specs.Modules.{scope_of, connections}
