@@ -1,3 +1,5 @@
 pub mod Limits
 pub mod Choices
+pub mod Entering
+pub mod Inside
 pub mod Modules

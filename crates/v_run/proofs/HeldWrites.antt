@@ -1,5 +1,5 @@
 -- Signals and locals that are written hold what the definition of a write makes of a valuation.
-use Rattle.std.proofs.Common.{◌≡◌, ℕ, zero, suc, ◌+◌, ◌-◌, ◌^◌, ◌<◌, ◌≤◌, ◌==◌, ◌&&◌, Bool, true, false, cond, List, [], ◌∷◌, ◌++◌, length, get_or, set, Some, None, refl, arith, ap, sym, ◌∙◌, subst}
+use Rattle.std.proofs.Common.{◌≡◌, ℕ, suc, ◌+◌, ◌-◌, ◌^◌, ◌<◌, ◌≤◌, ◌==◌, ◌&&◌, Bool, true, false, cond, List, [], ◌∷◌, ◌++◌, length, get_or, set, Some, None, refl, arith, ap, sym, ◌∙◌, subst}
 use Rattle.std.proofs.Math.Path.{fun_ext}
 use Rattle.std.proofs.lemmas.List.{get_or-set_other, length-append}
 use Rattle.std.proofs.lemmas.Grind.{get_or-set_at}
@@ -169,6 +169,7 @@ bits-set signals (o ∷ os) n y named inside m = by (λ h. bits-set signals os n
         ap (λ b. cond b y.bits (signal_bits signals os m)) (apart-from y.number m (λ e. differ (sym e ∙ named)))
         ∙ sym (ap (λ b. cond b o.bits (signal_bits signals os m)) (apart-from o.number m (λ e. differ (sym e ∙ on))))
         ∙ sym (ap (λ b. cond b y.bits (cond (o.number == m) o.bits (signal_bits signals os m))) apart)
+
     behind : (c : Bool) → (m == n) ≡ c → (o.number ≡ n → ⊥) → cond (o.number == m) o.bits (cond (m == n) y.bits (signal_bits signals os m)) ≡ cond (m == n) y.bits (cond (o.number == m) o.bits (signal_bits signals os m))
     behind true same differ =
         let e : m ≡ n = grind (arith, nat_tests) in
@@ -177,6 +178,7 @@ bits-set signals (o ∷ os) n y named inside m = by (λ h. bits-set signals os n
     behind false apart differ =
         ap (λ b. cond (o.number == m) o.bits (cond b y.bits (signal_bits signals os m))) apart
         ∙ sym (ap (λ b. cond b y.bits (cond (o.number == m) o.bits (signal_bits signals os m))) apart)
+
     by : (place os n < length os → signal_bits signals (set os (place os n) y) m ≡ cond (m == n) y.bits (signal_bits signals os m)) → (c : Bool) → (o.number == n) ≡ c
         → signal_bits signals (set (o ∷ os) (place (o ∷ os) n) y) m ≡ cond (m == n) y.bits (signal_bits signals (o ∷ os) m)
     by rest true same =

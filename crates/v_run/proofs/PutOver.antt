@@ -1,5 +1,5 @@
 -- Writes that are put over other signals.
-use Rattle.std.proofs.Common.{◌≡◌, ℕ, zero, suc, ◌-◌, ◌^◌, ◌<◌, ◌≤◌, ◌==◌, ◌&&◌, Bool, true, false, cond, min, List, [], ◌∷◌, length, map, get_or, set, Option, Some, None, refl, arith, ap, sym, ◌∙◌, subst}
+use Rattle.std.proofs.Common.{◌≡◌, ℕ, zero, suc, ◌-◌, ◌^◌, ◌<◌, ◌≤◌, ◌==◌, ◌&&◌, Bool, true, false, cond, min, List, [], ◌∷◌, length, get_or, set, Option, Some, None, refl, arith, ap, sym, ◌∙◌}
 use Rattle.std.specs.Prelude.{nat_le, nat_lt}
 use Rattle.std.proofs.Math.Path.{fun_ext}
 use Rattle.std.proofs.lemmas.List.{get_or-set_other}
@@ -93,9 +93,11 @@ bit-put old new p bits k w none = w.now k ∙ by (nat_lt k (length old)) refl
     there : (b : Bool) (x y : Bit4) → cond (b && true) x y ≡ changed (cond b (Some x) None) y
     there true x y = refl
     there false x y = refl
+
     gone : (b : Bool) (x y : Bit4) → cond (b && false) x y ≡ y
     gone true x y = refl
     gone false x y = refl
+
     by : (c : Bool) → nat_lt k (length old) ≡ c → cond (within p k && nat_lt k (length old)) (new_bit p bits k) (get_or old k X) ≡ changed (cond (within p k) (Some (new_bit p bits k)) None) (get_or old k X)
     by true is = ap (λ c. cond (within p k && c) (new_bit p bits k) (get_or old k X)) is ∙ there (within p k) (new_bit p bits k) (get_or old k X)
     by false is =
@@ -159,4 +161,3 @@ pub over-next : (p : Piece) (ps : List Piece) (now new all : Valuation) → new 
 over-next p ps now new all is before =
     ap (put (to_signals (changes_of ps))) is ∙ sym (put-then (to_signals (change_of p)) (to_signals (changes_of ps)) now)
     ∙ sym (ap (λ c. put c now) (signals-then (change_of p) (changes_of ps))) ∙ before
-

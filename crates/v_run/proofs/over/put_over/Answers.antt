@@ -29,11 +29,11 @@ loop-piece-preserved c =
       shape = c.put_signal.ensures.widths ∙ c.loop-piece.invariant.shape;
       inside = λ h. within-rest ws p rest (subst (λ xs. Within ws (changes_of xs)) front (c.loop-piece.invariant.inside h));
       values = λ h.
-      (
-      let here = within-first ws p rest (subst (λ xs. Within ws (changes_of xs)) front (c.loop-piece.invariant.inside h)) in
-      over-next p rest now (holding c.put_signal.new.to [] []) all (c.put_signal.ensures.values (subst (λ ns. Within ns (change_of p)) (sym c.loop-piece.invariant.shape) here))
-      (subst (λ xs. put (to_signals (changes_of xs)) now ≡ all) front (c.loop-piece.invariant.values h))
-      );
+          (
+          let here = within-first ws p rest (subst (λ xs. Within ws (changes_of xs)) front (c.loop-piece.invariant.inside h)) in
+          over-next p rest now (holding c.put_signal.new.to [] []) all (c.put_signal.ensures.values (subst (λ ns. Within ns (change_of p)) (sym c.loop-piece.invariant.shape) here))
+          (subst (λ xs. put (to_signals (changes_of xs)) now ≡ all) front (c.loop-piece.invariant.values h))
+          );
     }
 
 pub returns-clause-values : goal.returns-clause-values

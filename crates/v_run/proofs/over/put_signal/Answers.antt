@@ -1,6 +1,5 @@
-use Rattle.std.proofs.Common.{rules, ◌≡◌, ◌<◌, length, refl, arith, subst}
+use Rattle.std.proofs.Common.{rules, ◌<◌, length, refl, arith, subst}
 use Rattle.v_eval.specs.Windows.{window_of}
-use Rattle.v_eval.specs.Holding.{slot_of}
 use Rattle.v_run.specs.Writes.{InsideWritten}
 use Rattle.v_run.proofs.PutOver.{slot-there, widths-put, present-put, absent-put, local-put}
 use Rattle.v_run.proofs.over.put_signal.Goals as goal
@@ -27,6 +26,6 @@ returns-else-piece-lt4294967296-clause-values c =
     let to = c.args.to.now in
     let p = c.args.piece.now in
     elim c.else-piece-lt4294967296.branch [
-      else-piece-lt4294967296-via-then-piece-lt4294967296+else-n-to w ↦ absent-put to p.number (window_of p.window) p.bits (omega (arith, w.if-n-to.false))
-    | else-piece-lt4294967296-via-else-piece-lt4294967296 w ↦ λ inside. local-put p.number (window_of p.window) p.bits _ (omega (arith, w.if-piece-lt4294967296.false))
+      | else-piece-lt4294967296-via-then-piece-lt4294967296+else-n-to w ↦ absent-put to p.number (window_of p.window) p.bits (omega (arith, w.if-n-to.false))
+      | else-piece-lt4294967296-via-else-piece-lt4294967296 w ↦ λ inside. local-put p.number (window_of p.window) p.bits _ (omega (arith, w.if-piece-lt4294967296.false))
     ]

@@ -1,5 +1,4 @@
-use Rattle.std.proofs.Common.{rules, ◌≡◌, ◌++◌, ◌∷◌, [], refl, arith, length, ap, sym, ◌∙◌, subst}
-use Rattle.v_eval.specs.declared.held.Slot.{Slot}
+use Rattle.std.proofs.Common.{rules, ◌≡◌, refl, arith, ap, ◌∙◌}
 use Rattle.v_run.specs.Writes.{place}
 use Rattle.v_run.proofs.HeldWrites.{place-pushed}
 use Rattle.v_run.proofs.slots.with_signal.Goals as goal
