@@ -24,7 +24,7 @@ use Rattle.v_meaning.specs.Values.{width_of}
 use Rattle.v_eval.specs.Paths.{selecting}
 use Rattle.v_eval.specs.Operators.{prefix_of, infix_of, prefix_width, operand_width, prefix_most, infix_width, left_width, right_width, infix_most}
 use Rattle.v_eval.specs.Limits.{Limits, SelLimits, limits, limits_of_sel, limits_of_prim, expr_limits, prim_limits, sel_limits, most_alone, most_given, most_of_all, most_of_sels, most_of_args, joined_wide}
-use Rattle.v_narrow.specs.Narrow.{few_in_prim, few_in_expr, few_in_sel, has_few_selects, StandsFor, SameNames, IsNarrow}
+use Rattle.v_narrow.specs.Narrow.{few_of_sel, few_in_prim, few_in_expr, few_in_sel, has_few_selects, StandsFor, SameNames, IsNarrow}
 
 -- parts of an empty list
 pub left-empty : {A : Type 0} (xs ys : List A) → xs ++ ys ≡ [] → xs ≡ []
@@ -484,8 +484,6 @@ prim_rules_of = fold-VPrim Rules Rules SelRules expr_rules prim_rules sel_rules
 abbrev few_of_prim : VPrim → Bool
 few_of_prim = fold-VPrim Bool Bool Bool few_in_expr few_in_prim few_in_sel
 
-abbrev pub few_of_sel : VSel → Bool
-few_of_sel = fold-VSel Bool Bool Bool few_in_expr few_in_prim few_in_sel
 
 abbrev ExprNarrow : VExpr → Type 0
 ExprNarrow x = has_few_selects x ≡ true → (around : Around) (sc : Scope) → SameNames around.scope sc → IsNarrow (rules_of x) (limits x) around sc

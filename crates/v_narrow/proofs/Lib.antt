@@ -1,1 +1,3 @@
 pub mod Exprs
+pub mod Targets
+pub mod Stmts
