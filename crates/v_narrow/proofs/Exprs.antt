@@ -11,7 +11,7 @@ use Rattle.v_tree.specs.declared.expressions.VExpr.{VExpr, VExpr-F}
 use Rattle.v_tree.specs.declared.expressions.VExtent.{VExtent}
 use Rattle.v_tree.specs.declared.expressions.VExtent.TheVariants.{Down, Up}
 use Rattle.v_tree.specs.declared.expressions.VPrim.{VPrim, VPrim-F, fold-VPrim}
-use Rattle.v_tree.specs.declared.expressions.VSel.{VSel, VSel-F, fold-VSel}
+use Rattle.v_tree.specs.declared.expressions.VSel.{VSel, VSel-F}
 use Rattle.v_tree.specs.declared.operators.VBinaryOp.{VBinaryOp}
 use Rattle.v_tree.specs.declared.operators.VBinaryOp.TheVariants as W
 use Rattle.v_tree.specs.declared.operators.VUnaryOp.{VUnaryOp}
@@ -483,7 +483,6 @@ prim_rules_of = fold-VPrim Rules Rules SelRules expr_rules prim_rules sel_rules
 
 abbrev few_of_prim : VPrim → Bool
 few_of_prim = fold-VPrim Bool Bool Bool few_in_expr few_in_prim few_in_sel
-
 
 abbrev ExprNarrow : VExpr → Type 0
 ExprNarrow x = has_few_selects x ≡ true → (around : Around) (sc : Scope) → SameNames around.scope sc → IsNarrow (rules_of x) (limits x) around sc

@@ -1,3 +1,4 @@
 pub mod Exprs
 pub mod Targets
 pub mod Stmts
+pub mod Designs

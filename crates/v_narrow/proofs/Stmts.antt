@@ -1,13 +1,12 @@
 -- Statements that break no rule are narrow.
-use Rattle.std.proofs.Common.{◌≡◌, ℕ, suc, ◌+◌, ◌≤◌, max, Bool, true, false, ◌&&◌, List, [], ◌∷◌, ◌++◌, length, map, Option, Some, None, refl, sym, ap, ◌∙◌, subst, if◌then◌else◌, arith}
+use Rattle.std.proofs.Common.{◌≡◌, ℕ, suc, ◌+◌, ◌≤◌, max, Bool, true, false, ◌&&◌, List, [], ◌∷◌, ◌++◌, map, Option, Some, None, refl, sym, ap, ◌∙◌, subst, if◌then◌else◌, arith}
 use Rattle.std.specs.Prelude.{cond}
 use Rattle.std.specs.Str.{bytes_eq}
 use Rattle.std.specs.List.{list_all}
 use Rattle.v_tree.specs.Scopes as Y
 use Rattle.v_tree.specs.Scopes.{Thing, Declared, inside, repeated, bits_of, part}
 use Rattle.v_tree.specs.ExprRules.{Around, Rules, rules_of, alone, only_if, each_from, listed_size}
-use Rattle.v_tree.specs.StmtRules as X
-use Rattle.v_tree.specs.StmtRules.{Procedure, Target, StmtRules, ItemRules, target_of, rules_of_stmt, rules_of_branch, branch_rules, item_rules, stmt_rules, stmts_broken, blocks_in, bodies, item_values, values_at, widest, widest_item, locals_from, locals_size, local_size, else_rules, mark_breaks}
+use Rattle.v_tree.specs.StmtRules.{Procedure, StmtRules, ItemRules, target_of, rules_of_stmt, rules_of_branch, branch_rules, item_rules, stmt_rules, stmts_broken, blocks_in, bodies, item_values, values_at, widest, widest_item, locals_from, locals_size, local_size, else_rules, mark_breaks}
 use Rattle.v_tree.specs.declared.expressions.VExpr.{VExpr}
 use Rattle.v_tree.specs.declared.items.VLocal.{VLocal}
 use Rattle.v_tree.specs.declared.statements.VBranch.{VBranch}
@@ -24,15 +23,15 @@ use Rattle.v_footprints.proofs.Levels as K
 use Rattle.v_meaning.specs.Scopes.{Named, Callee, Scope, named, bits_of_range, local_number}
 use Rattle.v_meaning.specs.Statements as M
 use Rattle.v_meaning.specs.Statements.{target}
-use Rattle.v_eval.specs.Limits.{Limits, limits, most_alone, most_given}
+use Rattle.v_eval.specs.Limits.{Limits, limits, most_given}
 use Rattle.v_run.specs.Limits.{target_most}
-use Rattle.v_exec.specs.Limits.{widest_of, most_at, most_compared, most_in_turn, or_zero, ItemLimits, values_in, bodies_in, branch_limits, item_limits, stmt_limits, stmt_most, branch_most, limits_of_item}
-use Rattle.v_narrow.specs.Narrow.{has_few_selects, target_has_few, all_have_few, few_in_branch, few_in_item, few_in_stmt, or_true, stmt_has_few, branch_has_few, StandsFor, SameNames, IsNarrow}
+use Rattle.v_exec.specs.Limits.{widest_of, most_at, most_in_turn, or_zero, ItemLimits, values_in, bodies_in, branch_limits, item_limits, stmt_limits, stmt_most, branch_most, limits_of_item}
+use Rattle.v_narrow.specs.Narrow.{has_few_selects, target_has_few, all_have_few, few_in_branch, few_in_item, few_in_stmt, stmt_has_few, branch_has_few, StandsFor, SameNames, IsNarrow}
 use Rattle.v_narrow.proofs.Exprs.{left-empty, right-empty, and-left, and-right, both-small, alone-most, given-most, exprs_narrow}
 use Rattle.v_narrow.proofs.Targets.{TargetNarrow, targets_narrow}
 
 -- names that stand for parts stand for anything
-parts-stand : (ds : List Declared) → AllParts ds → (outer : Y.Scope) (name : List ℕ) (n : Named) (c : Callee) → StandsFor (outer name) n c → StandsFor (inside ds outer name) n c
+pub parts-stand : (ds : List Declared) → AllParts ds → (outer : Y.Scope) (name : List ℕ) (n : Named) (c : Callee) → StandsFor (outer name) n c → StandsFor (inside ds outer name) n c
 parts-stand [] h outer name n c s = s
 parts-stand (d ∷ ds) h outer name n c s = by (bytes_eq d.name name) (parts-stand ds h.1 outer name n c s)
   where
@@ -40,7 +39,7 @@ parts-stand (d ∷ ds) h outer name n c s = by (bytes_eq d.name name) (parts-sta
     by true g = subst (λ (t : Thing). StandsFor (Some t) n c) (sym h.0) tt
     by false g = g
 
-range-bits : (range : Option ℕ) → bits_of_range range ≡ bits_of range
+pub range-bits : (range : Option ℕ) → bits_of_range range ≡ bits_of range
 range-bits None = refl
 range-bits (Some left) = refl
 

@@ -1,17 +1,13 @@
 -- Targets that break no rule are narrow.
-use Rattle.std.proofs.Common.{◌≡◌, ℕ, suc, ◌+◌, ◌≤◌, max, Bool, true, not, ◌&&◌, List, [], ◌∷◌, ◌++◌, length, map, Option, Some, None, refl, sym, ap, ◌∙◌, subst, arith}
+use Rattle.std.proofs.Common.{◌≡◌, ℕ, suc, ◌+◌, ◌≤◌, true, List, [], ◌∷◌, length, map, None, refl, sym, ap, ◌∙◌, subst, arith}
 use Rattle.std.specs.Prelude.{nat_le}
 use Rattle.std.specs.List.{list_all}
-use Rattle.v_tree.specs.Scopes.{named_bits}
-use Rattle.v_tree.specs.ExprRules.{Around, sel_rules_of, sels_broken, selected_of, name_broken, total}
+use Rattle.v_tree.specs.ExprRules.{Around, sel_rules_of, sels_broken, name_broken, total}
 use Rattle.v_tree.specs.StmtRules.{Target, target_of, lval_target, each_target}
 use Rattle.v_tree.specs.declared.expressions.VExpr.{VExpr}
-use Rattle.v_tree.specs.declared.expressions.VExtent.{VExtent}
 use Rattle.v_tree.specs.declared.expressions.VPrim.{VPrim}
 use Rattle.v_tree.specs.declared.expressions.VSel.{VSel}
-use Rattle.v_tree.specs.declared.expressions.VSel.TheVariants as S
 use Rattle.v_tree.specs.declared.statements.VLval.{VLval, VLval-F}
-use Rattle.v_tree.specs.declared.statements.VLval.TheVariants as G
 use Rattle.v_tree.proofs.Induction.{Each, ExprSteps, LvalSteps, ind-sel, ind-lval}
 use Rattle.v_expr_rules.proofs.Levels as L
 use Rattle.v_footprints.proofs.Levels as K
@@ -21,7 +17,7 @@ use Rattle.v_meaning.specs.Values.{sel_meaning, width_of, expr_step, prim_step, 
 use Rattle.v_meaning.specs.Statements as M
 use Rattle.v_meaning.specs.Statements.{target, lval_step}
 use Rattle.v_eval.specs.Paths.{selecting}
-use Rattle.v_eval.specs.Limits.{SelLimits, limits_of_sel, expr_limits, prim_limits, sel_limits, most_of_sels}
+use Rattle.v_eval.specs.Limits.{SelLimits, limits_of_sel, expr_limits, prim_limits, sel_limits}
 use Rattle.v_run.specs.Limits.{target_most, lval_limits, most_of_parts}
 use Rattle.v_narrow.specs.Narrow.{few_of_sel, few_in_lval, target_has_few, SameNames}
 use Rattle.v_narrow.proofs.Exprs.{left-empty, right-empty, and-left, and-right, both-small, sels_narrow, sels-most, named-wide}

@@ -1,10 +1,10 @@
 -- What the rules say of widths.
 use Rattle.std.specs.Prelude.{◌≡◌, true}
-use Rattle.v_tree.specs.ExprRules.{Around, rules_of}
-use Rattle.v_tree.specs.declared.expressions.VExpr.{VExpr}
-use Rattle.v_meaning.specs.Scopes.{Scope}
-use Rattle.v_eval.specs.Limits.{limits}
-use Rattle.v_narrow.specs.Narrow.{has_few_selects, SameNames, IsNarrow}
+use Rattle.std.specs.List.{list_all}
+use Rattle.v_tree.specs.Rules.{Keeps}
+use Rattle.v_tree.specs.declared.items.VDesign.{VDesign}
+use Rattle.v_narrow.specs.Modules.{module_has_few, AllNarrow}
 
-abbrev pub ExpressionsNarrow : Type 0
-ExpressionsNarrow = (x : VExpr) → has_few_selects x ≡ true → (around : Around) (sc : Scope) → SameNames around.scope sc → IsNarrow (rules_of x) (limits x) around sc
+-- where names have at most two selects, as the grammar has it, no design that keeps the rules does arithmetic on over 128 bits
+abbrev pub ModulesNarrow : Type 0
+ModulesNarrow = (e : VDesign) → Keeps e → list_all module_has_few e.modules ≡ true → AllNarrow e.modules

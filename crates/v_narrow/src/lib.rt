@@ -1,10 +1,10 @@
 //! Arithmetic in a target design that keeps the rules is narrow: laws of the definitions. No code.
 #![tactic(auto)]
 
-ghost use Rattle.v_narrow.specs.Laws.{ExpressionsNarrow};
+ghost use Rattle.v_narrow.specs.Laws.{ModulesNarrow};
 
-/// An expression that breaks no rule does arithmetic on 128 bits at most.
-#[tactic(auto, using(crate::proofs::Exprs::exprs_narrow, crate::proofs::Stmts::stmts_narrow))]
-pub fn expressions_narrow()
-    ensures { ExpressionsNarrow }
+/// The processes and functions of a design that keeps the rules do arithmetic on 128 bits at most.
+#[tactic(auto, using(crate::proofs::Designs::modules_narrow))]
+pub fn modules_narrow()
+    ensures { ModulesNarrow }
 {}
