@@ -1,0 +1,6 @@
+//! The signals and locals that expressions and statements of the target name (IEEE 1364-2005 clauses 9.7.5 and 12.7).
+#![tactic(auto)]
+
+mod expressions;
+
+pub use expressions::{Numbers, expr_names, sels_names};
