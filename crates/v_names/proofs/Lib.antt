@@ -1,1 +1,2 @@
 pub mod Exprs
+pub mod Targets

@@ -2,5 +2,7 @@
 #![tactic(auto)]
 
 mod expressions;
+mod statements;
 
 pub use expressions::{Numbers, expr_names, sels_names};
+pub use statements::lval_names;
