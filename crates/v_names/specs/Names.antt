@@ -1,10 +1,11 @@
 -- What statements name, as sets.
 use Rattle.std.specs.Prelude.{◌≡◌, ℕ, ◌==◌, Bool, ◌||◌, List, [], ◌∷◌, ◌++◌, Option, Some, None}
 use Rattle.std.specs.List.{list_any}
+use Rattle.v_tree.specs.declared.statements.VBranch.{VBranch}
 use Rattle.v_tree.specs.declared.statements.VCaseItem.{VCaseItem, fold-VCaseItem}
 use Rattle.v_meaning.specs.Scopes.{Scope}
-use Rattle.v_meaning.specs.Values.{Meaning, all_names}
-use Rattle.v_meaning.specs.Statements.{Doing, Item, branch_step, item_step, stmt_step}
+use Rattle.v_meaning.specs.Values.{all_names}
+use Rattle.v_meaning.specs.Statements.{Doing, Item, nothing, doing_of, branch_step, item_step, stmt_step}
 
 -- whether a number is one of these
 abbrev pub is_among : List ℕ → ℕ → Bool
@@ -24,3 +25,8 @@ item_named i sc = elim i.values [ None ↦ [] | Some ms ↦ all_names ms sc ++ i
 abbrev pub items_named : List Item → Scope → List ℕ
 items_named [] sc = []
 items_named (i ∷ is) sc = item_named i sc ++ items_named is sc
+
+-- what an `else` does
+abbrev pub else_doing : Option VBranch → Doing
+else_doing None = nothing
+else_doing (Some b) = doing_of b

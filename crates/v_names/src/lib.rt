@@ -5,4 +5,4 @@ mod expressions;
 mod statements;
 
 pub use expressions::{Numbers, expr_names, sels_names};
-pub use statements::lval_names;
+pub use statements::{branch_names, lval_names, stmt_names};
