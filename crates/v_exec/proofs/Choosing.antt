@@ -33,7 +33,7 @@ widened-next i is vs at new all sc same is_new before =
     ap (λ c. widened c (item_values is) sc) (is_new ∙ ap (λ xs. widened at xs sc) same) ∙ sym (widened-both (values_of i) (item_values is) at sc)
     ∙ ap (λ xs. widened at xs sc) (sym (values-next i.values i.body is)) ∙ before
 
-widest-both : (xs ys : List Limits) (sc : Scope) → widest_of (xs ++ ys) sc ≡ max (widest_of xs sc) (widest_of ys sc)
+pub widest-both : (xs ys : List Limits) (sc : Scope) → widest_of (xs ++ ys) sc ≡ max (widest_of xs sc) (widest_of ys sc)
 widest-both [] ys sc = omega arith
 widest-both (x ∷ xs) ys sc = let h = widest-both xs ys sc in omega (arith, h)
 
@@ -164,7 +164,7 @@ chooses-in kind on items sc held sel o is c = record {
 }
 
 -- the limits of the first item and of the rest
-most-both : (w : ℕ) (xs ys : List Limits) (sc : Scope) → most_at w (xs ++ ys) sc ≡ max (most_at w xs sc) (most_at w ys sc)
+pub most-both : (w : ℕ) (xs ys : List Limits) (sc : Scope) → most_at w (xs ++ ys) sc ≡ max (most_at w xs sc) (most_at w ys sc)
 most-both w [] ys sc = omega arith
 most-both w (x ∷ xs) ys sc = let h = most-both w xs ys sc in omega (arith, h)
 

@@ -5,3 +5,8 @@ pub mod Forms
 pub mod Running
 pub mod Calling
 pub mod Staying
+pub mod KeptExprs
+pub mod KeptStmts
+pub mod KeptRuns
+pub mod KeptModules
+pub mod KeptLinks

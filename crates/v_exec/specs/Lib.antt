@@ -2,4 +2,6 @@ pub mod Limits
 pub mod Choices
 pub mod Entering
 pub mod Inside
+pub mod Agreeing
+pub mod Keeping
 pub mod Modules
