@@ -1,4 +1,0 @@
-pub mod Exprs
-pub mod Targets
-pub mod Stmts
-pub mod Designs

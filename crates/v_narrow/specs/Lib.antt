@@ -1,3 +1,0 @@
-pub mod Narrow
-pub mod Modules
-pub mod Laws
