@@ -1,0 +1,8 @@
+//! What the signals of a target design hold, and edges on them.
+#![tactic(auto)]
+
+mod edges;
+mod initial;
+
+pub use edges::has_edge;
+pub use initial::initial_store;
