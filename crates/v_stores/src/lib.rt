@@ -3,6 +3,8 @@
 
 mod edges;
 mod initial;
+mod waits;
 
 pub use edges::has_edge;
 pub use initial::initial_store;
+pub use waits::differ_in;
