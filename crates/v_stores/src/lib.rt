@@ -7,4 +7,4 @@ mod waits;
 
 pub use edges::has_edge;
 pub use initial::initial_store;
-pub use waits::differ_in;
+pub use waits::{differ_in, waits_of_names};

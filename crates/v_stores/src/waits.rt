@@ -4,7 +4,7 @@ ghost use Rattle.std.specs.Prelude.{◌≡◌, ◌≢◌, ℕ, true, false, leng
 ghost use Rattle.b4_core.specs.declared.bit.Bit4.TheVariants.{X};
 ghost use Rattle.round_runner.specs.Stores.{holding, widths};
 ghost use Rattle.row_machine.specs.Settle.{differs};
-ghost use Rattle.v_stores.specs.Waits.{place, named_places};
+ghost use Rattle.v_stores.specs.Waits.{place, named_places, WaitsOfNames};
 
 use b4_core::{Bit4, Vec4};
 
@@ -48,3 +48,9 @@ pub fn differ_in(signals: &[usize], now: &[Vec4], was: &[Vec4]) -> bool
     }
     false
 }
+
+/// What a process waits for are all bits of the signals that it names (IEEE 1364-2005 clause 9.7.5).
+#[tactic(auto, using(crate::proofs::Naming::waited))]
+pub fn waits_of_names()
+    ensures { WaitsOfNames }
+{}
