@@ -48,6 +48,7 @@ flat-at e n k (suc w) t a = by (cases_first k a.bit a.above) (flat-at e n (suc k
     cases_first zero (suc j) h = inr (omega arith)
     cases_first (suc k) zero h = absurd (omega (arith, h))
     cases_first (suc k) (suc j) h = elim (cases_first k j (omega (arith, h))) [ inl e ↦ inl (ap suc e) | inr g ↦ inr (omega (arith, g)) ]
+
     by : (k ≡ a.bit) ⊎ (suc k ≤ a.bit) → (At (λ j. e (record { signal = n; bit = j })) (suc k) w t → Member (flat_map e (places_from n (suc k) w)) t)
         → Member (flat_map e (places_from n k (suc w))) t
     by (inl is) f = member-front (e (record { signal = n; bit = k })) (flat_map e (places_from n (suc k) w)) t (subst (λ j. Member (e (record { signal = n; bit = j })) t) (sym is) a.token)
@@ -68,6 +69,7 @@ at-met (u ∷ us) n w t m = by (touches u.span (all_of n w)) refl (subst (λ ts.
   where
     rest : (Member (met (all_of n w) us) t → At (λ j. tokens_at us (position n j)) 0 w t) → Member (met (all_of n w) us) t → At (λ j. tokens_at (u ∷ us) (position n j)) 0 w t
     rest f y = let a = f y in record { bit = a.bit; above = a.above; below = a.below; token = tokens-rest u us (position n a.bit) t a.token }
+
     here : touches u.span (all_of n w) ≡ true → t ≡ u.at → At (λ j. tokens_at (u ∷ us) (position n j)) 0 w t
     here is e =
         let lt = ltb-true (max u.span.low (position n 0)) (min u.span.high (position n w)) is in
@@ -80,6 +82,7 @@ at-met (u ∷ us) n w t m = by (touches u.span (all_of n w)) refl (subst (λ ts.
           below = omega (arith, lt);
           token = subst (λ ts. Member ts t) (sym (B.tokens-more u us (position n j) ∙ ap (λ b. cond b (u.at ∷ tokens_at us (position n j)) (tokens_at us (position n j))) in_u)) (inl e);
         }
+
     by : (b : Bool) → touches u.span (all_of n w) ≡ b → Member (cond b (u.at ∷ met (all_of n w) us) (met (all_of n w) us)) t
         → (Member (met (all_of n w) us) t → At (λ j. tokens_at us (position n j)) 0 w t) → At (λ j. tokens_at (u ∷ us) (position n j)) 0 w t
     by true is (inl e) f = here is e
@@ -94,10 +97,12 @@ met-at (u ∷ us) n w t j low m =
     rest : (b : Bool) → Member (met (all_of n w) us) t → Member (cond b (u.at ∷ met (all_of n w) us) (met (all_of n w) us)) t
     rest true y = inr y
     rest false y = y
+
     touched : covers u.span (position n j) ≡ true → touches u.span (all_of n w) ≡ true
     touched is =
         let a = B.covers-low u.span (position n j) is in
         let b = B.covers-high u.span (position n j) is in lt-ltb (max u.span.low (position n 0)) (min u.span.high (position n w)) (omega (arith, a, b, low))
+
     by : (b : Bool) → covers u.span (position n j) ≡ b → Member (cond b (u.at ∷ tokens_at us (position n j)) (tokens_at us (position n j))) t
         → (Member (tokens_at us (position n j)) t → Member (met (all_of n w) us) t) → Member (cond (touches u.span (all_of n w)) (u.at ∷ met (all_of n w) us) (met (all_of n w) us)) t
     by true is (inl e) f = subst (λ b. Member (cond b (u.at ∷ met (all_of n w) us) (met (all_of n w) us)) t) (sym (touched is)) (inl e)
@@ -107,11 +112,11 @@ met-at (u ∷ us) n w t j low m =
 same-met : (us : List Use) (e : Place → List ℕ) (n w : ℕ) → w < 2 ^ 32 → ((q : Place) → q.bit < 2 ^ 32 → tokens_at us (number_of q) ≡ e q) → SameTokens (met (all_of n w) us) (flat_map e (places_of n w))
 same-met us e n w short is t = (
   λ m. let a = at-met us n w t m in
-  let low = a.below in
-  flat-at e n 0 w t (record { bit = a.bit; above = a.above; below = low; token = subst (λ ts. Member ts t) (is (record { signal = n; bit = a.bit }) (omega (arith, low, short))) a.token }),
+      let low = a.below in
+      flat-at e n 0 w t (record { bit = a.bit; above = a.above; below = low; token = subst (λ ts. Member ts t) (is (record { signal = n; bit = a.bit }) (omega (arith, low, short))) a.token }),
   λ m. let a = at-flat e n 0 w t m in
-  let low = a.below in
-  met-at us n w t a.bit (omega (arith, low)) (subst (λ ts. Member ts t) (sym (is (record { signal = n; bit = a.bit }) (omega (arith, low, short)))) a.token),
+      let low = a.below in
+      met-at us n w t a.bit (omega (arith, low)) (subst (λ ts. Member ts t) (sym (is (record { signal = n; bit = a.bit }) (omega (arith, low, short)))) a.token),
 )
 
 pub unset-is : (unset : List ℕ) (f : Found) (g : Flow) (local width : ℕ) (marks : List Bool) → width < 2 ^ 32 → length marks ≡ width → unset ≡ f.unset ++ met (all_of (local_number local) width) f.early

@@ -35,9 +35,11 @@ covers-by n low high m bit short small = by (cases_order n m)
         ap (λ k. nat_le (position n low) (position k bit) && nat_lt (position k bit) (position n high)) (sym e)
         ∙ ap (λ b. b && nat_lt (position n bit) (position n high)) (le-same n low bit) ∙ ap (λ b. nat_le low bit && b) (lt-same n bit high)
         ∙ ap (λ b. b && (nat_le low bit && nat_lt bit high)) (sym (eq-eqb n m e))
+
     apart : (m : ℕ) → (n ≡ m → ⊥) → (nat_le (position n low) (position m bit) && nat_lt (position m bit) (position n high)) ≡ false
         → (nat_le (position n low) (position m bit) && nat_lt (position m bit) (position n high)) ≡ ((n == m) && (nat_le low bit && nat_lt bit high))
     apart m ne none = none ∙ sym (ap (λ b. b && (nat_le low bit && nat_lt bit high)) (ne_eqb n m ne))
+
     by : (n ≡ m) ⊎ ((n < m) ⊎ (m < n)) → (nat_le (position n low) (position m bit) && nat_lt (position m bit) (position n high)) ≡ ((n == m) && (nat_le low bit && nat_lt bit high))
     by (inl e) = same m e
     by (inr (inl h)) = apart m (λ e. omega (arith, h, e)) (and_right (nat_le (position n low) (position m bit)) (nat_lt (position m bit) (position n high)) (le-ltb (position m bit) (position n high) (omega (arith, h, short))))

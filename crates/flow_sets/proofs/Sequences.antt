@@ -73,14 +73,17 @@ then-is r a b f g reads writes later ends early unset unrolls statements h k = r
   where
     on : (o : Outcome) → (is_some a.ends.normal && is_some (end_in b.ends o)) ≡ (f.ends O.Normal && g.ends o)
     on o = and-bools (is_some a.ends.normal) (is_some (end_in b.ends o)) (f.ends O.Normal) (g.ends o) (h.ends O.Normal) (k.ends o)
+
     reached : (o : Outcome) → is_some (end_in r.ends o) ≡ ((f.ends O.Normal && g.ends o) || (not (is_normal o) && f.ends o))
     reached O.Normal = ends.normal.ends ∙ on O.Normal ∙ sym (L.or-false (f.ends O.Normal && g.ends O.Normal))
     reached O.Break = ends.breaks.ends ∙ or-bools (is_some a.ends.normal && is_some b.ends.breaks) (is_some a.ends.breaks) (f.ends O.Normal && g.ends O.Break) (f.ends O.Break) (on O.Break) (h.ends O.Break)
     reached O.Continue = ends.continues.ends ∙ or-bools (is_some a.ends.normal && is_some b.ends.continues) (is_some a.ends.continues) (f.ends O.Normal && g.ends O.Continue) (f.ends O.Continue) (on O.Continue) (h.ends O.Continue)
     reached O.Return = ends.returns.ends ∙ or-bools (is_some a.ends.normal && is_some b.ends.returns) (is_some a.ends.returns) (f.ends O.Normal && g.ends O.Return) (f.ends O.Return) (on O.Return) (h.ends O.Return)
+
     left : (o : Outcome) (q : Place) → q.bit < 2 ^ 32 → (leaves_out a.ends.normal (number_of q) && leaves_out (end_in b.ends o) (number_of q)) ≡ (f.slips O.Normal q && g.slips o q)
     left o q small =
         and-bools (leaves_out a.ends.normal (number_of q)) (leaves_out (end_in b.ends o) (number_of q)) (f.slips O.Normal q) (g.slips o q) (h.slips O.Normal q small) (k.slips o q small)
+
     slipped : (o : Outcome) (q : Place) → q.bit < 2 ^ 32 → leaves_out (end_in r.ends o) (number_of q) ≡ ((f.slips O.Normal q && g.slips o q) || (not (is_normal o) && f.slips o q))
     slipped O.Normal q small = ends.normal.slips (number_of q) ∙ left O.Normal q small ∙ sym (L.or-false (f.slips O.Normal q && g.slips O.Normal q))
     slipped O.Break q small =
@@ -89,6 +92,7 @@ then-is r a b f g reads writes later ends early unset unrolls statements h k = r
         ends.continues.slips (number_of q) ∙ or-bools (leaves_out a.ends.normal (number_of q) && leaves_out b.ends.continues (number_of q)) (leaves_out a.ends.continues (number_of q)) (f.slips O.Normal q && g.slips O.Continue q) (f.slips O.Continue q) (left O.Continue q small) (h.slips O.Continue q small)
     slipped O.Return q small =
         ends.returns.slips (number_of q) ∙ or-bools (leaves_out a.ends.normal (number_of q) && leaves_out b.ends.returns (number_of q)) (leaves_out a.ends.returns (number_of q)) (f.slips O.Normal q && g.slips O.Return q) (f.slips O.Return q) (left O.Return q small) (h.slips O.Return q small)
+
     both : (t : ℕ) → (Member r.unset t → Member (f.unset ++ cond (f.ends O.Normal) g.unset []) t) × (Member (f.unset ++ cond (f.ends O.Normal) g.unset []) t → Member r.unset t)
     both t =
         let s = same-append a.unset (cond (is_some a.ends.normal) b.unset []) f.unset (cond (f.ends O.Normal) g.unset []) h.unset (same-cond (is_some a.ends.normal) (f.ends O.Normal) b.unset g.unset (h.ends O.Normal) k.unset) t in
@@ -112,18 +116,22 @@ either-is r a b f g reads writes later ends early unset unrolls statements h k =
   where
     on : (o : Outcome) → (is_some (end_in a.ends o) || is_some (end_in b.ends o)) ≡ (f.ends o || g.ends o)
     on o = or-bools (is_some (end_in a.ends o)) (is_some (end_in b.ends o)) (f.ends o) (g.ends o) (h.ends o) (k.ends o)
+
     reached : (o : Outcome) → is_some (end_in r.ends o) ≡ (f.ends o || g.ends o)
     reached O.Normal = ends.normal.ends ∙ on O.Normal
     reached O.Break = ends.breaks.ends ∙ on O.Break
     reached O.Continue = ends.continues.ends ∙ on O.Continue
     reached O.Return = ends.returns.ends ∙ on O.Return
+
     left : (o : Outcome) (q : Place) → q.bit < 2 ^ 32 → (leaves_out (end_in a.ends o) (number_of q) || leaves_out (end_in b.ends o) (number_of q)) ≡ (f.slips o q || g.slips o q)
     left o q small = or-bools (leaves_out (end_in a.ends o) (number_of q)) (leaves_out (end_in b.ends o) (number_of q)) (f.slips o q) (g.slips o q) (h.slips o q small) (k.slips o q small)
+
     slipped : (o : Outcome) (q : Place) → q.bit < 2 ^ 32 → leaves_out (end_in r.ends o) (number_of q) ≡ (f.slips o q || g.slips o q)
     slipped O.Normal q small = ends.normal.slips (number_of q) ∙ left O.Normal q small
     slipped O.Break q small = ends.breaks.slips (number_of q) ∙ left O.Break q small
     slipped O.Continue q small = ends.continues.slips (number_of q) ∙ left O.Continue q small
     slipped O.Return q small = ends.returns.slips (number_of q) ∙ left O.Return q small
+
     both : (t : ℕ) → (Member r.unset t → Member (f.unset ++ g.unset) t) × (Member (f.unset ++ g.unset) t → Member r.unset t)
     both t =
         let s = same-append a.unset b.unset f.unset g.unset h.unset k.unset t in

@@ -1,0 +1,4 @@
+pub mod Agreeing
+pub mod Selects
+pub mod Plain
+pub mod Hanging

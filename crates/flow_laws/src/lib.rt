@@ -1,0 +1,12 @@
+//! What is known of expressions before a run holds in each run. The functions are laws, and do nothing; their proofs, to be
+//! cited by crates above, are in `proofs/`.
+#![tactic(auto)]
+
+ghost use Rattle.flow_laws.specs.Hangs.{ExpressionsHang};
+
+/// In surroundings that a sight knows of, an expression's value hangs on its reads alone, and what it selects from and which
+/// bits it selects on the reads of its indices; these bits lie in its prefix, and are all of it where the prefix is exact; what is
+/// known reads nothing.
+pub fn expressions_hang()
+    ensures { ExpressionsHang }
+{}
