@@ -2,3 +2,4 @@ pub mod Agreeing
 pub mod Selects
 pub mod Plain
 pub mod Hanging
+pub mod Placing

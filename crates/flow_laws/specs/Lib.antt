@@ -1,1 +1,2 @@
 pub mod Hangs
+pub mod Places

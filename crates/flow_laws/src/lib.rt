@@ -3,10 +3,17 @@
 #![tactic(auto)]
 
 ghost use Rattle.flow_laws.specs.Hangs.{ExpressionsHang};
+ghost use Rattle.flow_laws.specs.Places.{ExpressionsArePlaces};
 
 /// In surroundings that a sight knows of, an expression's value hangs on its reads alone, and what it selects from and which
 /// bits it selects on the reads of its indices; these bits lie in its prefix, and are all of it where the prefix is exact; what is
 /// known reads nothing.
 pub fn expressions_hang()
     ensures { ExpressionsHang }
+{}
+
+/// A write through an expression changes no bit but those that it may write, and each that it surely writes; which ones, and to
+/// what, hangs on the reads of its indices alone.
+pub fn expressions_are_places()
+    ensures { ExpressionsArePlaces }
 {}
