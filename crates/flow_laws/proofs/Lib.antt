@@ -3,3 +3,4 @@ pub mod Selects
 pub mod Plain
 pub mod Hanging
 pub mod Placing
+pub mod Running

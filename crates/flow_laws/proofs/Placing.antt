@@ -31,17 +31,17 @@ use Rattle.flow_laws.proofs.Selects as S
 use Rattle.flow_laws.proofs.Hanging.{hangs}
 
 -- whether bits are written, by whether the signal and the bit are there
-none-there : (b : Bool) (x : Option Bit4) → b ≡ false → cond b x None ≡ None
+pub none-there : (b : Bool) (x : Option Bit4) → b ≡ false → cond b x None ≡ None
 none-there b x h = ap (λ c. cond c x None) h
 
-some-there : (b : Bool) (x : Bit4) → b ≡ true → is_some (cond b (Some x) None) ≡ true
+pub some-there : (b : Bool) (x : Bit4) → b ≡ true → is_some (cond b (Some x) None) ≡ true
 some-there b x h = ap (λ c. is_some (cond c (Some x) None)) h
 
-same-number : (n m : ℕ) → (n == m) ≡ true → (m == n) ≡ true
+pub same-number : (n m : ℕ) → (n == m) ≡ true → (m == n) ≡ true
 same-number n m h = eq-eqb m n (sym (eqb-true n m h))
 
 -- what isn't in the use isn't in a window inside it
-outside : (n m : ℕ) (inner outer : Bool) → (inner ≡ true → outer ≡ true) → ((n == m) && outer) ≡ false → ((m == n) && inner) ≡ false
+pub outside : (n m : ℕ) (inner outer : Bool) → (inner ≡ true → outer ≡ true) → ((n == m) && outer) ≡ false → ((m == n) && inner) ≡ false
 outside n m inner outer inside none = by (m == n) inner refl refl
   where
     by : (b c : Bool) → (m == n) ≡ b → inner ≡ c → (b && c) ≡ false
@@ -91,18 +91,18 @@ abbrev pub AllPlaces : List Meaning → Type 0
 AllPlaces [] = Unit {0}
 AllPlaces (m ∷ ms) = IsPlace m × AllPlaces ms
 
-later-same : (x x' y y' : Option Bit4) → x ≡ x' → y ≡ y' → later_or x y ≡ later_or x' y'
+pub later-same : (x x' y y' : Option Bit4) → x ≡ x' → y ≡ y' → later_or x y ≡ later_or x' y'
 later-same x x' y y' h g = ap (λ z. later_or z y) h ∙ ap (later_or x') g
 
-later-some : (x y : Option Bit4) → is_some x ≡ true → is_some (later_or x y) ≡ true
+pub later-some : (x y : Option Bit4) → is_some x ≡ true → is_some (later_or x y) ≡ true
 later-some (Some b) y h = refl
 later-some None y h = absurd (false≢true h)
 
-earlier-some : (x y : Option Bit4) → is_some y ≡ true → is_some (later_or x y) ≡ true
+pub earlier-some : (x y : Option Bit4) → is_some y ≡ true → is_some (later_or x y) ≡ true
 earlier-some (Some b) y h = refl
 earlier-some None y h = h
 
-any-append : (f : Write → Bool) (xs ys : List Write) → list_any f (xs ++ ys) ≡ (list_any f xs || list_any f ys)
+pub any-append : (f : Write → Bool) (xs ys : List Write) → list_any f (xs ++ ys) ≡ (list_any f xs || list_any f ys)
 any-append f [] ys = refl
 any-append f (x ∷ xs) ys = ap (λ b. f x || b) (any-append f xs ys) ∙ assoc (f x) (list_any f xs) (list_any f ys)
   where
@@ -110,7 +110,7 @@ any-append f (x ∷ xs) ys = ap (λ b. f x || b) (any-append f xs ys) ∙ assoc 
     assoc true b c = refl
     assoc false b c = refl
 
-covered-writes : (xs ys : List Write) (q : Place) → covered (uses_of (xs ++ ys)) q ≡ (covered (uses_of xs) q || covered (uses_of ys) q)
+pub covered-writes : (xs ys : List Write) (q : Place) → covered (uses_of (xs ++ ys)) q ≡ (covered (uses_of xs) q || covered (uses_of ys) q)
 covered-writes [] ys q = refl
 covered-writes (x ∷ xs) ys q = ap (λ b. covers x.of q || b) (covered-writes xs ys q) ∙ assoc (covers x.of q) (covered (uses_of xs) q) (covered (uses_of ys) q)
   where

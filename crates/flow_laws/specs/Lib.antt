@@ -1,2 +1,3 @@
 pub mod Hangs
 pub mod Places
+pub mod Runs
