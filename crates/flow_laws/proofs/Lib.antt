@@ -4,3 +4,4 @@ pub mod Plain
 pub mod Hanging
 pub mod Placing
 pub mod Running
+pub mod Branching

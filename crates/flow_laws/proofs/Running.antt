@@ -26,11 +26,11 @@ normal-is Return h = absurd (false≢true h)
 agree-nothing : (a b : Around) → Agree [] a b
 agree-nothing a b q h = absurd (false≢true h)
 
-some-left : (ts us : List ℕ) → some_token ts ≡ true → some_token (ts ++ us) ≡ true
+pub some-left : (ts us : List ℕ) → some_token ts ≡ true → some_token (ts ++ us) ≡ true
 some-left [] us h = absurd (false≢true h)
 some-left (t ∷ ts) us h = refl
 
-some-right : (ts us : List ℕ) → some_token us ≡ true → some_token (ts ++ us) ≡ true
+pub some-right : (ts us : List ℕ) → some_token us ≡ true → some_token (ts ++ us) ≡ true
 some-right [] us h = h
 some-right (t ∷ ts) us h = refl
 
