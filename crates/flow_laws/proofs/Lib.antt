@@ -5,3 +5,4 @@ pub mod Hanging
 pub mod Placing
 pub mod Running
 pub mod Branching
+pub mod Scopes
