@@ -6,3 +6,4 @@ pub mod Placing
 pub mod Running
 pub mod Branching
 pub mod Scopes
+pub mod Blocks

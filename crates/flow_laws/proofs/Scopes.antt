@@ -51,7 +51,7 @@ pub pair-conforms : (k : Sight) (r r' : Run) (f g : Flow) → Conforms k r f →
 pair-conforms k r r' f g c d apart = U.then-conforms k k r r' f g c d (λ a s st n. U.still-seen [] k r f a s c apart st)
 
 -- a list of runs looks at how the state before it ended
-guarded : (rs : List Run) (a : Around) (s : State) → one_of (is_normal s.outcome) (R.in_turn rs) idle a s ≡ R.in_turn rs a s
+pub guarded : (rs : List Run) (a : Around) (s : State) → one_of (is_normal s.outcome) (R.in_turn rs) idle a s ≡ R.in_turn rs a s
 guarded [] a s = by (is_normal s.outcome)
   where
     by : (b : Bool) → one_of b (R.in_turn []) idle a s ≡ s
@@ -63,7 +63,7 @@ guarded (r ∷ rs) a s = by (is_normal s.outcome) refl
     by true is = ap (λ b. one_of b (λ c u. R.in_turn rs c (r c u)) idle a s) is
     by false is = refl
 
-turn-is : (r : Run) (rs : List Run) (k : Sight) (a : Around) (s : State) → Starts k a s → U.then_run r (R.in_turn rs) a s ≡ R.in_turn (r ∷ rs) a s
+pub turn-is : (r : Run) (rs : List Run) (k : Sight) (a : Around) (s : State) → Starts k a s → U.then_run r (R.in_turn rs) a s ≡ R.in_turn (r ∷ rs) a s
 turn-is r rs k a s st = guarded rs a (r a s) ∙ ap (λ b. one_of b (λ c u. R.in_turn rs c (r c u)) idle a s) (sym (ap is_normal st.normal))
 
 -- the same where runs may start
