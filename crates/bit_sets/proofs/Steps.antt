@@ -1,13 +1,12 @@
 -- From span to span.
-use Rattle.std.proofs.Common.{◌≡◌, ℕ, zero, suc, ◌+◌, ◌<◌, ◌≤◌, max, min, Bool, true, false, ◌&&◌, ◌||◌, not, ◌⊎◌, inl, inr, List, [], ◌∷◌, ◌++◌, cond, length, drop, slice_index_or, refl, ap, sym, ◌∙◌, subst, arith, append_assoc, append-nil}
+use Rattle.std.proofs.Common.{◌≡◌, ℕ, zero, suc, ◌+◌, ◌<◌, ◌≤◌, max, min, Bool, true, false, ◌&&◌, ◌||◌, ◌⊎◌, inl, inr, List, [], ◌∷◌, length, drop, slice_index_or, refl, ap, sym, ◌∙◌, subst, arith}
 use Rattle.std.proofs.Math.Seq.{drop-cons}
 use Rattle.std.proofs.Math.Numerals.{add-one}
 use Rattle.std.specs.Prelude.{nat_le, nat_lt}
-use Rattle.std.proofs.lemmas.Bool.{le-leb, lt-leb, lt-ltb, le-ltb, ltb-true, leb-true, ltb-false, leb-false, and_left, and_right, and_parts, both_ways, cases_lt}
+use Rattle.std.proofs.lemmas.Bool.{le-leb, lt-ltb, ltb-true, leb-true, and_left, and_right, both_ways}
 use Rattle.bit_sets.specs.declared.span.Span.{Span}
-use Rattle.bit_sets.specs.declared.span.Use.{Use}
-use Rattle.bit_sets.specs.Sets.{covers, in_spans, Ascending, IsSet, tokens_at}
-use Rattle.bit_sets.specs.Growing.{end_of, EndsBefore}
+use Rattle.bit_sets.specs.Sets.{covers, in_spans, Ascending}
+use Rattle.bit_sets.specs.Growing.{EndsBefore}
 use Rattle.bit_sets.proofs.Laws as L
 
 -- what stands at a place, and what is behind it

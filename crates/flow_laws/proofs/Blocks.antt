@@ -1,16 +1,13 @@
 -- Runs of blocks with locals, and of calls of tasks and void functions.
-use Rattle.std.proofs.Common.{◌≡◌, ℕ, suc, Bool, true, false, List, [], ◌∷◌, ◌++◌, map, length, Option, Some, None, refl, ap, sym, ◌∙◌, subst, arith}
-use Rattle.std.specs.Prelude.{is_some}
-use Rattle.std.proofs.lemmas.Bool.{true≢false, false≢true}
+use Rattle.std.proofs.Common.{◌≡◌, ℕ, suc, Bool, true, List, [], ◌∷◌, ◌++◌, map, length, Option, Some, None, refl, ap, sym, ◌∙◌, arith}
+use Rattle.std.proofs.lemmas.Bool.{true≢false}
 use Rattle.b4_core.specs.declared.bit.Bit4.{Bit4}
 use Rattle.b4_core.specs.Vectors.{ext}
-use Rattle.row_machine.specs.Valuation.{Place, Changes}
 use Rattle.sv_types.specs.declared.expression.Expr.{Expr}
 use Rattle.sv_types.specs.declared.statement.Local.{Local}
-use Rattle.sv_types.specs.declared.statement.Outcome.TheVariants.{Normal}
 use Rattle.sv_types.specs.declared.statement.Way.{Way}
 use Rattle.sv_types.specs.declared.statement.Way.TheVariants as Y
-use Rattle.sv_types.specs.Surroundings.{Around, Sight, Use, Write, Parameter, Callee}
+use Rattle.sv_types.specs.Surroundings.{Around, Sight, Parameter, Callee}
 use Rattle.sv_types.specs.Meanings.{Meaning, wide}
 use Rattle.sv_types.specs.Expressions.{meaning}
 use Rattle.sv_types.specs.Runs as R
@@ -18,13 +15,12 @@ use Rattle.sv_types.specs.Runs.{Run, State, current, is_normal, one_of, idle, co
 use Rattle.sv_types.specs.Flows as F
 use Rattle.sv_types.specs.Flows.{Flow, Flows, covered, uses_of, reads_in, all_read_in, writes_out, all_written_out}
 use Rattle.sv_types.specs.Statements.{initial_of, marks_of, scope_flow}
-use Rattle.flow_laws.specs.Hangs.{Seen, Agree, Same, Hangs}
+use Rattle.flow_laws.specs.Hangs.{Seen, Agree, Hangs}
 use Rattle.flow_laws.specs.Places.{IsPlace}
-use Rattle.flow_laws.specs.Runs.{Starts, Alike, ConformsBy, Conforms, Apart}
+use Rattle.flow_laws.specs.Runs.{Starts, Conforms, Apart}
 use Rattle.flow_laws.proofs.Agreeing as A
 use Rattle.flow_laws.proofs.Plain.{AllHang}
 use Rattle.flow_laws.proofs.Hanging.{hangs}
-use Rattle.flow_laws.proofs.Placing as W
 use Rattle.flow_laws.proofs.Placing.{AllPlaces}
 use Rattle.flow_laws.proofs.Running as U
 use Rattle.flow_laws.proofs.Branching as B
@@ -42,11 +38,11 @@ initial-hangs l = by l.initial
 abbrev pub local_runs : List Local → List Run
 local_runs ls = map (λ (l : Local). R.start l.number (marks_of l) (initial_of l)) ls
 
-unset-conforms : (k : Sight) (r : Run) (n : ℕ) (marks : List Bool) (first : Option Meaning) (f : Flow) → Conforms k r f → Conforms k r (F.unset_in n marks first f)
+pub unset-conforms : (k : Sight) (r : Run) (n : ℕ) (marks : List Bool) (first : Option Meaning) (f : Flow) → Conforms k r f → Conforms k r (F.unset_in n marks first f)
 unset-conforms k r n marks None f c = B.also-unset [] k r f (f.unset ++ F.early_of n marks f) c
 unset-conforms k r n marks (Some m) f c = c
 
-unset-apart : (k : Sight) (n : ℕ) (marks : List Bool) (first : Option Meaning) (f : Flow) → Apart k (F.unset_in n marks first f) → Apart k f
+pub unset-apart : (k : Sight) (n : ℕ) (marks : List Bool) (first : Option Meaning) (f : Flow) → Apart k (F.unset_in n marks first f) → Apart k f
 unset-apart k n marks None f h = h
 unset-apart k n marks (Some m) f h = h
 

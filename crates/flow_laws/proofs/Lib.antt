@@ -7,3 +7,5 @@ pub mod Running
 pub mod Branching
 pub mod Scopes
 pub mod Blocks
+pub mod Terms
+pub mod Conforming

@@ -4,7 +4,6 @@ use Rattle.bit_sets.specs.declared.span.Span.{Span}
 use Rattle.bit_sets.specs.declared.span.Use.{Use}
 use Rattle.bit_sets.specs.Sets.{covers, in_spans, tokens_at, IsSet}
 use Rattle.bit_sets.proofs.Laws as L
-use Rattle.bit_sets.proofs.Steps as S
 use Rattle.flow_sets.specs.declared.uses.Write.{Write}
 use Rattle.flow_sets.specs.Ends.{leaves_out}
 use Rattle.flow_sets.specs.Uses.{surely, met, touches}

@@ -3,7 +3,7 @@ use Rattle.std.proofs.Common.{◌≡◌, ℕ, Bool, true, false, ◌&&◌, ◌||
 use Rattle.std.specs.Prelude.{is_some}
 use Rattle.bit_sets.specs.declared.span.Span.{Span}
 use Rattle.bit_sets.specs.Sets.{in_spans, IsSet}
-use Rattle.flow_sets.specs.Ends.{IsKnown, leaves_out, IsEnd, IsAfter, IsThen, IsEither}
+use Rattle.flow_sets.specs.Ends.{IsKnown, leaves_out, IsAfter, IsThen, IsEither}
 
 not-or : (a b : Bool) → not (a || b) ≡ (not a && not b)
 not-or true b = refl

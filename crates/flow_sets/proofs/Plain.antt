@@ -1,5 +1,5 @@
 -- Statements without parts.
-use Rattle.std.proofs.Common.{◌≡◌, ℕ, ◌^◌, ◌<◌, Bool, true, false, ◌&&◌, not, List, [], ◌∷◌, Some, None, map, min, refl, ap, sym, ◌∙◌, arith}
+use Rattle.std.proofs.Common.{◌≡◌, ℕ, ◌^◌, ◌<◌, Bool, true, ◌&&◌, not, List, [], refl, ap, ◌∙◌}
 use Rattle.std.specs.Prelude.{is_some}
 use Rattle.row_machine.specs.Valuation.{Place}
 use Rattle.bit_sets.specs.declared.span.Span.{Span}
@@ -14,7 +14,7 @@ use Rattle.sv_types.specs.Flows as F
 use Rattle.flow_sets.specs.declared.found.Found.{Found}
 use Rattle.flow_sets.specs.declared.ends.Ends.{Ends}
 use Rattle.flow_sets.specs.declared.uses.Write.{Write}
-use Rattle.flow_sets.specs.Bits.{number_of, use_of, write_of, AreUses, AreWrites}
+use Rattle.flow_sets.specs.Bits.{number_of, AreUses, AreWrites}
 use Rattle.flow_sets.specs.Ends.{IsKnown, AreKnown, leaves_out, end_in, ending}
 use Rattle.flow_sets.specs.Flows.{IsFlow, SameTokens}
 use Rattle.flow_sets.specs.Uses.{surely}

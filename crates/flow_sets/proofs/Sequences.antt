@@ -1,5 +1,5 @@
 -- Statements with parts.
-use Rattle.std.proofs.Common.{◌≡◌, ◌⊎◌, inl, inr, ℕ, ◌+◌, ◌^◌, ◌<◌, Bool, true, false, ◌&&◌, ◌||◌, not, cond, List, [], ◌∷◌, ◌++◌, min, refl, ap, sym, ◌∙◌, subst, arith}
+use Rattle.std.proofs.Common.{◌≡◌, inl, inr, ℕ, ◌+◌, ◌^◌, ◌<◌, Bool, true, false, ◌&&◌, ◌||◌, not, cond, List, [], ◌++◌, min, ap, sym, ◌∙◌, subst, arith}
 use Rattle.std.specs.Prelude.{is_some}
 use Rattle.std.proofs.lemmas.Bool.{true≢false, false≢true}
 use Rattle.row_machine.specs.Valuation.{Place, Member}
@@ -13,7 +13,7 @@ use Rattle.sv_types.specs.Flows as F
 use Rattle.sv_types.specs.Flows.{Flow}
 use Rattle.flow_sets.specs.declared.found.Found.{Found}
 use Rattle.flow_sets.specs.declared.ends.Ends.{Ends}
-use Rattle.flow_sets.specs.Bits.{number_of, AreUses, AreWrites}
+use Rattle.flow_sets.specs.Bits.{number_of}
 use Rattle.flow_sets.specs.Ends.{IsKnown, AreKnown, AreThen, AreEither, leaves_out, end_in}
 use Rattle.flow_sets.specs.Flows.{IsFlow, SameTokens, most_counted}
 use Rattle.flow_sets.proofs.Positions as P

@@ -1,5 +1,5 @@
 -- What is known of statements before they run, as the code has it.
-use Rattle.std.specs.Prelude.{◌≡◌, ◌↔◌, ℕ, suc, ◌+◌, ◌^◌, ◌<◌, min, List, is_some}
+use Rattle.std.specs.Prelude.{◌≡◌, ◌↔◌, ℕ, ◌+◌, ◌^◌, ◌<◌, min, List, is_some}
 use Rattle.row_machine.specs.Valuation.{Place, Member}
 use Rattle.bit_sets.specs.Sets.{tokens_at}
 use Rattle.sv_types.specs.declared.statement.Outcome.{Outcome}

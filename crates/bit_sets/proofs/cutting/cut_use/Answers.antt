@@ -1,6 +1,4 @@
-use Rattle.std.proofs.Common.{arith, ◌∙◌, ap, sym, subst, drop, inl, inr}
-use Rattle.bit_sets.specs.Sets.{IsSet}
-use Rattle.bit_sets.proofs.Laws as L
+use Rattle.std.proofs.Common.{arith, inl, inr}
 use Rattle.bit_sets.proofs.Steps as S
 use Rattle.bit_sets.proofs.Cuts as C
 use Rattle.bit_sets.proofs.cutting.cut_use.Goals as goal

@@ -1,6 +1,5 @@
-use Rattle.std.proofs.Common.{◌+◌, ◌∙◌, ap, sym, drop, cond, [], ◌++◌, slice_index_or, append-nil}
+use Rattle.std.proofs.Common.{◌+◌, ◌∙◌, ap, sym, drop, cond, [], ◌++◌}
 use Rattle.bit_sets.specs.Sets.{in_spans, tokens_at}
-use Rattle.bit_sets.proofs.Laws as L
 use Rattle.bit_sets.proofs.Steps as S
 use Rattle.bit_sets.proofs.Cuts as C
 use Rattle.bit_sets.proofs.cutting.cut_uses.Goals as goal

@@ -1,4 +1,4 @@
-use Rattle.std.proofs.Common.{arith, ◌≤◌, ◌<◌, ◌+◌, ◌-◌, ◌/◌, length, slice_index_or}
+use Rattle.std.proofs.Common.{arith, ◌<◌, ◌+◌, ◌-◌, ◌/◌, length}
 use Rattle.bit_sets.proofs.Steps as S
 use Rattle.bit_sets.proofs.cutting.first_behind.Goals as goal
 

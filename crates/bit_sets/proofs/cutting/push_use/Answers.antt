@@ -1,5 +1,5 @@
-use Rattle.std.proofs.Common.{◌∙◌, ap, sym, append-nil, cond, [], ◌∷◌, ◌++◌}
-use Rattle.bit_sets.specs.Sets.{covers, tokens_at}
+use Rattle.std.proofs.Common.{◌∙◌, ap}
+use Rattle.bit_sets.specs.Sets.{tokens_at}
 use Rattle.bit_sets.proofs.Laws as L
 use Rattle.bit_sets.proofs.cutting.push_use.Goals as goal
 

@@ -1,4 +1,4 @@
-use Rattle.std.proofs.Common.{arith, ◌∙◌, sym, ap, subst, drop}
+use Rattle.std.proofs.Common.{arith, sym, subst, drop}
 use Rattle.bit_sets.specs.declared.growing.Growing.{Growing}
 use Rattle.bit_sets.specs.Sets.{Ascending}
 use Rattle.bit_sets.proofs.Steps as S

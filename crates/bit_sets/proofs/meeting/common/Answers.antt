@@ -1,4 +1,4 @@
-use Rattle.std.proofs.Common.{arith, ◌≤◌, max, min, ◌∙◌, sym, ap, subst, drop, inl, inr, ◌||◌, ◌&&◌}
+use Rattle.std.proofs.Common.{arith, ◌∙◌, sym, ap, subst, inl, inr, ◌||◌, ◌&&◌}
 use Rattle.bit_sets.specs.Sets.{in_spans, IsSet}
 use Rattle.bit_sets.specs.Growing.{end_of, EndsBefore}
 use Rattle.bit_sets.proofs.Laws as L

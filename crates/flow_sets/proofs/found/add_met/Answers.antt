@@ -1,4 +1,4 @@
-use Rattle.std.proofs.Common.{◌≡◌, ◌++◌, ◌∙◌, ap, sym, subst, drop, ◌+◌}
+use Rattle.std.proofs.Common.{◌++◌, ◌∙◌, ap, sym, drop, ◌+◌}
 use Rattle.bit_sets.proofs.Steps as B
 use Rattle.flow_sets.specs.Uses.{met}
 use Rattle.flow_sets.proofs.Early as E

@@ -1,4 +1,4 @@
-use Rattle.std.proofs.Common.{◌∙◌, ap, sym, subst}
+use Rattle.std.proofs.Common.{◌∙◌, sym, subst}
 use Rattle.sv_types.specs.Flows as F
 use Rattle.flow_sets.specs.Flows.{IsFlow}
 use Rattle.flow_sets.proofs.Plain as P

@@ -1,4 +1,4 @@
-use Rattle.std.proofs.Common.{◌++◌, ◌∙◌, ap, refl}
+use Rattle.std.proofs.Common.{◌++◌, ◌∙◌, ap}
 use Rattle.sv_types.specs.Surroundings.{local_number}
 use Rattle.flow_sets.specs.Bits.{span_of}
 use Rattle.flow_sets.specs.Uses.{met}

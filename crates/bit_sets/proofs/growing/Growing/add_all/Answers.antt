@@ -1,5 +1,4 @@
-use Rattle.std.proofs.Common.{arith, ◌∙◌, sym, ap, ◌||◌, slice_index_or}
-use Rattle.bit_sets.specs.Sets.{covers, in_spans}
+use Rattle.std.proofs.Common.{arith, ◌∙◌, sym, ap, ◌||◌}
 use Rattle.bit_sets.specs.Growing.{grown}
 use Rattle.bit_sets.proofs.Laws as L
 use Rattle.bit_sets.proofs.Steps as S
