@@ -1,13 +1,16 @@
 -- Runs of blocks with locals, and of calls of tasks and void functions.
-use Rattle.std.proofs.Common.{◌≡◌, ℕ, suc, Bool, true, List, [], ◌∷◌, ◌++◌, map, length, Option, Some, None, refl, ap, sym, ◌∙◌, arith}
-use Rattle.std.proofs.lemmas.Bool.{true≢false}
+use Rattle.std.proofs.Common.{◌≡◌, ℕ, suc, Bool, true, false, List, [], ◌∷◌, ◌++◌, map, length, Option, Some, None, refl, ap, sym, ◌∙◌, subst, arith}
+use Rattle.std.specs.Prelude.{is_some}
+use Rattle.std.proofs.lemmas.Bool.{true≢false, false≢true}
 use Rattle.b4_core.specs.declared.bit.Bit4.{Bit4}
 use Rattle.b4_core.specs.Vectors.{ext}
+use Rattle.row_machine.specs.Valuation.{Place, Changes}
 use Rattle.sv_types.specs.declared.expression.Expr.{Expr}
 use Rattle.sv_types.specs.declared.statement.Local.{Local}
+use Rattle.sv_types.specs.declared.statement.Outcome.TheVariants.{Normal}
 use Rattle.sv_types.specs.declared.statement.Way.{Way}
 use Rattle.sv_types.specs.declared.statement.Way.TheVariants as Y
-use Rattle.sv_types.specs.Surroundings.{Around, Sight, Parameter, Callee}
+use Rattle.sv_types.specs.Surroundings.{Around, Sight, Use, Write, Parameter, Callee}
 use Rattle.sv_types.specs.Meanings.{Meaning, wide}
 use Rattle.sv_types.specs.Expressions.{meaning}
 use Rattle.sv_types.specs.Runs as R
@@ -15,12 +18,13 @@ use Rattle.sv_types.specs.Runs.{Run, State, current, is_normal, one_of, idle, co
 use Rattle.sv_types.specs.Flows as F
 use Rattle.sv_types.specs.Flows.{Flow, Flows, covered, uses_of, reads_in, all_read_in, writes_out, all_written_out}
 use Rattle.sv_types.specs.Statements.{initial_of, marks_of, scope_flow}
-use Rattle.flow_laws.specs.Hangs.{Seen, Agree, Hangs}
+use Rattle.flow_laws.specs.Hangs.{Seen, Agree, Same, Hangs}
 use Rattle.flow_laws.specs.Places.{IsPlace}
-use Rattle.flow_laws.specs.Runs.{Starts, Conforms, Apart}
+use Rattle.flow_laws.specs.Runs.{Starts, Alike, ConformsBy, Conforms, Apart}
 use Rattle.flow_laws.proofs.Agreeing as A
 use Rattle.flow_laws.proofs.Plain.{AllHang}
 use Rattle.flow_laws.proofs.Hanging.{hangs}
+use Rattle.flow_laws.proofs.Placing as W
 use Rattle.flow_laws.proofs.Placing.{AllPlaces}
 use Rattle.flow_laws.proofs.Running as U
 use Rattle.flow_laws.proofs.Branching as B
@@ -28,7 +32,7 @@ use Rattle.flow_laws.proofs.Scopes as C
 use Rattle.flow_laws.proofs.Scopes.{Part, part_runs, part_flows, HangsOrNone}
 
 -- what a local starts with
-initial-hangs : (l : Local) → HangsOrNone (initial_of l)
+pub initial-hangs : (l : Local) → HangsOrNone (initial_of l)
 initial-hangs l = by l.initial
   where
     by : (o : Option Expr) → HangsOrNone (elim o [ None ↦ None | Some e ↦ Some (meaning e) ])

@@ -1,11 +1,12 @@
 -- Runs behind reads, runs of one of two statements, and writes.
-use Rattle.std.proofs.Common.{◌≡◌, ℕ, ◌-◌, Bool, true, false, ◌&&◌, ◌||◌, not, cond, List, [], ◌∷◌, ◌++◌, map, filter, drop, None, refl, ap, sym, ◌∙◌, subst}
+use Rattle.std.proofs.Common.{◌≡◌, ◌⊎◌, inl, inr, ℕ, ◌-◌, Bool, true, false, ◌&&◌, ◌||◌, not, cond, List, [], ◌∷◌, ◌++◌, map, filter, flat_map, drop, Option, Some, None, refl, ap, sym, ◌∙◌, subst}
 use Rattle.std.specs.Prelude.{is_some}
 use Rattle.std.specs.List.{list_any}
-use Rattle.std.proofs.lemmas.Bool.{true≢false, false≢true, or_parts, or_left, or_right, not-false}
+use Rattle.std.proofs.lemmas.Bool.{true≢false, false≢true, and_parts, or_parts, or_left, or_right, not-false}
+use Rattle.b4_core.specs.declared.bit.Bit4.{Bit4}
 use Rattle.b4_core.specs.Bits.{is_one}
-use Rattle.row_machine.specs.Valuation.{Place, Changes}
-use Rattle.row_machine.specs.Steps.{later_or}
+use Rattle.row_machine.specs.Valuation.{Place, Changes, put}
+use Rattle.row_machine.specs.Steps.{then_changes, later_or}
 use Rattle.sv_types.specs.declared.statement.Outcome.{Outcome}
 use Rattle.sv_types.specs.declared.statement.Outcome.TheVariants.{Normal, Break, Continue, Return}
 use Rattle.sv_types.specs.Surroundings.{Around, Sight, Use, Write}
@@ -16,7 +17,7 @@ use Rattle.sv_types.specs.Runs.{Run, State, current, is_normal, one_of, idle, as
 use Rattle.sv_types.specs.Flows as F
 use Rattle.sv_types.specs.Flows.{Flow, covers, covered, uses_of, surely_written, same_outcome, all_reads, all_indices, all_writes}
 use Rattle.flow_laws.specs.Hangs.{Seen, Agree, Same, Hangs}
-use Rattle.flow_laws.specs.Runs.{Starts, Alike, some_token, ConformsBy, Conforms}
+use Rattle.flow_laws.specs.Runs.{Starts, Alike, some_token, AlikeEarly, ConformsBy, Conforms, Apart}
 use Rattle.flow_laws.proofs.Agreeing as A
 use Rattle.flow_laws.proofs.Plain as P
 use Rattle.flow_laws.proofs.Placing as W

@@ -1,17 +1,20 @@
 -- Runs of statements one after the other, side by side, and behind reads.
-use Rattle.std.proofs.Common.{◌≡◌, ◌⊎◌, inl, inr, ℕ, Bool, true, false, ◌&&◌, not, cond, List, [], ◌∷◌, ◌++◌, Option, Some, None, refl, ap, sym, ◌∙◌}
+use Rattle.std.proofs.Common.{◌≡◌, ◌⊎◌, inl, inr, ℕ, Bool, true, false, ◌&&◌, ◌||◌, not, cond, List, [], ◌∷◌, ◌++◌, map, filter, Option, Some, None, refl, ap, sym, ◌∙◌, subst}
 use Rattle.std.specs.Prelude.{is_some}
-use Rattle.std.proofs.lemmas.Bool.{true≢false, false≢true, and_cases, or_parts, or_left, or_right}
+use Rattle.std.specs.List.{list_any}
+use Rattle.std.proofs.lemmas.Bool.{true≢false, false≢true, and_parts, and_cases, or_cases, or_parts, or_left, or_right}
 use Rattle.b4_core.specs.declared.bit.Bit4.{Bit4}
-use Rattle.row_machine.specs.Valuation.{Place, changed}
+use Rattle.row_machine.specs.Valuation.{Place, changed, put}
 use Rattle.sv_types.specs.declared.statement.Outcome.{Outcome}
 use Rattle.sv_types.specs.declared.statement.Outcome.TheVariants.{Normal, Break, Continue, Return}
-use Rattle.sv_types.specs.Surroundings.{Around, Sight, Use}
+use Rattle.sv_types.specs.Surroundings.{Around, Sight, Use, Write}
+use Rattle.sv_types.specs.Runs as R
 use Rattle.sv_types.specs.Runs.{Run, State, current, is_normal, one_of, idle}
 use Rattle.sv_types.specs.Flows as F
 use Rattle.sv_types.specs.Flows.{Flow, covers, covered, uses_of, same_outcome}
 use Rattle.flow_laws.specs.Hangs.{Seen, Agree}
 use Rattle.flow_laws.specs.Runs.{Starts, Alike, some_token, AlikeEarly, ConformsBy, Conforms, Apart}
+use Rattle.flow_laws.proofs.Agreeing as A
 use Rattle.flow_laws.proofs.Placing.{covered-writes}
 
 normal-is : (o : Outcome) → is_normal o ≡ true → o ≡ Normal

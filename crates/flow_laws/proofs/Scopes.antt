@@ -1,23 +1,28 @@
 -- Runs of lists of statements, of blocks with locals, and of `case`.
-use Rattle.std.proofs.Common.{◌≡◌, ℕ, Bool, true, false, ◌&&◌, ◌||◌, ◌==◌, List, [], ◌∷◌, ◌++◌, append_assoc, map, flat_map, length, Option, Some, None, refl, ap, sym, ◌∙◌, subst}
+use Rattle.std.proofs.Common.{◌≡◌, ◌⊎◌, inl, inr, ℕ, Bool, true, false, ◌&&◌, ◌||◌, ◌==◌, not, cond, List, [], ◌∷◌, ◌++◌, append_assoc, map, flat_map, zip, length, Option, Some, None, refl, ap, sym, ◌∙◌, subst}
 use Rattle.std.specs.Prelude.{is_some}
-use Rattle.std.specs.List.{list_any}
-use Rattle.std.proofs.lemmas.Bool.{true≢false, or_parts, and_parts}
+use Rattle.std.specs.List.{list_any, list_all}
+use Rattle.std.proofs.lemmas.Bool.{true≢false, false≢true, or_parts, and_parts}
 use Rattle.b4_core.specs.declared.bit.Bit4.{Bit4}
-use Rattle.row_machine.specs.Valuation.{Place}
+use Rattle.row_machine.specs.Valuation.{Place, Changes}
 use Rattle.sv_types.specs.declared.statement.CaseKind.{CaseKind}
-use Rattle.sv_types.specs.Windows.{whole, within}
-use Rattle.sv_types.specs.Surroundings.{Around, Sight, Use, local_number}
-use Rattle.sv_types.specs.Meanings.{Meaning}
+use Rattle.sv_types.specs.declared.statement.Local.{Local}
+use Rattle.sv_types.specs.declared.statement.Outcome.{Outcome}
+use Rattle.sv_types.specs.declared.statement.Outcome.TheVariants.{Normal}
+use Rattle.sv_types.specs.Windows.{Window, whole, within}
+use Rattle.sv_types.specs.Surroundings.{Around, Sight, Use, Write, local_number}
+use Rattle.sv_types.specs.Meanings.{Meaning, wide}
 use Rattle.sv_types.specs.Operators.{assigned_to}
 use Rattle.sv_types.specs.Layouts.{stored, default_bits}
 use Rattle.sv_types.specs.Runs as R
 use Rattle.sv_types.specs.Runs.{Run, State, ItemRun, Selector, current, is_normal, one_of, idle, matches, first_match, set_local, start_of}
 use Rattle.sv_types.specs.Flows as F
 use Rattle.sv_types.specs.Flows.{Flow, Flows, covers, covered, uses_of, surely_written, whole_local, all_reads}
+use Rattle.sv_types.specs.Statements.{initial_of, marks_of, scope_flow, starts, steps, runs}
 use Rattle.flow_laws.specs.Hangs.{Seen, Agree, Same, Hangs}
 use Rattle.flow_laws.specs.Runs.{Starts, Alike, ConformsBy, Conforms, Apart}
 use Rattle.flow_laws.proofs.Agreeing as A
+use Rattle.flow_laws.proofs.Plain as P
 use Rattle.flow_laws.proofs.Plain.{AllHang, AllSame}
 use Rattle.flow_laws.proofs.Placing as W
 use Rattle.flow_laws.proofs.Running as U
