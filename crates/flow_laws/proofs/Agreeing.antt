@@ -1,17 +1,14 @@
 -- Uses, names and windows of several parts.
-use Rattle.std.proofs.Common.{◌≡◌, ◌⊎◌, inl, inr, ℕ, zero, suc, ◌+◌, ◌<◌, ◌≤◌, max, min, Bool, true, false, ◌&&◌, ◌||◌, cond, ℤ, pos, negsuc, ◌+ℤ◌, List, [], ◌∷◌, ◌++◌, Option, Some, None, refl, ap, sym, ◌∙◌, subst, arith}
+use Rattle.std.proofs.Common.{◌≡◌, ℕ, zero, suc, ◌+◌, ◌<◌, max, min, Bool, true, false, ◌&&◌, ◌||◌, cond, ℤ, pos, negsuc, ◌+ℤ◌, List, [], ◌∷◌, ◌++◌, Option, Some, None, refl, ap, sym, ◌∙◌, subst, arith}
 use Rattle.std.specs.Prelude.{nat_le, nat_lt, leb, ltb, int_le, int_lt, slice_index_or}
-use Rattle.std.specs.List.{list_any}
-use Rattle.std.proofs.lemmas.Bool.{true≢false, false≢true, cases_Bool}
+use Rattle.std.proofs.lemmas.Bool.{false≢true}
 use Rattle.std.proofs.lemmas.Bool.Decides.{nat_tests}
-use Rattle.b4_core.specs.declared.bit.Bit4.{Bit4}
 use Rattle.b4_core.specs.declared.bit.Bit4.TheVariants.{X}
 use Rattle.row_machine.specs.Valuation.{Place, Valuation}
 use Rattle.row_machine.specs.Places.{vector_at, bits_from}
-use Rattle.sv_types.specs.Windows.{Window, nowhere, part, within, at_least_0, picked, bit_at, seen, tabulated, member_of, element_of, between, slide, elements, rank}
+use Rattle.sv_types.specs.Windows.{Window, nowhere, part, within, at_least_0, picked, bit_at, seen, member_of, element_of, between, slide, elements, rank}
 use Rattle.sv_types.specs.Layouts.{Layout, Part, count_of}
 use Rattle.sv_types.specs.Surroundings.{Around, Use}
-use Rattle.sv_types.specs.Meanings.{Named}
 use Rattle.sv_types.specs.Flows.{covers, covered}
 use Rattle.sv_types.proofs.Picks.{tabulated-same}
 use Rattle.flow_laws.specs.Hangs.{Agree, Inside}

@@ -1,16 +1,13 @@
 -- Runs of blocks with locals, and of calls of tasks and void functions.
-use Rattle.std.proofs.Common.{◌≡◌, ℕ, suc, Bool, true, false, List, [], ◌∷◌, ◌++◌, map, length, Option, Some, None, refl, ap, sym, ◌∙◌, subst, arith}
-use Rattle.std.specs.Prelude.{is_some}
-use Rattle.std.proofs.lemmas.Bool.{true≢false, false≢true}
+use Rattle.std.proofs.Common.{◌≡◌, ℕ, suc, Bool, true, List, [], ◌∷◌, ◌++◌, map, length, Option, Some, None, refl, ap, sym, ◌∙◌, arith}
+use Rattle.std.proofs.lemmas.Bool.{true≢false}
 use Rattle.b4_core.specs.declared.bit.Bit4.{Bit4}
 use Rattle.b4_core.specs.Vectors.{ext}
-use Rattle.row_machine.specs.Valuation.{Place, Changes}
 use Rattle.sv_types.specs.declared.expression.Expr.{Expr}
 use Rattle.sv_types.specs.declared.statement.Local.{Local}
-use Rattle.sv_types.specs.declared.statement.Outcome.TheVariants.{Normal}
 use Rattle.sv_types.specs.declared.statement.Way.{Way}
 use Rattle.sv_types.specs.declared.statement.Way.TheVariants as Y
-use Rattle.sv_types.specs.Surroundings.{Around, Sight, Use, Write, Parameter, Callee}
+use Rattle.sv_types.specs.Surroundings.{Around, Sight, Parameter, Callee}
 use Rattle.sv_types.specs.Meanings.{Meaning, wide}
 use Rattle.sv_types.specs.Expressions.{meaning}
 use Rattle.sv_types.specs.Runs as R
@@ -18,13 +15,12 @@ use Rattle.sv_types.specs.Runs.{Run, State, current, is_normal, one_of, idle, co
 use Rattle.sv_types.specs.Flows as F
 use Rattle.sv_types.specs.Flows.{Flow, Flows, covered, uses_of, reads_in, all_read_in, writes_out, all_written_out}
 use Rattle.sv_types.specs.Statements.{initial_of, marks_of, scope_flow}
-use Rattle.flow_laws.specs.Hangs.{Seen, Agree, Same, Hangs}
+use Rattle.flow_laws.specs.Hangs.{Seen, Agree, Hangs}
 use Rattle.flow_laws.specs.Places.{IsPlace}
-use Rattle.flow_laws.specs.Runs.{Starts, Alike, ConformsBy, Conforms, Apart}
+use Rattle.flow_laws.specs.Runs.{Starts, Conforms, Apart}
 use Rattle.flow_laws.proofs.Agreeing as A
 use Rattle.flow_laws.proofs.Plain.{AllHang}
 use Rattle.flow_laws.proofs.Hanging.{hangs}
-use Rattle.flow_laws.proofs.Placing as W
 use Rattle.flow_laws.proofs.Placing.{AllPlaces}
 use Rattle.flow_laws.proofs.Running as U
 use Rattle.flow_laws.proofs.Branching as B
@@ -84,8 +80,9 @@ copy-conforms k p m v h = by p.way
     out : Conforms k (copy_out p m v) (F.and_then (F.reading (m.indices k)) (F.writing (m.writes k)))
     out =
         let c = B.now-conforms (m.indices k) k (m.writes k) (λ a. m.puts a (ext (wide m) p.signed v)) (λ a sa q is. h.within k a sa (ext (wide m) p.signed v) q is) (λ a sa q is. h.sure k a sa (ext (wide m) p.signed v) q is)
-            (λ a b sa sb agree q. h.same k a b sa sb agree (ext (wide m) p.signed v) q) in
+        (λ a b sa sb agree q. h.same k a b sa sb agree (ext (wide m) p.signed v) q) in
         B.after-reading (m.indices k) k (copy_out p m v) (F.writing (m.writes k)) (record { ends = c.ends; within = c.within; later = c.later; grows = c.grows; sure = c.sure; same = c.same })
+
     by : (w : Way) → Conforms k (copied_out w (copy_out p m v)) (writes_out w m k)
     by Y.Input = B.idle-conforms k
     by Y.Output = out
@@ -97,10 +94,22 @@ shorter m n e = omega arith
 -- outputs are assigned in the order of the formals, each of which has a last value
 copies-conform : (k : Sight) (ps : List Parameter) (ms : List Meaning) (vs : List (List Bit4)) → AllPlaces ms → length vs ≡ length ps → Apart k (all_written_out ps ms k)
     → Conforms k (copies_out ps ms vs) (all_written_out ps ms k)
-copies-conform k [] ms vs h long apart = record { ends = λ a s st. ap is_normal st.normal; within = λ a s st q g. refl; later = λ a s st q g. refl; grows = λ a s st q g. g;
-    sure = λ a s st q g. absurd (true≢false (sym (ap is_normal st.normal) ∙ g)); same = λ a b s t sa sb alike agree early. alike }
-copies-conform k (p ∷ ps) [] vs h long apart = record { ends = λ a s st. ap is_normal st.normal; within = λ a s st q g. refl; later = λ a s st q g. refl; grows = λ a s st q g. g;
-    sure = λ a s st q g. absurd (true≢false (sym (ap is_normal st.normal) ∙ g)); same = λ a b s t sa sb alike agree early. alike }
+copies-conform k [] ms vs h long apart = record {
+  ends = λ a s st. ap is_normal st.normal;
+  within = λ a s st q g. refl;
+  later = λ a s st q g. refl;
+  grows = λ a s st q g. g;
+  sure = λ a s st q g. absurd (true≢false (sym (ap is_normal st.normal) ∙ g));
+  same = λ a b s t sa sb alike agree early. alike;
+}
+copies-conform k (p ∷ ps) [] vs h long apart = record {
+  ends = λ a s st. ap is_normal st.normal;
+  within = λ a s st q g. refl;
+  later = λ a s st q g. refl;
+  grows = λ a s st q g. g;
+  sure = λ a s st q g. absurd (true≢false (sym (ap is_normal st.normal) ∙ g));
+  same = λ a b s t sa sb alike agree early. alike;
+}
 copies-conform k (p ∷ ps) (m ∷ ms) [] h long apart = absurd (none (length ps) long)
   where
     none : (n : ℕ) → 0 ≡ suc n → ⊥
@@ -118,6 +127,7 @@ copies-conform k (p ∷ ps) (m ∷ ms) (v ∷ vs) h long apart =
     still a s st Y.Input = ap is_normal st.normal
     still a s st Y.Output = ap is_normal st.normal
     still a s st Y.Inout = ap is_normal st.normal
+
     goes-on : (a : Around) (s : State) → Starts k a s → (w : Way) (r : Run) → U.then_run (copied_out w (copy_out p m v)) r a s ≡ r a (copied_out w (copy_out p m v) a s)
     goes-on a s st w r = ap (λ b. one_of b r idle a (copied_out w (copy_out p m v) a s)) (still a s st w)
 

@@ -1,12 +1,11 @@
 -- Runs behind reads, runs of one of two statements, and writes.
-use Rattle.std.proofs.Common.{◌≡◌, ◌⊎◌, inl, inr, ℕ, ◌-◌, Bool, true, false, ◌&&◌, ◌||◌, not, cond, List, [], ◌∷◌, ◌++◌, map, filter, flat_map, drop, Option, Some, None, refl, ap, sym, ◌∙◌, subst}
+use Rattle.std.proofs.Common.{◌≡◌, ℕ, ◌-◌, Bool, true, false, ◌&&◌, ◌||◌, not, cond, List, [], ◌∷◌, ◌++◌, map, filter, drop, None, refl, ap, sym, ◌∙◌, subst}
 use Rattle.std.specs.Prelude.{is_some}
 use Rattle.std.specs.List.{list_any}
-use Rattle.std.proofs.lemmas.Bool.{true≢false, false≢true, and_parts, or_parts, or_left, or_right, not-false}
-use Rattle.b4_core.specs.declared.bit.Bit4.{Bit4}
+use Rattle.std.proofs.lemmas.Bool.{true≢false, false≢true, or_parts, or_left, or_right, not-false}
 use Rattle.b4_core.specs.Bits.{is_one}
-use Rattle.row_machine.specs.Valuation.{Place, Changes, put}
-use Rattle.row_machine.specs.Steps.{then_changes, later_or}
+use Rattle.row_machine.specs.Valuation.{Place, Changes}
+use Rattle.row_machine.specs.Steps.{later_or}
 use Rattle.sv_types.specs.declared.statement.Outcome.{Outcome}
 use Rattle.sv_types.specs.declared.statement.Outcome.TheVariants.{Normal, Break, Continue, Return}
 use Rattle.sv_types.specs.Surroundings.{Around, Sight, Use, Write}
@@ -17,7 +16,7 @@ use Rattle.sv_types.specs.Runs.{Run, State, current, is_normal, one_of, idle, as
 use Rattle.sv_types.specs.Flows as F
 use Rattle.sv_types.specs.Flows.{Flow, covers, covered, uses_of, surely_written, same_outcome, all_reads, all_indices, all_writes}
 use Rattle.flow_laws.specs.Hangs.{Seen, Agree, Same, Hangs}
-use Rattle.flow_laws.specs.Runs.{Starts, Alike, some_token, AlikeEarly, ConformsBy, Conforms, Apart}
+use Rattle.flow_laws.specs.Runs.{Starts, Alike, some_token, ConformsBy, Conforms}
 use Rattle.flow_laws.proofs.Agreeing as A
 use Rattle.flow_laws.proofs.Plain as P
 use Rattle.flow_laws.proofs.Placing as W
@@ -160,10 +159,10 @@ now-conforms us k ws c within sure same = record {
       W.later-some (c (current a s) q) (s.written q)
       (sure (current a s) st.seen q (not-false (surely_written ws q) (sym (ap (λ (o : Outcome). is_normal o && not (surely_written ws q)) st.normal) ∙ h)));
   same = λ a b s t sa sb alike agree early. record {
-      written = λ q. W.later-same (c (current a s) q) (c (current b t) q) (s.written q) (t.written q) (same (current a s) (current b t) sa.seen sb.seen agree q) (alike.written q);
-      pending = alike.pending;
-      outcome = alike.outcome;
-    };
+    written = λ q. W.later-same (c (current a s) q) (c (current b t) q) (s.written q) (t.written q) (same (current a s) (current b t) sa.seen sb.seen agree q) (alike.written q);
+    pending = alike.pending;
+    outcome = alike.outcome;
+  };
 }
 
 -- and made later
@@ -177,10 +176,10 @@ later-conforms us k ws c within same = record {
   grows = λ a s st q h. h;
   sure = λ a s st q h. absurd (true≢false (sym (ap is_normal st.normal) ∙ h));
   same = λ a b s t sa sb alike agree early. record {
-      written = alike.written;
-      pending = λ q. W.later-same (c (current a s) q) (c (current b t) q) (s.pending q) (t.pending q) (same (current a s) (current b t) sa.seen sb.seen agree q) (alike.pending q);
-      outcome = alike.outcome;
-    };
+    written = alike.written;
+    pending = λ q. W.later-same (c (current a s) q) (c (current b t) q) (s.pending q) (t.pending q) (same (current a s) (current b t) sa.seen sb.seen agree q) (alike.pending q);
+    outcome = alike.outcome;
+  };
 }
 
 -- an assignment: the indices of all parts and the value are read, and then all parts are written
@@ -200,13 +199,13 @@ changes-alike to value k a b places h sa sb agree q =
 pub assign-conforms : (k : Sight) (later : Bool) (to : List Meaning) (value : Meaning) → AllPlaces to → Hangs value → Conforms k (R.assign later to value) (F.assigning later to value k)
 assign-conforms k false to value places h =
     let c = now-conforms (all_indices to k ++ value.reads k) k (all_writes to k) (R.changes_of to value)
-        (λ a sa q is. W.all-within to k a places sa (R.value_given to value a) q is) (λ a sa q is. W.all-sure to k a places sa (R.value_given to value a) q is)
-        (λ a b sa sb agree q. changes-alike to value k a b places h sa sb agree q) in
+    (λ a sa q is. W.all-within to k a places sa (R.value_given to value a) q is) (λ a sa q is. W.all-sure to k a places sa (R.value_given to value a) q is)
+    (λ a b sa sb agree q. changes-alike to value k a b places h sa sb agree q) in
     after-reading (all_indices to k ++ value.reads k) k (R.assign false to value) (F.writing (all_writes to k))
     (record { ends = c.ends; within = c.within; later = c.later; grows = c.grows; sure = c.sure; same = c.same })
 assign-conforms k true to value places h =
     let c = later-conforms (all_indices to k ++ value.reads k) k (all_writes to k) (R.changes_of to value)
-        (λ a sa q is. W.all-within to k a places sa (R.value_given to value a) q is)
-        (λ a b sa sb agree q. changes-alike to value k a b places h sa sb agree q) in
+    (λ a sa q is. W.all-within to k a places sa (R.value_given to value a) q is)
+    (λ a b sa sb agree q. changes-alike to value k a b places h sa sb agree q) in
     after-reading (all_indices to k ++ value.reads k) k (R.assign true to value) (F.writing_later (all_writes to k))
     (record { ends = c.ends; within = c.within; later = c.later; grows = c.grows; sure = c.sure; same = c.same })

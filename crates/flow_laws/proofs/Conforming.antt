@@ -6,13 +6,11 @@ use Rattle.sv_source.specs.declared.token.Spot.{Spot}
 use Rattle.sv_types.specs.declared.expression.Expr.{Expr}
 use Rattle.sv_types.specs.declared.statement.CaseKind.{CaseKind}
 use Rattle.sv_types.specs.declared.statement.Local.{Local}
-use Rattle.sv_types.specs.declared.statement.Outcome.{Outcome}
 use Rattle.sv_types.specs.declared.statement.Outcome.TheVariants as O
 use Rattle.sv_types.specs.declared.statement.Stmt.{Stmt, the_lemmas}
 use Rattle.sv_types.specs.declared.statement.Stmt.TheVariants as V
 use Rattle.sv_types.specs.declared.statement.CaseItem.{CaseItem, fold-CaseItem}
 use Rattle.sv_types.specs.Surroundings.{Around, Sight}
-use Rattle.sv_types.specs.Meanings.{Meaning}
 use Rattle.sv_types.specs.Expressions.{meaning}
 use Rattle.sv_types.specs.Runs as R
 use Rattle.sv_types.specs.Runs.{Run, State, ItemRun, is_normal, one_of, idle}
@@ -22,7 +20,7 @@ use Rattle.sv_types.specs.Statements.{Doing, Item, doing, scope, scope_flow, sta
 use Rattle.sv_types.proofs.DoingLevels as D
 use Rattle.sv_types.proofs.DoingLevels.{item_of, perhaps}
 use Rattle.flow_laws.specs.Runs.{Starts, Conforms, Apart}
-use Rattle.flow_laws.specs.Statements.{is_loopless, or_true, stmt_step, item_step, GivesFinals}
+use Rattle.flow_laws.specs.Statements.{is_loopless, stmt_step, item_step, GivesFinals}
 use Rattle.flow_laws.proofs.Plain.{AllHang}
 use Rattle.flow_laws.proofs.Hanging.{hangs}
 use Rattle.flow_laws.proofs.Placing.{AllPlaces, places}
@@ -160,12 +158,12 @@ items-of k (i ∷ is) g h loopless finals apart =
     let rest = items-of k is g h.1 two.1 finals (C.apart-second k f rest_flow apart) in
     let near : Apart k ((doing i.body).flow k) = subst (λ (d : Doing). Apart k (d.flow k)) does (C.apart-first k f rest_flow apart) in
     let p : ItemPart k = record {
-          values = map meaning i.values;
-          run = (doing i.body).run;
-          flow = (doing i.body).flow;
-          hang = all-hang i.values;
-          conforms = h.0 (sym (loopless-item i) ∙ two.0) k finals near;
-        } in
+      values = map meaning i.values;
+      run = (doing i.body).run;
+      flow = (doing i.body).flow;
+      hang = all-hang i.values;
+      conforms = h.0 (sym (loopless-item i) ∙ two.0) k finals near;
+    } in
     one-more k p (map item_of is) (item_of i) (D.item-of i ∙ ap (λ (d : Doing). record { values = map meaning i.values; does = d }) (sym does)) (ap (λ (d : Doing). d.run) (sym does)) (ap (λ (d : Doing). d.flow) (sym does)) rest
 
 select-well : (k : Sight) (kind : CaseKind) (on : Expr) (is : List CaseItem) (other : Option Stmt) → Each ItemClaim is → OrNone Claim other → list_all (λ b. b) (map loopless_item is) ≡ true → perhaps_loopless other ≡ true

@@ -1,5 +1,5 @@
 -- Every expression hangs on its reads.
-use Rattle.std.proofs.Common.{◌≡◌, ℕ, ◌+◌, ◌-◌, ◌*◌, max, Bool, true, false, ◌&&◌, ◌||◌, cond, ℤ, List, [], ◌∷◌, ◌++◌, map, flat_map, replicate, drop, length, take, refl, ap, sym, ◌∙◌, subst}
+use Rattle.std.proofs.Common.{◌≡◌, ℕ, ◌-◌, max, Bool, false, ◌||◌, cond, List, [], ◌∷◌, ◌++◌, map, flat_map, replicate, drop, length, refl, ap, sym, ◌∙◌, subst}
 use Rattle.b4_core.specs.declared.bit.Bit4.{Bit4}
 use Rattle.b4_core.specs.declared.bit.Bit4.TheVariants.{Zero}
 use Rattle.b4_core.specs.declared.operators.UnOp.{UnOp}
@@ -24,8 +24,8 @@ use Rattle.sv_types.specs.declared.expression.Form.{Form}
 use Rattle.sv_types.specs.declared.expression.Choice.{Choice}
 use Rattle.sv_types.specs.Layouts.{Layout, layout, stored, stacked, repeated}
 use Rattle.sv_types.specs.Values.{bits}
-use Rattle.sv_types.specs.Surroundings.{Around, Sight}
-use Rattle.sv_types.specs.Meanings.{Meaning, Operand, wide, signed, alone, most, by_itself, in_context, at_width}
+use Rattle.sv_types.specs.Surroundings.{Around}
+use Rattle.sv_types.specs.Meanings.{Meaning, wide, signed, alone, most, by_itself, in_context, at_width}
 use Rattle.sv_types.specs.Operators as O
 use Rattle.sv_types.specs.Operators.{Alternative, joined, truth, streamed, width_of_all, is_inside, chosen, equals, in_order, compared, both_wide, passed, parts_of, assigned_to, no_arithmetic}
 use Rattle.sv_types.specs.Expressions.{meaning}

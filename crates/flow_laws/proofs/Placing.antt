@@ -1,20 +1,20 @@
 -- What a write through an expression changes.
-use Rattle.std.proofs.Common.{◌≡◌, ◌⊎◌, inl, inr, ℕ, ◌+◌, ◌==◌, Bool, true, false, ◌&&◌, ◌||◌, cond, ℤ, pos, ◌-ℤ◌, List, [], ◌∷◌, ◌++◌, map, flat_map, take, drop, length, Option, Some, None, refl, ap, sym, ◌∙◌, subst}
+use Rattle.std.proofs.Common.{◌≡◌, ◌⊎◌, inl, inr, ℕ, ◌==◌, Bool, true, false, ◌&&◌, ◌||◌, cond, ℤ, pos, ◌-ℤ◌, List, [], ◌∷◌, ◌++◌, map, flat_map, take, drop, Option, Some, None, refl, ap, sym, ◌∙◌, subst}
 use Rattle.std.specs.Prelude.{is_some, slice_get, slice_index_or}
 use Rattle.std.specs.List.{list_any}
-use Rattle.std.proofs.lemmas.Bool.{true≢false, false≢true, and_parts, or_cases, or_parts, eqb-true, eq-eqb}
+use Rattle.std.proofs.lemmas.Bool.{false≢true, and_parts, or_cases, or_parts, eqb-true, eq-eqb}
 use Rattle.b4_core.specs.declared.bit.Bit4.{Bit4}
 use Rattle.b4_core.specs.declared.bit.Bit4.TheVariants.{X}
 use Rattle.row_machine.specs.Valuation.{Place, Changes}
-use Rattle.row_machine.specs.Steps.{unchanged, then_changes, later_or}
+use Rattle.row_machine.specs.Steps.{unchanged, later_or}
 use Rattle.sv_types.specs.declared.expression.Expr.{Expr}
 use Rattle.sv_types.specs.declared.expression.Form.{Form}
 use Rattle.sv_types.specs.declared.expression.Choice.{Choice}
 use Rattle.sv_types.specs.declared.types.Value.{Value}
 use Rattle.sv_types.specs.Layouts.{Layout, layout, stored}
 use Rattle.sv_types.specs.Windows.{Window, within, at_least_0, written, member_of, between, element_of, slide}
-use Rattle.sv_types.specs.Surroundings.{Around, Sight, Use, Write, local_number}
-use Rattle.sv_types.specs.Meanings.{Meaning, Path, selected, wide, use_of, writes_of}
+use Rattle.sv_types.specs.Surroundings.{Around, Sight, Write, local_number}
+use Rattle.sv_types.specs.Meanings.{Meaning, Path, selected, wide}
 use Rattle.sv_types.specs.Operators as O
 use Rattle.sv_types.specs.Operators.{Alternative, puts_all, width_of_all}
 use Rattle.sv_types.specs.Paths as P
@@ -66,6 +66,7 @@ selected-place of at (Some n) p h = record {
     or-true : (b : Bool) → (b || false) ≡ true → b ≡ true
     or-true true g = refl
     or-true false g = g
+
     sure : (k : Sight) (a : Around) → Seen k a → (v : List Bit4) (q : Place) → ((p.prefix k).exact && ((n == q.signal) && within (p.prefix k).window q.bit)) ≡ true
         → is_some (written n (p.window a) (stored of.two_state v) q) ≡ true
     sure k a sa v q is =

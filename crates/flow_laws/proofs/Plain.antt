@@ -1,5 +1,5 @@
 -- Expressions that are no paths.
-use Rattle.std.proofs.Common.{◌≡◌, ℕ, ◌+◌, max, Bool, true, false, ◌&&◌, ◌||◌, cond, List, [], ◌∷◌, ◌++◌, map, flat_map, zip, length, take, refl, ap, sym, ◌∙◌, subst}
+use Rattle.std.proofs.Common.{◌≡◌, ℕ, max, Bool, true, false, List, [], ◌∷◌, map, flat_map, zip, length, take, refl, ap, sym, ◌∙◌, subst}
 use Rattle.std.specs.List.{list_all}
 use Rattle.std.proofs.lemmas.Bool.{and_parts}
 use Rattle.b4_core.specs.declared.bit.Bit4.{Bit4}
@@ -7,8 +7,8 @@ use Rattle.b4_core.specs.Vectors.{ext}
 use Rattle.b4_core.specs.Bitwise.{truth_of}
 use Rattle.b4_core.specs.Compare.{order_value, equality}
 use Rattle.sv_types.specs.Layouts.{Layout, Part, stacked, stored}
-use Rattle.sv_types.specs.Surroundings.{Around, Sight, Use, Parameter}
-use Rattle.sv_types.specs.Meanings.{Meaning, Operand, plain, by_itself, in_context, at_width, wide, signed, alone, cut_to}
+use Rattle.sv_types.specs.Surroundings.{Around, Sight, Parameter}
+use Rattle.sv_types.specs.Meanings.{Meaning, Operand, plain, by_itself, at_width, wide, signed, alone}
 use Rattle.sv_types.specs.Operators as O
 use Rattle.sv_types.specs.Operators.{Alternative, joined, truth, equals, in_order, is_inside, inside_width, inside_operands, assigned_to, passed, with_parts, four_state, one_bit, both_wide}
 pub use Rattle.flow_laws.specs.Hangs.{Seen, Agree, Same, Inside, Stands, Moves, Hangs}

@@ -1,20 +1,17 @@
 -- Runs of statements one after the other, side by side, and behind reads.
-use Rattle.std.proofs.Common.{◌≡◌, ◌⊎◌, inl, inr, ℕ, Bool, true, false, ◌&&◌, ◌||◌, not, cond, List, [], ◌∷◌, ◌++◌, map, filter, Option, Some, None, refl, ap, sym, ◌∙◌, subst}
+use Rattle.std.proofs.Common.{◌≡◌, ◌⊎◌, inl, inr, ℕ, Bool, true, false, ◌&&◌, not, cond, List, [], ◌∷◌, ◌++◌, Option, Some, None, refl, ap, sym, ◌∙◌}
 use Rattle.std.specs.Prelude.{is_some}
-use Rattle.std.specs.List.{list_any}
-use Rattle.std.proofs.lemmas.Bool.{true≢false, false≢true, and_parts, and_cases, or_cases, or_parts, or_left, or_right}
+use Rattle.std.proofs.lemmas.Bool.{true≢false, false≢true, and_cases, or_parts, or_left, or_right}
 use Rattle.b4_core.specs.declared.bit.Bit4.{Bit4}
-use Rattle.row_machine.specs.Valuation.{Place, changed, put}
+use Rattle.row_machine.specs.Valuation.{Place, changed}
 use Rattle.sv_types.specs.declared.statement.Outcome.{Outcome}
 use Rattle.sv_types.specs.declared.statement.Outcome.TheVariants.{Normal, Break, Continue, Return}
-use Rattle.sv_types.specs.Surroundings.{Around, Sight, Use, Write}
-use Rattle.sv_types.specs.Runs as R
+use Rattle.sv_types.specs.Surroundings.{Around, Sight, Use}
 use Rattle.sv_types.specs.Runs.{Run, State, current, is_normal, one_of, idle}
 use Rattle.sv_types.specs.Flows as F
 use Rattle.sv_types.specs.Flows.{Flow, covers, covered, uses_of, same_outcome}
 use Rattle.flow_laws.specs.Hangs.{Seen, Agree}
 use Rattle.flow_laws.specs.Runs.{Starts, Alike, some_token, AlikeEarly, ConformsBy, Conforms, Apart}
-use Rattle.flow_laws.proofs.Agreeing as A
 use Rattle.flow_laws.proofs.Placing.{covered-writes}
 
 normal-is : (o : Outcome) → is_normal o ≡ true → o ≡ Normal
@@ -71,23 +68,28 @@ then-conforms k k' r r' f g c d next = record {
   where
     begins : (a : Around) (s : State) → Starts k a s → is_normal (r a s).outcome ≡ true → Starts k' a (r a s)
     begins a s st is = let n = normal-is (r a s).outcome is in record { normal = n; seen = next a s st n }
+
     ends : (a : Around) (s : State) → Starts k a s → (b : Bool) → is_normal (r a s).outcome ≡ b → (F.and_then f g).ends (one_of b r' idle a (r a s)).outcome ≡ true
     ends a s st true is =
         or_left (f.ends Normal && g.ends (r' a (r a s)).outcome) (not (is_normal (r' a (r a s)).outcome) && f.ends (r' a (r a s)).outcome)
         (ap (λ x. x && g.ends (r' a (r a s)).outcome) (sym (ap f.ends (normal-is (r a s).outcome is)) ∙ c.ends a s st) ∙ d.ends a (r a s) (begins a s st is))
     ends a s st false is =
         or_right (f.ends Normal && g.ends (r a s).outcome) (not (is_normal (r a s).outcome) && f.ends (r a s).outcome) (ap (λ x. not x && f.ends (r a s).outcome) is ∙ c.ends a s st)
+
     within : (a : Around) (s : State) → Starts k a s → (q : Place) → (covered (uses_of f.writes) q ≡ false) × (covered (uses_of g.writes) q ≡ false) → (b : Bool) → is_normal (r a s).outcome ≡ b
         → (one_of b r' idle a (r a s)).written q ≡ s.written q
     within a s st q none true is = d.within a (r a s) (begins a s st is) q none.1 ∙ c.within a s st q none.0
     within a s st q none false is = c.within a s st q none.0
+
     later : (a : Around) (s : State) → Starts k a s → (q : Place) → (covered (uses_of f.later) q ≡ false) × (covered (uses_of g.later) q ≡ false) → (b : Bool) → is_normal (r a s).outcome ≡ b
         → (one_of b r' idle a (r a s)).pending q ≡ s.pending q
     later a s st q none true is = d.later a (r a s) (begins a s st is) q none.1 ∙ c.later a s st q none.0
     later a s st q none false is = c.later a s st q none.0
+
     grows : (a : Around) (s : State) → Starts k a s → (q : Place) → is_some (s.written q) ≡ true → (b : Bool) → is_normal (r a s).outcome ≡ b → is_some ((one_of b r' idle a (r a s)).written q) ≡ true
     grows a s st q h true is = d.grows a (r a s) (begins a s st is) q (c.grows a s st q h)
     grows a s st q h false is = c.grows a s st q h
+
     sure : (a : Around) (s : State) → Starts k a s → (q : Place) → (b : Bool) → is_normal (r a s).outcome ≡ b → (F.and_then f g).slips (one_of b r' idle a (r a s)).outcome q ≡ false
         → is_some ((one_of b r' idle a (r a s)).written q) ≡ true
     sure a s st q true is h =
@@ -98,23 +100,28 @@ then-conforms k k' r r' f g c d next = record {
         by (inr y) = d.sure a (r a s) (begins a s st is) q y
     sure a s st q false is h =
         c.sure a s st q (sym (ap (λ x. not x && f.slips (r a s).outcome q) is) ∙ (or_parts (f.slips Normal q && g.slips (r a s).outcome q) (not (is_normal (r a s).outcome) && f.slips (r a s).outcome q) h).1)
+
     between : (a b : Around) (s t : State) → Starts k a s → Starts k b t → Alike s t → AlikeEarly (F.and_then f g) a b s t → Alike (r a s) (r b t)
     between a b s t sa sb alike early = c.same a b s t sa sb alike (agree-nothing (current a s) (current b t)) (λ q h. early q (some-left (f.early q) (cond (f.slips Normal q) (g.early q) []) h))
+
     -- what the second one reads early is the same in both
     onward : (a b : Around) (s t : State) → Starts k a s → Starts k b t → Alike s t → AlikeEarly (F.and_then f g) a b s t → (r a s).outcome ≡ Normal → AlikeEarly g a b (r a s) (r b t)
     onward a b s t sa sb alike early n q h = by (f.slips Normal q) refl
       where
         mid : Alike (r a s) (r b t)
         mid = between a b s t sa sb alike early
+
         before : (r a s).written q ≡ None → f.slips Normal q ≡ true → a.now q ≡ b.now q
         before none slips =
             let old = none-before (s.written q) ((r a s).written q) (c.grows a s sa q) none in
             sym (ap (λ x. changed x (a.now q)) old) ∙ early q (early-then f g q slips h) ∙ ap (λ x. changed x (b.now q)) (sym (alike.written q) ∙ old)
+
         by : (x : Bool) → f.slips Normal q ≡ x → (current a (r a s)).now q ≡ (current b (r b t)).now q
         by true slips = held-alike ((r a s).written q) ((r b t).written q) (a.now q) (b.now q) (mid.written q) (λ none. before none slips)
         by false slips =
             held-alike ((r a s).written q) ((r b t).written q) (a.now q) (b.now q) (mid.written q)
             (λ none. absurd (false≢true (sym (ap is_some none) ∙ c.sure a s sa q (ap (λ o. f.slips o q) n ∙ slips))))
+
     same : (a b : Around) (s t : State) → Starts k a s → Starts k b t → Alike s t → AlikeEarly (F.and_then f g) a b s t → (x y : Bool) → is_normal (r a s).outcome ≡ x → is_normal (r b t).outcome ≡ y
         → Alike (one_of x r' idle a (r a s)) (one_of y r' idle b (r b t))
     same a b s t sa sb alike early true true is is' =

@@ -1,28 +1,23 @@
 -- Runs of lists of statements, of blocks with locals, and of `case`.
-use Rattle.std.proofs.Common.{◌≡◌, ◌⊎◌, inl, inr, ℕ, Bool, true, false, ◌&&◌, ◌||◌, ◌==◌, not, cond, List, [], ◌∷◌, ◌++◌, append_assoc, map, flat_map, zip, length, Option, Some, None, refl, ap, sym, ◌∙◌, subst}
+use Rattle.std.proofs.Common.{◌≡◌, ℕ, Bool, true, false, ◌&&◌, ◌||◌, ◌==◌, List, [], ◌∷◌, ◌++◌, append_assoc, map, flat_map, length, Option, Some, None, refl, ap, sym, ◌∙◌, subst}
 use Rattle.std.specs.Prelude.{is_some}
-use Rattle.std.specs.List.{list_any, list_all}
-use Rattle.std.proofs.lemmas.Bool.{true≢false, false≢true, or_parts, and_parts}
+use Rattle.std.specs.List.{list_any}
+use Rattle.std.proofs.lemmas.Bool.{true≢false, or_parts, and_parts}
 use Rattle.b4_core.specs.declared.bit.Bit4.{Bit4}
-use Rattle.row_machine.specs.Valuation.{Place, Changes}
+use Rattle.row_machine.specs.Valuation.{Place}
 use Rattle.sv_types.specs.declared.statement.CaseKind.{CaseKind}
-use Rattle.sv_types.specs.declared.statement.Local.{Local}
-use Rattle.sv_types.specs.declared.statement.Outcome.{Outcome}
-use Rattle.sv_types.specs.declared.statement.Outcome.TheVariants.{Normal}
-use Rattle.sv_types.specs.Windows.{Window, whole, within}
-use Rattle.sv_types.specs.Surroundings.{Around, Sight, Use, Write, local_number}
-use Rattle.sv_types.specs.Meanings.{Meaning, wide}
+use Rattle.sv_types.specs.Windows.{whole, within}
+use Rattle.sv_types.specs.Surroundings.{Around, Sight, Use, local_number}
+use Rattle.sv_types.specs.Meanings.{Meaning}
 use Rattle.sv_types.specs.Operators.{assigned_to}
 use Rattle.sv_types.specs.Layouts.{stored, default_bits}
 use Rattle.sv_types.specs.Runs as R
 use Rattle.sv_types.specs.Runs.{Run, State, ItemRun, Selector, current, is_normal, one_of, idle, matches, first_match, set_local, start_of}
 use Rattle.sv_types.specs.Flows as F
 use Rattle.sv_types.specs.Flows.{Flow, Flows, covers, covered, uses_of, surely_written, whole_local, all_reads}
-use Rattle.sv_types.specs.Statements.{initial_of, marks_of, scope_flow, starts, steps, runs}
 use Rattle.flow_laws.specs.Hangs.{Seen, Agree, Same, Hangs}
 use Rattle.flow_laws.specs.Runs.{Starts, Alike, ConformsBy, Conforms, Apart}
 use Rattle.flow_laws.proofs.Agreeing as A
-use Rattle.flow_laws.proofs.Plain as P
 use Rattle.flow_laws.proofs.Plain.{AllHang, AllSame}
 use Rattle.flow_laws.proofs.Placing as W
 use Rattle.flow_laws.proofs.Running as U
@@ -90,8 +85,14 @@ abbrev pub part_flows : (k : Sight) → List (Part k) → List Flows
 part_flows k ps = map (λ (p : Part k). p.flow) ps
 
 pub turns-conform : (k : Sight) (ps : List (Part k)) → Apart k (F.in_turn (part_flows k ps) k) → Conforms k (R.in_turn (part_runs k ps)) (F.in_turn (part_flows k ps) k)
-turns-conform k [] apart = record { ends = λ a s st. ap is_normal st.normal; within = λ a s st q h. refl; later = λ a s st q h. refl; grows = λ a s st q h. h;
-    sure = λ a s st q h. absurd (true≢false (sym (ap is_normal st.normal) ∙ h)); same = λ a b s t sa sb alike agree early. alike }
+turns-conform k [] apart = record {
+  ends = λ a s st. ap is_normal st.normal;
+  within = λ a s st q h. refl;
+  later = λ a s st q h. refl;
+  grows = λ a s st q h. h;
+  sure = λ a s st q h. absurd (true≢false (sym (ap is_normal st.normal) ∙ h));
+  same = λ a b s t sa sb alike agree early. alike;
+}
 turns-conform k (p ∷ ps) apart =
     let rest = turns-conform k ps (apart-second k (p.flow k) (F.in_turn (part_flows k ps) k) apart) in
     spelled-there [] k (U.then_run p.run (R.in_turn (part_runs k ps))) (R.in_turn (p.run ∷ part_runs k ps)) (F.and_then (p.flow k) (F.in_turn (part_flows k ps) k)) (λ a s st. turn-is p.run (part_runs k ps) k a s st)
@@ -108,6 +109,7 @@ set-sure n marks v q is = W.some-there _ _ (there (or-true (covers (whole_local 
     or-true : (b : Bool) → (b || false) ≡ true → b ≡ true
     or-true true g = refl
     or-true false g = g
+
     there : ((local_number n == q.signal) && within (whole (length marks)) q.bit) ≡ true → ((q.signal == local_number n) && within (whole (length marks)) q.bit) ≡ true
     there h = let p = and_parts (local_number n == q.signal) (within (whole (length marks)) q.bit) h in
         ap (λ b. b && within (whole (length marks)) q.bit) (W.same-number (local_number n) q.signal p.0) ∙ p.1

@@ -1,18 +1,17 @@
 -- Select paths, step by step.
-use Rattle.std.proofs.Common.{◌≡◌, ℕ, ◌+◌, ◌<◌, ◌≤◌, max, Bool, true, false, ◌&&◌, ◌||◌, cond, ℤ, List, [], ◌∷◌, ◌++◌, length, Option, Some, None, refl, ap, sym, ◌∙◌, subst, arith}
+use Rattle.std.proofs.Common.{◌≡◌, ℕ, ◌+◌, max, Bool, true, false, ◌&&◌, ◌||◌, cond, ℤ, [], ◌++◌, length, Option, Some, None, refl, ap, sym, ◌∙◌, subst}
 use Rattle.std.specs.Prelude.{slice_get}
-use Rattle.std.proofs.lemmas.Bool.{true≢false, false≢true, and_parts, eq-eqb}
+use Rattle.std.proofs.lemmas.Bool.{false≢true, and_parts, eq-eqb}
 use Rattle.b4_core.specs.Vectors.{ext, known, number}
-use Rattle.row_machine.specs.Valuation.{Place}
 use Rattle.row_machine.specs.Places.{vector_at}
-use Rattle.sv_types.specs.Layouts.{Layout, stored, count_of}
+use Rattle.sv_types.specs.Layouts.{Layout, stored}
 use Rattle.sv_types.specs.Windows.{Window, within, seen, member_of, element_of, between, slide}
-use Rattle.sv_types.specs.Surroundings.{Around, Sight, Use, local_number, onward}
-use Rattle.sv_types.specs.Meanings.{Meaning, Named, Path, Prefix, selected, use_of, wide, signed, alone, cut_to}
+use Rattle.sv_types.specs.Surroundings.{Around, Sight, local_number, onward}
+use Rattle.sv_types.specs.Meanings.{Meaning, Path, Prefix, selected, use_of, wide, signed, cut_to}
 use Rattle.sv_types.specs.Paths as P
 use Rattle.sv_types.specs.Paths.{root_path, known_base, names_of_root, narrowed, places_from, reads_from, index_of}
-use Rattle.sv_types.specs.Flows.{covers, covered}
-use Rattle.flow_laws.specs.Hangs.{Seen, Agree, Same, Inside, StandsOn, Stands, Moves, Hangs}
+use Rattle.sv_types.specs.Flows.{covered}
+use Rattle.flow_laws.specs.Hangs.{Seen, Agree, Same, Inside, Stands, Moves, Hangs}
 use Rattle.flow_laws.proofs.Agreeing as A
 
 -- a sight sees its own surroundings

@@ -1,11 +1,11 @@
 -- What hangs on what: surroundings that hold the same bits where an expression reads give it the same value.
-use Rattle.std.specs.Prelude.{◌≡◌, ℕ, ◌<◌, ◌≤◌, Bool, true, ⊤, List, [], ◌∷◌, length, Option, Some, None}
+use Rattle.std.specs.Prelude.{◌≡◌, ℕ, Bool, true, List, [], Option, Some, None}
 use Rattle.row_machine.specs.Valuation.{Place}
 use Rattle.row_machine.specs.Places.{vector_at}
 use Rattle.sv_types.specs.declared.expression.Expr.{Expr}
 use Rattle.sv_types.specs.Windows.{Window, within}
 use Rattle.sv_types.specs.Surroundings.{Around, Sight, Use}
-use Rattle.sv_types.specs.Meanings.{Meaning, Named}
+use Rattle.sv_types.specs.Meanings.{Meaning}
 use Rattle.sv_types.specs.Paths.{reads_from, known_base}
 use Rattle.sv_types.specs.Flows.{covered}
 use Rattle.sv_types.specs.Expressions.{meaning}

@@ -1,9 +1,9 @@
 -- What is known of statements before they run holds in each run: of all that have no loop in them.
-use Rattle.std.specs.Prelude.{◌≡◌, ℕ, Bool, true, false, ◌&&◌, List, [], ◌∷◌, length, Option, Some, None}
+use Rattle.std.specs.Prelude.{◌≡◌, ℕ, Bool, true, false, ◌&&◌, List, length, Option, Some, None}
 use Rattle.std.specs.List.{list_all}
 use Rattle.b4_core.specs.declared.bit.Bit4.{Bit4}
 use Rattle.sv_types.specs.declared.statement.Stmt.{Stmt, Stmt-F, fold-Stmt}
-use Rattle.sv_types.specs.declared.statement.CaseItem.{CaseItem-F, fold-CaseItem}
+use Rattle.sv_types.specs.declared.statement.CaseItem.{CaseItem-F}
 use Rattle.sv_types.specs.Surroundings.{Sight}
 use Rattle.sv_types.specs.Statements.{doing}
 use Rattle.flow_laws.specs.Runs.{Conforms, Apart}
