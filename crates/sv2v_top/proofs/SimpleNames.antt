@@ -13,8 +13,8 @@ use Rattle.sv_lexer.specs.Spans.{white_span, name_span, run}
 use Rattle.sv_lexer.specs.Pieces.{gap, longer, pieces, longest}
 use Rattle.sv_lexer.specs.Tables.{reserved_words as source_words, is_reserved as is_source_reserved}
 use Rattle.sv_lexer.specs.Lexing.{behind_byte, kind_of, token_of, tokens_from, tokens_of}
-use Rattle.v_core.specs.Reserved.{reserved_words as target_words, is_reserved}
-use Rattle.v_core.specs.Tokens.{is_letter, is_word, is_simple}
+use Rattle.v_tree.specs.Reserved.{reserved_words as target_words, is_reserved}
+use Rattle.v_tree.specs.Tokens.{is_letter, is_word, is_simple}
 use Rattle.sv2v_top.proofs.Names.{member-split}
 
 -- source and target have the same reserved words

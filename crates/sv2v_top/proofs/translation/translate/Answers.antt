@@ -1,8 +1,8 @@
 use Rattle.std.proofs.Common.{◌≡◌, ◌++◌, List, ℕ, Err, sym, ap, subst, ◌∙◌}
 use Rattle.std.proofs.lemmas.Result.{err_from_is_err_and}
 use Rattle.lower_design.specs.Lowering.{Lowers}
-use Rattle.v_core.specs.Reading.{VReads}
-use Rattle.v_core.proofs.OneReading.{one_design}
+use Rattle.v_tree.specs.Reading.{VReads}
+use Rattle.v_tree.proofs.OneReading.{one_design}
 use Rattle.sv2v_top.specs.Translation.{TranslationGives}
 use Rattle.sv2v_top.proofs.Correct.{correct, unread-breaks, refused-breaks}
 use Rattle.sv2v_top.proofs.translation.translate.Goals as goal
