@@ -1,9 +1,8 @@
 -- The machine of the lowered design extends the source's.
-use Rattle.std.proofs.Common.{◌≡◌, ℕ, zero, suc, ◌+◌, ◌*◌, ◌==◌, ◌<◌, ◌≤◌, Bool, true, false, not, ◌&&◌, ◌||◌, cond, List, [], ◌∷◌, ◌++◌, map, filter, flat_map, length, replicate, slice_index_or, Option, Some, None, refl, sym, ap, subst, ◌∙◌, inl, inr, arith}
+use Rattle.std.proofs.Common.{◌≡◌, ℕ, zero, suc, ◌+◌, ◌*◌, ◌==◌, ◌<◌, ◌≤◌, Bool, true, false, not, ◌&&◌, ◌||◌, cond, List, [], ◌∷◌, ◌++◌, map, flat_map, length, replicate, slice_index_or, Option, Some, None, refl, sym, ap, subst, ◌∙◌, inl, inr, arith}
 use Rattle.std.specs.Prelude.{nat_lt}
 use Rattle.std.specs.List.{slice_get, list_any, AllZip}
 use Rattle.std.proofs.lemmas.Bool.{or_cases, or_left, or_right, and_parts, false≢true, eqb-true, eq-eqb, lt-ltb, ltb-true}
-use Rattle.b4_core.specs.declared.bit.Bit4.{Bit4}
 use Rattle.b4_core.specs.declared.bit.Bit4.TheVariants.{Zero, X, Z}
 use Rattle.b4_core.specs.Bits.{same4}
 use Rattle.b4_core.specs.Bitwise.{edge_of}
@@ -29,31 +28,28 @@ use Rattle.sv_core.specs.Statements as SD
 use Rattle.sv_core.specs.Statements.{width_of, width_or_zero, doing, stmt_doing, expr_signals}
 use Rattle.sv_core.specs.Machine as Source
 use Rattle.sv_core.specs.Machine.{comb_process, edge_process}
-use Rattle.v_tree.specs.declared.statements.VLval.TheVariants as L
-use Rattle.v_tree.specs.declared.items.VProcess.{VProcess}
 use Rattle.v_tree.specs.declared.items.VProcess.TheVariants.{Assign as Drive}
 use Rattle.v_meaning.specs.Scopes.{Named, Scope, Use, all_bits, named}
 use Rattle.v_meaning.specs.Values.{meaning}
-use Rattle.v_meaning.specs.Runs.{State}
 use Rattle.v_meaning.specs.Statements.{covered, covers, assignment, doing_of}
 use Rattle.v_meaning.specs.Statements as TD
 use Rattle.v_meaning.specs.Modules as T
 use Rattle.v_meaning.specs.Modules.{always_on, on_change, on_edges}
 use Rattle.v_meaning.specs.Machine as Target
 use Rattle.v_meaning.specs.Machine.{size}
-use Rattle.lower_design.specs.Translatable.{Translatable, KindFits, targets_by, targets_of, is_comb}
+use Rattle.lower_design.specs.Translatable.{Translatable, KindFits, targets_by, targets_of}
 use Rattle.lower_design.specs.Shape.{name_of, trigger, whole_of}
-use Rattle.lower_design.specs.Lowered.{branch, triggered, lowered_expr, lowered_stmt, lowered_edge, lowered_process, process_by, driver_in, whole_target, is_driven, drives, drives_in, drives_by, is_triggered, lowered}
-use Rattle.lower_design.proofs.Names.{true_or_false, at-member, member-at}
+use Rattle.lower_design.specs.Lowered.{triggered, lowered_expr, lowered_stmt, process_by, driver_in, whole_target, is_driven, drives, drives_in, drives_by, is_triggered, lowered}
+use Rattle.lower_design.proofs.Names.{true_or_false, member-at}
 use Rattle.lower_design.proofs.Places.{has-append, has-signal, has-place, has-without-only}
 use Rattle.lower_design.proofs.Levels.{assign-level, assign-out}
-use Rattle.lower_design.proofs.Meanings.{Found, use_named, number_named}
-use Rattle.lower_design.proofs.Runs.{progress, Uses, Same, Triggered, same-assignment, body-same, triggered-same}
+use Rattle.lower_design.proofs.Meanings.{use_named}
+use Rattle.lower_design.proofs.Runs.{Same, Triggered, same-assignment, body-same, triggered-same}
 use Rattle.lower_design.proofs.Hangs.{stmt-tame}
 use Rattle.lower_design.proofs.Sound.{at-number, comb-member, comb-writes, edge-member, edge-writes, sound}
 use Rattle.lower_design.proofs.Refinement.{ReadsMore, SameEdges, CombBelow, EdgeBelow, SameBelow, Extends, under_own, translates}
-use Rattle.lower_design.proofs.Items.{kind_of, image_of, images, helpers, trigger_signal, values, target, has_comb, own, us, sc, top-items, top-parts, all-signals, range_keeps, get-below, below-get, found-at, found-below, image-there, trigger-there, trigger-found}
-use Rattle.lower_design.proofs.Machines.{bool-same, has-filter, has-places, parts, count, AllBelow, UsesSignals, uses, few, covered-named, all-there, there, comb-reads, edge-same}
+use Rattle.lower_design.proofs.Items.{kind_of, image_of, images, helpers, trigger_signal, values, target, has_comb, us, sc, top-items, top-parts, all-signals, range_keeps, get-below, below-get, found-at, image-there, trigger-there, trigger-found}
+use Rattle.lower_design.proofs.Machines.{bool-same, has-filter, has-places, parts, count, AllBelow, UsesSignals, uses, covered-named, there, comb-reads, edge-same}
 
 inputs-below : (k : ℕ) (ss : List Signal) (q : Place) → has (Source.inputs_from k ss) q ≡ true → q.signal < k + length ss
 unfolding has
@@ -460,9 +456,11 @@ module _ (d : Design) (t : Translatable d) where
       by_kind rest Continuous fits = not_edges rest (out-Stmt p.body)
       by_kind rest Comb fits = rest
       by_kind rest (Edges es) fits =
-          let same = body-same ss (sc d t) p.body in
-          (edge-same d t es p.body u (T.process_of (sc d t) (process_by ss (Edges es) p.body)) refl (same.run (uses d t _ u)) same.later
-          (λ e m. found-at d t e.signal (fits.2 e m).0 (fits.2 e m).1), rest)
+          let same = body-same ss (sc d t) p.body in (
+            edge-same d t es p.body u (T.process_of (sc d t) (process_by ss (Edges es) p.body)) refl (same.run (uses d t _ u)) same.later
+                (λ e m. found-at d t e.signal (fits.2 e m).0 (fits.2 e m).1),
+            rest,
+          )
 
   -- processes use the source's signals alone
   target-below : (p : Process) → Member ps p → (n : ℕ) → Member (targets_of p) n → n < length ss

@@ -18,9 +18,8 @@ use Rattle.sv_core.specs.Statements as SD
 use Rattle.sv_core.specs.Statements.{doing, stmt_doing, expr_signals}
 use Rattle.v_tree.specs.Reading.{nesting_limit}
 use Rattle.v_tree.specs.Tokens.{is_name}
-use Rattle.v_tree.specs.Grammatical.{Fit, fit, fit_of_lval, form_of_branch, is_decimal, is_perhaps, is_branch, is_process, is_signal, has_some, is_item, is_of_grammar}
+use Rattle.v_tree.specs.Grammatical.{fit, fit_of_lval, form_of_branch, is_decimal, is_perhaps, is_branch, is_process, is_signal, has_some, is_item, is_of_grammar}
 use Rattle.v_tree.specs.declared.items.VEdge.{VEdge}
-use Rattle.v_tree.specs.declared.items.VItem.TheVariants as I
 use Rattle.v_tree.specs.declared.items.VProcess.TheVariants.{Assign as Drive}
 use Rattle.v_tree.specs.declared.statements.VBranch.{VBranch}
 use Rattle.lower_design.specs.Translatable.{Translatable, KindFits, EdgeFits, path_of, inside, stmt_inside, Inside}
@@ -28,8 +27,8 @@ use Rattle.lower_design.specs.Shape.{name_of, path_or_nothing, is_port}
 use Rattle.lower_design.specs.Lowered.{lowered_expr, driver_in, process_by, lowered_process, process_items, lowered_edge, range_of, declaration_of, declarations, trigger_items, is_driven, lowered_items, lowered, whole_target}
 use Rattle.lower_design.proofs.Names.{true_or_false, pick_true, pick_false, member-at}
 use Rattle.lower_design.proofs.Levels.{assign-level, assign-out}
-use Rattle.lower_design.proofs.Forms.{Fine, FineBlock, Ready, simple-name, expr-fine, target-fine, body-fine, triggered-fine, trigger-name}
-use Rattle.lower_design.proofs.Items.{has_comb, in-three, get-below}
+use Rattle.lower_design.proofs.Forms.{FineBlock, Ready, simple-name, expr-fine, target-fine, body-fine, triggered-fine}
+use Rattle.lower_design.proofs.Items.{has_comb, get-below}
 use Rattle.lower_design.proofs.Extension.{uses-signals}
 
 all-append : {A : Type 0} (test : A → Bool) (xs ys : List A) → list_all test xs ≡ true → list_all test ys ≡ true → list_all test (xs ++ ys) ≡ true

@@ -1,23 +1,19 @@
 -- The signals, initial values and processes of the items that are made.
-use Rattle.std.proofs.Common.{◌≡◌, ℕ, zero, suc, ◌+◌, ◌==◌, ◌<◌, ◌≤◌, Bool, true, false, cond, List, [], ◌∷◌, ◌++◌, map, filter, length, replicate, Option, Some, None, refl, sym, ap, subst, ◌∙◌, inl, inr, arith, append_assoc, append-nil}
+use Rattle.std.proofs.Common.{◌≡◌, ℕ, zero, suc, ◌+◌, ◌==◌, ◌<◌, ◌≤◌, Bool, true, false, cond, List, [], ◌∷◌, ◌++◌, map, filter, length, Some, None, refl, sym, ap, subst, ◌∙◌, inl, inr, arith, append_assoc, append-nil}
 use Rattle.std.specs.List.{slice_get, list_any}
 use Rattle.std.specs.Str.{bytes_eq}
 use Rattle.std.proofs.lemmas.Bool.{false≢true, eqb-true}
-use Rattle.b4_core.specs.declared.bit.Bit4.TheVariants.{Zero, X}
+use Rattle.b4_core.specs.declared.bit.Bit4.TheVariants.{Zero}
 use Rattle.row_machine.specs.Valuation.{Member}
 use Rattle.row_machine.proofs.Members.{append-member, map-member}
 use Rattle.sv_core.specs.declared.design.SignalKind.{SignalKind}
 use Rattle.sv_core.specs.declared.design.SignalKind.TheVariants.{InputNet, OutputVar, Variable}
 use Rattle.sv_core.specs.declared.design.Signal.{Signal}
-use Rattle.sv_core.specs.declared.design.ProcessKind.{ProcessKind}
-use Rattle.sv_core.specs.declared.design.ProcessKind.TheVariants.{Continuous, Comb, Edges}
 use Rattle.sv_core.specs.declared.design.Process.{Process}
-use Rattle.sv_core.specs.declared.design.Stmt.{Stmt, Stmt-F, out-Stmt}
 use Rattle.sv_core.specs.declared.design.Design.{Design}
 use Rattle.sv_core.specs.Statements.{width_of, width_or_zero}
 use Rattle.v_tree.specs.Names.{Name, distinct}
-use Rattle.v_tree.specs.Rules.{Port, ports_by, ports_of, instantiated, signal_size}
-use Rattle.v_tree.specs.declared.items.VFunction.{VFunction}
+use Rattle.v_tree.specs.Rules.{Port, ports_of, instantiated}
 use Rattle.v_tree.specs.declared.items.VItem.{VItem}
 use Rattle.v_tree.specs.declared.items.VItem.TheVariants as I
 use Rattle.v_tree.specs.declared.items.VModule.{VModule}

@@ -1,12 +1,12 @@
 -- The lowered design keeps the rules, and fits its top.
-use Rattle.std.proofs.Common.{◌≡◌, ◌⊎◌, ℕ, zero, suc, ◌+◌, ◌<◌, ◌≤◌, ◌==◌, max, nat_lt, Bool, true, false, not, ◌||◌, List, [], ◌∷◌, ◌++◌, map, filter, length, sum, Option, Some, None, refl, sym, ap, subst, ◌∙◌, inl, inr, arith, append-nil}
+use Rattle.std.proofs.Common.{◌≡◌, ℕ, suc, ◌+◌, ◌<◌, ◌≤◌, ◌==◌, max, nat_lt, Bool, true, false, not, List, [], ◌∷◌, ◌++◌, map, length, sum, Some, None, refl, sym, ap, subst, ◌∙◌, inl, inr, arith, append-nil}
 use Rattle.std.specs.List.{slice_get}
 use Rattle.std.specs.Str.{bytes_eq}
-use Rattle.std.proofs.lemmas.Bool.{false≢true, or_left, eqb-true, eq-eqb, ltb-true}
+use Rattle.std.proofs.lemmas.Bool.{or_left, eq-eqb, ltb-true}
 use Rattle.std.proofs.lemmas.List.Sums.{sum_by-cons}
 use Rattle.row_machine.specs.Valuation.{Member}
 use Rattle.row_machine.proofs.Basics.{member-any}
-use Rattle.row_machine.proofs.Members.{member-front, member-back, member-map, map-member}
+use Rattle.row_machine.proofs.Members.{member-back}
 use Rattle.sv_core.specs.declared.design.SignalKind.{SignalKind}
 use Rattle.sv_core.specs.declared.design.SignalKind.TheVariants.{InputNet, OutputVar, Variable}
 use Rattle.sv_core.specs.declared.design.Signal.{Signal}
@@ -15,20 +15,17 @@ use Rattle.sv_core.specs.declared.design.EdgeOn.{EdgeOn}
 use Rattle.sv_core.specs.declared.design.ProcessKind.{ProcessKind}
 use Rattle.sv_core.specs.declared.design.ProcessKind.TheVariants.{Continuous, Comb, Edges}
 use Rattle.sv_core.specs.declared.design.Process.{Process}
-use Rattle.sv_core.specs.declared.design.Stmt.{Stmt}
 use Rattle.sv_core.specs.declared.design.Stmt.TheVariants as S
 use Rattle.sv_core.specs.declared.design.Design.{Design}
 use Rattle.sv_core.specs.Statements as SD
 use Rattle.sv_core.specs.Statements.{doing, stmt_doing, expr_signals}
 use Rattle.v_tree.specs.Names.{Name, among, distinct}
-
 use Rattle.v_tree.specs.Scopes.{Thing, Declared, nowhere, repeated, bits_of}
 use Rattle.v_tree.specs.Scopes as Scopes
 use Rattle.v_tree.specs.ExprRules.{Around, rules_of, only_if, total, name_broken, is_net}
-use Rattle.v_tree.specs.StmtRules.{Target, target_of, lval_target, rules_of_branch, Procedure, at_star, at_edges, mark_breaks}
+use Rattle.v_tree.specs.StmtRules.{Target, lval_target, at_star, at_edges}
 use Rattle.v_tree.specs.Rules as Rules
 use Rattle.v_tree.specs.Rules.{Port, ports_of, declared_in, declared_by, event_size, signal_broken, width_broken, initial_broken, edges_broken, process_broken, item_broken, items_broken, item_size, listed_ports, unlisted, undeclared, ports_size, module_broken, most_bits, Keeps, items_named, signal_bits, instantiated, instances_below, bits_below, FitsTop}
-use Rattle.v_tree.specs.declared.items.VEdge.{VEdge}
 use Rattle.v_tree.specs.declared.items.VItem.{VItem}
 use Rattle.v_tree.specs.declared.items.VItem.TheVariants as I
 use Rattle.v_tree.specs.declared.items.VModule.{VModule}
@@ -37,13 +34,13 @@ use Rattle.v_tree.specs.declared.items.VSignal.TheVariants as V
 use Rattle.lower_design.specs.Translatable.{Translatable, KindFits, EdgeFits, OneDriver, is_input, path_of, targets_by, targets_of, inside, stmt_inside, Inside}
 use Rattle.lower_design.specs.Shape.{name_of, path_or_nothing, trigger, is_port}
 use Rattle.lower_design.specs.Lowered.{lowered_expr, driver_in, process_by, lowered_process, process_items, lowered_edge, range_of, declaration_of, declarations, trigger_items, is_driven, drives, drives_in, drives_by, is_triggered, lowered_items, lowered_module, lowered, whole_target}
-use Rattle.lower_design.proofs.Names.{true_or_false, same_bytes, among-member, member-at, pick_true}
+use Rattle.lower_design.proofs.Names.{true_or_false, same_bytes, among-member, pick_true}
 use Rattle.lower_design.proofs.Levels.{assign-level, assign-out, target-level}
 use Rattle.lower_design.proofs.Extension.{driver-of, uses-signals}
 use Rattle.lower_design.proofs.Machines.{AllBelow, UsesSignals}
-use Rattle.lower_design.proofs.Items.{has_comb, in-three, all-ports, all-instances, distinct-behind, trigger-fresh, get-below, below-get}
+use Rattle.lower_design.proofs.Items.{has_comb, in-three, all-ports, all-instances, distinct-behind, trigger-fresh, get-below}
 use Rattle.lower_design.proofs.Scopes.{Known, known, known_name, found, inside-found, found-member, repeated-none, distinct-filter, bits-keep, kind_by, driven-kind, other-kind, thing_of, things, trigger_thing, helper_things, thing-names, thing-member, declared-known}
-use Rattle.lower_design.proofs.Quiet.{none, IsValue, IsVariable, AllValues, Quiet, expr-quiet, MayWrite, Allowed, QuietStmt, body-quiet, triggered-quiet}
+use Rattle.lower_design.proofs.Quiet.{none, IsValue, IsVariable, AllValues, expr-quiet, Allowed, body-quiet, triggered-quiet}
 
 -- what two processes write is written by one
 one-process : (ps : List Process) → OneDriver ps → (p r : Process) → Member ps p → Member ps r → (n : ℕ) → Member (targets_of p) n → Member (targets_of r) n → p ≡ r

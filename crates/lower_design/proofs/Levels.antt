@@ -17,7 +17,6 @@ use Rattle.v_tree.specs.declared.statements.VLval.TheVariants as L
 use Rattle.v_tree.specs.declared.statements.VBranch.{VBranch, VBranch-F, fold-VBranch, fold-roll-VBranch}
 use Rattle.v_tree.specs.declared.statements.VBranch.TheVariants.{Statement, Empty, rolls-Statement, rolls-Empty}
 use Rattle.v_tree.specs.declared.statements.VCaseItem.{VCaseItem, VCaseItem-F}
-use Rattle.v_tree.specs.declared.statements.VLabel.{VLabel}
 use Rattle.v_tree.specs.declared.statements.VStmt.{VStmt, VStmt-F, fold-VStmt, fold-roll-VStmt, roll-VStmt, out-VStmt, out-roll-VStmt, roll-out-VStmt}
 use Rattle.v_tree.specs.declared.statements.VStmt.TheVariants as V
 use Rattle.lower_design.specs.Lowered.{lines, lines_of, whole_name, whole_target}

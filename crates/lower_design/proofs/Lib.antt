@@ -17,3 +17,4 @@ pub mod Quiet
 pub mod Keeping
 pub mod Shapes
 pub mod Right
+pub mod Examples

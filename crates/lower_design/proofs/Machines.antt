@@ -1,12 +1,11 @@
 -- The processes of the lowered design's machine do what the source's do, but for the trigger.
-use Rattle.std.proofs.Common.{◌≡◌, ◌⊎◌, ℕ, zero, suc, ◌+◌, ◌*◌, ◌==◌, ◌<◌, ◌≤◌, ◌^◌, Bool, true, false, not, ◌&&◌, ◌||◌, cond, List, [], ◌∷◌, ◌++◌, map, filter, flat_map, length, sum, Option, Some, None, refl, sym, ap, subst, ◌∙◌, inl, inr, arith}
-use Rattle.std.specs.Prelude.{nat_le, nat_lt}
+use Rattle.std.proofs.Common.{◌≡◌, ℕ, zero, suc, ◌+◌, ◌<◌, ◌≤◌, ◌^◌, Bool, true, false, not, ◌&&◌, ◌||◌, cond, List, [], ◌∷◌, map, filter, length, sum, Some, None, refl, sym, ap, subst, ◌∙◌, inl, inr, arith}
+use Rattle.std.specs.Prelude.{nat_lt}
 use Rattle.std.specs.List.{slice_get, list_any}
 use Rattle.std.proofs.lemmas.Bool.{or_cases, or_left, or_right, and_parts, false≢true, eqb-true, eq-eqb, le-leb, lt-ltb, ltb-true, ltb-false}
 use Rattle.std.proofs.lemmas.List.Sums.{sum_by-cons}
 use Rattle.b4_core.specs.Bitwise.{edge_of}
 use Rattle.row_machine.specs.Valuation.{Member, Place, Valuation, Changes, has, is_place}
-use Rattle.row_machine.specs.Machine as M
 use Rattle.row_machine.specs.Places.{places_of, places_from, without}
 use Rattle.row_machine.specs.Steps.{Progress, is_edge}
 use Rattle.row_machine.specs.Steps as Steps
@@ -20,7 +19,7 @@ use Rattle.sv_core.specs.Statements as SD
 use Rattle.sv_core.specs.Statements.{width_of, width_or_zero, doing}
 use Rattle.sv_core.specs.Machine as Source
 use Rattle.sv_core.specs.Machine.{places_of_signals, comb_process, edge_process}
-use Rattle.v_meaning.specs.Scopes.{Use, named, all_bits}
+use Rattle.v_meaning.specs.Scopes.{Use, all_bits}
 use Rattle.v_meaning.specs.Runs.{State, begun}
 use Rattle.v_meaning.specs.Statements.{covers, covered}
 use Rattle.v_meaning.specs.Statements as TD
@@ -36,7 +35,7 @@ use Rattle.lower_design.proofs.Runs.{progress, Uses}
 use Rattle.lower_design.proofs.Hangs.{stmt-tame}
 use Rattle.lower_design.proofs.Sound.{in-signals, signals-in, at-number, once-member, member-once}
 use Rattle.lower_design.proofs.Refinement.{ReadsMore, SameEdges}
-use Rattle.lower_design.proofs.Items.{own, us, sc, get-below, below-get, found-at, found-below, image_of, image-there, range_keeps, helpers}
+use Rattle.lower_design.proofs.Items.{own, us, sc, get-below, found-below, image_of, image-there, range_keeps}
 
 pub bool-same : (a b : Bool) → (a ≡ true → b ≡ true) → (b ≡ true → a ≡ true) → a ≡ b
 bool-same true true f g = refl

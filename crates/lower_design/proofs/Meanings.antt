@@ -1,6 +1,5 @@
 -- The meaning of a lowered expression is that of the expression, name for number.
-use Rattle.std.proofs.Common.{◌≡◌, ℕ, zero, suc, ◌+◌, ◌<◌, ◌≤◌, Bool, true, false, ◌&&◌, cond, pos, int_le, int_lt, max, List, [], ◌∷◌, ◌++◌, map, length, slice_index_or, Option, Some, None, refl, sym, ap, subst, ◌∙◌, inl, inr, arith, append-nil}
-use Rattle.std.specs.Prelude.{nat_lt}
+use Rattle.std.proofs.Common.{◌≡◌, ℕ, zero, suc, ◌+◌, ◌<◌, Bool, true, false, ◌&&◌, cond, pos, int_le, int_lt, max, List, [], ◌∷◌, ◌++◌, map, length, slice_index_or, Some, None, refl, sym, ap, subst, ◌∙◌, inl, arith, append-nil}
 use Rattle.std.proofs.lemmas.Bool.Decides.{nat_tests}
 use Rattle.b4_core.specs.declared.bit.Bit4.{Bit4}
 use Rattle.b4_core.specs.declared.bit.Bit4.TheVariants.{X}
@@ -19,7 +18,6 @@ use Rattle.sv_types.proofs.Picks.{tabulated-same}
 use Rattle.sv_core.specs.declared.design.Signal.{Signal}
 use Rattle.sv_core.specs.declared.design.Primary.{Primary}
 use Rattle.sv_core.specs.declared.design.Primary.TheVariants as P
-use Rattle.sv_core.specs.declared.design.Operand.{Operand}
 use Rattle.sv_core.specs.declared.design.Expr.{Expr}
 use Rattle.sv_core.specs.declared.design.Expr.TheVariants as D
 use Rattle.sv_core.specs.Value.{primary_width, primary_value, inverted_if, operand_value, width_alone, value_at}
@@ -27,16 +25,14 @@ use Rattle.sv_core.specs.Statements.{width_of, held_at, primary_signals, expr_si
 use Rattle.v_tree.specs.Names.{Name}
 use Rattle.v_tree.specs.declared.expressions.VPrim.{VPrim, fold-VPrim}
 use Rattle.v_tree.specs.declared.expressions.VExpr.TheVariants as E
-use Rattle.v_tree.specs.declared.operators.VBinaryOp.TheVariants as W
 use Rattle.v_tree.specs.declared.operators.VUnaryOp.TheVariants as V
 use Rattle.v_meaning.specs.Scopes.{Named, Scope, Use, named}
 use Rattle.v_meaning.specs.Selects.{SelMeaning}
 use Rattle.v_meaning.specs.Values as T
 use Rattle.v_meaning.specs.Values.{Meaning, meaning, expr_step, prim_step, sel_step}
 use Rattle.lower_design.specs.Shape.{name_of, whole_of}
-use Rattle.lower_design.specs.Lowered.{parenthesized, alone, operator_of, lowered_primary, lowered_operand, lowered_expr, whole_name}
+use Rattle.lower_design.specs.Lowered.{parenthesized, alone, operator_of, lowered_primary, lowered_operand, lowered_expr}
 use Rattle.lower_design.proofs.Levels.{number-level, name-level, paren-level, prim-level, unary-level, binary-level}
-use Rattle.lower_design.proofs.Names.{true_or_false}
 
 abbrev pub prim_means : VPrim → Meaning
 prim_means = fold-VPrim Meaning Meaning SelMeaning expr_step prim_step sel_step

@@ -1,5 +1,5 @@
 -- Names, and look-ups among distinct ones.
-use Rattle.std.proofs.Common.{◌≡◌, ℕ, zero, suc, ◌⊎◌, Bool, true, false, not, ◌&&◌, if◌then◌else◌, List, [], ◌∷◌, map, Some, refl, sym, ap, subst, ◌∙◌, inl, inr}
+use Rattle.std.proofs.Common.{◌≡◌, ℕ, zero, suc, ◌⊎◌, Bool, true, false, not, ◌&&◌, if◌then◌else◌, List, [], ◌∷◌, Some, refl, sym, ap, subst, ◌∙◌, inl, inr}
 use Rattle.std.specs.List.{slice_get}
 use Rattle.std.specs.Str.{bytes_eq}
 use Rattle.std.proofs.lemmas.Slice.Eq.{bytes_eq-Decides}
@@ -63,4 +63,3 @@ rest_distinct n names d = (and_parts _ _ d).1
 
 pub distinct_more : (n : Name) (names : List Name) → (Member names n → ⊥) → distinct names ≡ true → distinct (n ∷ names) ≡ true
 distinct_more n names fresh d = (λ i. not (not-among names n fresh i) && distinct names) ∙ d
-

@@ -1,5 +1,5 @@
 -- Lowered expressions and statements break no rule.
-use Rattle.std.proofs.Common.{◌≡◌, ℕ, suc, ◌+◌, ◌==◌, Bool, true, false, not, max, nat_lt, List, [], ◌∷◌, ◌++◌, map, Option, Some, None, refl, sym, ap, subst, ◌∙◌, inl, inr}
+use Rattle.std.proofs.Common.{◌≡◌, ℕ, suc, ◌+◌, Bool, true, false, not, max, List, [], ◌∷◌, ◌++◌, map, Some, None, refl, sym, ap, subst, ◌∙◌, inl, inr}
 use Rattle.b4_core.specs.declared.operators.BinOp.{BinOp}
 use Rattle.b4_core.specs.declared.operators.BinOp.TheVariants.{And, Or, Xor, Xnor, Add, Sub, Mul, Div, Rem}
 use Rattle.row_machine.specs.Valuation.{Member}
@@ -7,7 +7,6 @@ use Rattle.row_machine.proofs.Members.{member-front, member-back}
 use Rattle.sv_core.specs.declared.design.Signal.{Signal}
 use Rattle.sv_core.specs.declared.design.Primary.{Primary}
 use Rattle.sv_core.specs.declared.design.Primary.TheVariants as P
-use Rattle.sv_core.specs.declared.design.Operand.{Operand}
 use Rattle.sv_core.specs.declared.design.Expr.{Expr}
 use Rattle.sv_core.specs.declared.design.Expr.TheVariants.{Single, Binary}
 use Rattle.sv_core.specs.declared.design.Stmt.{Stmt}
@@ -16,10 +15,9 @@ use Rattle.sv_core.specs.Statements.{Doing, sequence, choice, assignment, idle, 
 use Rattle.v_tree.specs.Names.{Name}
 use Rattle.v_tree.specs.Scopes.{Kind}
 use Rattle.v_tree.specs.Scopes as Things
-use Rattle.v_tree.specs.ExprRules.{Around, Rules, SelRules, rules_of, alone as alone_broken, expr_rules, prim_rules, sel_rules, only_if, name_broken, binary_rules, kind_of, bitwise}
-use Rattle.v_tree.specs.StmtRules.{Target, target_of, lval_target, Procedure, mark_breaks, is_written, is_local, StmtRules, ItemRules, blocks_in, stmts_broken, branch_rules, item_rules, else_rules, stmt_rules, rules_of_stmt, rules_of_branch}
+use Rattle.v_tree.specs.ExprRules.{Around, Rules, SelRules, rules_of, expr_rules, prim_rules, sel_rules, only_if, name_broken, binary_rules, kind_of, bitwise}
+use Rattle.v_tree.specs.StmtRules.{Target, target_of, lval_target, Procedure, mark_breaks, is_written, is_local, StmtRules, ItemRules, blocks_in, stmts_broken, branch_rules, item_rules, stmt_rules, rules_of_stmt, rules_of_branch}
 use Rattle.v_tree.specs.declared.expressions.VPrim.{VPrim, fold-VPrim}
-use Rattle.v_tree.specs.declared.expressions.VExpr.{VExpr, VExpr-F}
 use Rattle.v_tree.specs.declared.expressions.VExpr.TheVariants as E
 use Rattle.v_tree.specs.declared.operators.VUnaryOp.TheVariants.{Not}
 use Rattle.v_tree.specs.declared.statements.VBranch.TheVariants.{Statement, Empty}

@@ -8,12 +8,12 @@ use Rattle.sv_core.specs.declared.design.Design.{Design}
 use Rattle.sv_core.specs.Machine as Source
 use Rattle.sv_core.specs.Statements.{width_of, width_or_zero}
 use Rattle.v_tree.specs.declared.items.VDesign.{VDesign}
-use Rattle.v_meaning.specs.Scopes.{Named, named, all_bits}
+use Rattle.v_meaning.specs.Scopes.{named}
 use Rattle.v_meaning.specs.Modules.{signals, numbered}
 use Rattle.v_meaning.specs.Machine as Target
 use Rattle.lower_design.specs.Translatable.{Translatable}
 use Rattle.lower_design.specs.Agreement.{Agree, TracesAgree, held, of_top}
-use Rattle.lower_design.specs.Shape.{name_of, path_or_nothing}
+use Rattle.lower_design.specs.Shape.{path_or_nothing}
 use Rattle.lower_design.specs.Lowering.{Lowers}
 use Rattle.lower_design.specs.Lowered.{lowered}
 use Rattle.lower_design.proofs.Places.{has-signal, vectors-same}

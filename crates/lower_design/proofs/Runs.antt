@@ -1,6 +1,6 @@
 -- A lowered statement reads, writes and does what its source does.
-use Rattle.std.proofs.Common.{◌≡◌, ℕ, ◌+◌, ◌≤◌, Bool, true, false, ◌&&◌, cond, max, take, length, slice_index_or, List, [], ◌∷◌, ◌++◌, map, pos, Some, None, refl, sym, ap, subst, ◌∙◌, inl, inr, arith, append-nil}
-use Rattle.std.specs.Prelude.{nat_le, nat_lt, ◌==◌}
+use Rattle.std.proofs.Common.{◌≡◌, ℕ, ◌+◌, Bool, true, false, ◌&&◌, cond, max, take, slice_index_or, List, [], ◌∷◌, ◌++◌, map, Some, None, refl, sym, ap, subst, ◌∙◌, inl, inr, arith, append-nil}
+use Rattle.std.specs.Prelude.{nat_lt, ◌==◌}
 use Rattle.std.proofs.lemmas.Bool.{le-leb}
 use Rattle.b4_core.specs.declared.bit.Bit4.{Bit4}
 use Rattle.b4_core.specs.declared.bit.Bit4.TheVariants.{Zero, One, X, Z}
@@ -11,7 +11,7 @@ use Rattle.row_machine.specs.Valuation.{Member, Place, Valuation, Changes, put}
 use Rattle.row_machine.specs.Places.{assigned}
 use Rattle.row_machine.specs.Steps.{Progress, then_changes, is_one}
 use Rattle.row_machine.specs.Steps as Steps
-use Rattle.picks.specs.Windows.{whole, at_least_0, written}
+use Rattle.picks.specs.Windows.{whole, written}
 use Rattle.lowering_laws.proofs.Extensions.{ext-cut}
 use Rattle.lowering_laws.proofs.Runs.{over}
 use Rattle.sv_core.specs.declared.design.Signal.{Signal}
@@ -21,7 +21,6 @@ use Rattle.sv_core.specs.declared.design.Stmt.TheVariants as S
 use Rattle.sv_core.specs.Value.{width_alone, value_at}
 use Rattle.sv_core.specs.Statements as Source
 use Rattle.sv_core.specs.Statements.{width_of, held_at, expr_signals}
-use Rattle.v_tree.specs.Names.{Name}
 use Rattle.v_tree.specs.declared.expressions.VExpr.{VExpr}
 use Rattle.v_tree.specs.declared.expressions.VExpr.TheVariants.{Prim}
 use Rattle.v_tree.specs.declared.statements.VBranch.TheVariants.{Statement, Empty}
@@ -38,7 +37,7 @@ use Rattle.lower_design.specs.Shape.{trigger, whole_of}
 use Rattle.lower_design.specs.Lowered.{lines, branch, lowered_expr, lowered_level, lowered_stmt, reads_trigger, triggered, whole_name, whole_target}
 use Rattle.lower_design.proofs.Induction.{Steps as Each, by_statement}
 use Rattle.lower_design.proofs.Levels.{block-level, alone-level, either-level, assign-level, statement-target, empty-target, block-target, alone-target, either-target, assign-target, target-level, name-level, prim-level, lines-are}
-use Rattle.lower_design.proofs.Meanings.{name, AllFound, Found, Means, found-front, found-back, number_named, use_named, image, map-append, length-value, lowered-means}
+use Rattle.lower_design.proofs.Meanings.{name, AllFound, Found, found-front, found-back, number_named, use_named, map-append, length-value, lowered-means}
 
 -- a block without a name and variables is its statements
 inside-none : (sc : Scope) → inside [] sc ≡ sc

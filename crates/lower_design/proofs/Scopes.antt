@@ -1,20 +1,16 @@
 -- What names stand for in the lowered design.
-use Rattle.std.proofs.Common.{◌≡◌, ℕ, zero, suc, ◌+◌, ◌-◌, ◌==◌, ◌<◌, ◌≤◌, Bool, true, false, if◌then◌else◌, List, [], ◌∷◌, ◌++◌, map, filter, length, cond, Option, Some, None, refl, sym, ap, subst, ◌∙◌, inl, inr, arith}
+use Rattle.std.proofs.Common.{◌≡◌, ℕ, zero, suc, ◌+◌, ◌==◌, ◌≤◌, Bool, true, false, if◌then◌else◌, List, [], ◌∷◌, ◌++◌, map, filter, cond, Option, Some, None, refl, sym, ap, subst, ◌∙◌, inl, inr, arith}
 use Rattle.std.specs.List.{slice_get}
 use Rattle.std.specs.Str.{bytes_eq}
 use Rattle.std.proofs.lemmas.Bool.{false≢true, eqb-true}
 use Rattle.row_machine.specs.Valuation.{Member}
-use Rattle.row_machine.proofs.Members.{append-member, member-front, member-back}
 use Rattle.sv_core.specs.declared.design.SignalKind.{SignalKind}
 use Rattle.sv_core.specs.declared.design.SignalKind.TheVariants.{InputNet, OutputVar, Variable}
 use Rattle.sv_core.specs.declared.design.Signal.{Signal}
-use Rattle.sv_core.specs.declared.design.Process.{Process}
-use Rattle.sv_core.specs.declared.design.Design.{Design}
 use Rattle.v_tree.specs.Names.{Name, distinct}
 use Rattle.v_tree.specs.Scopes.{Kind, input, net, variable, Thing, value, Declared, inside, nowhere, is_declared, repeated, bits_of, has_range}
 use Rattle.v_tree.specs.Rules.{declared_signal}
-use Rattle.v_tree.specs.declared.items.VSignal.{VSignal}
-use Rattle.lower_design.specs.Translatable.{Translatable, is_input, path_of}
+use Rattle.lower_design.specs.Translatable.{is_input, path_of}
 use Rattle.lower_design.specs.Shape.{trigger}
 use Rattle.lower_design.specs.Lowered.{range_of, declaration_of}
 use Rattle.lower_design.proofs.Names.{true_or_false, same_bytes, differ_bytes, pick_true, pick_false, first_fresh, rest_distinct, distinct_more}

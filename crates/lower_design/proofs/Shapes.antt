@@ -1,9 +1,8 @@
 -- The lowered design has the shape of its source.
-use Rattle.std.proofs.Common.{◌≡◌, ℕ, suc, ◌≤◌, Bool, true, false, List, [], ◌∷◌, map, length, replicate, Some, None, refl, sym, ap, subst, ◌∙◌, inl, inr}
+use Rattle.std.proofs.Common.{◌≡◌, ℕ, suc, ◌≤◌, Bool, true, false, List, [], ◌∷◌, map, replicate, Some, refl, sym, ap, subst, ◌∙◌, inl, inr}
 use Rattle.std.specs.List.{slice_get, AllZip}
 use Rattle.b4_core.specs.declared.bit.Bit4.TheVariants.{X}
 use Rattle.row_machine.specs.Valuation.{Member}
-use Rattle.row_machine.proofs.Basics.{member-any}
 use Rattle.sv_core.specs.declared.design.SignalKind.{SignalKind}
 use Rattle.sv_core.specs.declared.design.SignalKind.TheVariants.{InputNet, OutputVar, Variable}
 use Rattle.sv_core.specs.declared.design.Signal.{Signal}
@@ -17,7 +16,7 @@ use Rattle.sv_core.specs.declared.design.Design.{Design}
 use Rattle.sv_core.specs.Statements as SD
 use Rattle.sv_core.specs.Statements.{doing, stmt_doing}
 use Rattle.v_tree.specs.declared.items.VProcess.TheVariants.{Assign as Drive}
-use Rattle.v_meaning.specs.Scopes.{Scope, Named, named}
+use Rattle.v_meaning.specs.Scopes.{Scope, Named}
 use Rattle.v_meaning.specs.Modules as T
 use Rattle.v_meaning.specs.Modules.{InitialValue, process_of, edge_on}
 use Rattle.lower_design.specs.Translatable.{Translatable, KindFits, is_helper_name}
@@ -25,7 +24,7 @@ use Rattle.lower_design.specs.Shape.{name_of, kind_fits, IsImage, IsEdge, IsProc
 use Rattle.lower_design.specs.Lowered.{lowered_expr, lowered_edge, process_by, whole_target, is_driven, lowered_module, lowered}
 use Rattle.lower_design.proofs.Levels.{assign-level}
 use Rattle.lower_design.proofs.Runs.{Same, same-assignment, body-same, triggered-same}
-use Rattle.lower_design.proofs.Items.{kind_of, images, trigger_signal, helpers, values, target, has_comb, all-signals, all-functions, all-instances, all-ports, top-parts, scope, us, sc, trigger-there, trigger-found, range_keeps}
+use Rattle.lower_design.proofs.Items.{kind_of, images, trigger_signal, helpers, values, target, has_comb, all-signals, all-functions, all-instances, all-ports, top-parts, us, sc, trigger-there, trigger-found, range_keeps}
 use Rattle.lower_design.proofs.Extension.{target-driver}
 
 kind-kept : (kind : SignalKind) (driven : Bool) → kind_fits kind (kind_of kind driven)
@@ -37,14 +36,16 @@ kind-kept Variable false = inr refl
 
 are-images : (driven : ℕ → Bool) (k : ℕ) (ss : List Signal) → ((s : Signal) → Member ss s → 1 ≤ s.width) → AllZip IsImage ss (images driven k ss)
 are-images driven k [] wide = tt
-are-images driven k (s ∷ ss) wide =
-    (record {
-      name = refl;
-      width = range_keeps s.width (wide s (inl refl));
-      words = refl;
-      initial = ap (λ w. replicate w X) (range_keeps s.width (wide s (inl refl)));
-      kind = kind-kept s.kind (driven k);
-    }, are-images driven (suc k) ss (λ x m. wide x (inr m)))
+are-images driven k (s ∷ ss) wide = (
+  record {
+    name = refl;
+    width = range_keeps s.width (wide s (inl refl));
+    words = refl;
+    initial = ap (λ w. replicate w X) (range_keeps s.width (wide s (inl refl)));
+    kind = kind-kept s.kind (driven k);
+  },
+  are-images driven (suc k) ss (λ x m. wide x (inr m)),
+)
 
 helper-name : (b : Bool) (h : T.Signal) → Member (helpers b) h → is_helper_name h.name ≡ true
 helper-name true h (inl e) = ap (λ (x : T.Signal). is_helper_name x.name) e

@@ -12,7 +12,10 @@ use b4_core::{BinOp, Vec4};
 use std::alloc::{AllocError, Global};
 use sv_core::{EdgeOn, Expr, Operand, Primary, Process, ProcessKind, Signal, Stmt};
 use sv_source::{Boxed, Items, Text};
-use v_tree::{VBinaryOp, VBranch, VEdge, VEdges, VExpr, VLval, VPrim, VProcess, VSensitivity, VStmt, VStmts, VUnaryOp};
+use v_tree::{
+    VBinaryOp, VBranch, VEdge, VEdges, VExpr, VLval, VPrim, VProcess, VSensitivity, VStmt, VStmts,
+    VUnaryOp,
+};
 
 /// The printed name of a signal, and no bytes where there is no such signal.
 fn name(alloc: Global, signals: &[Signal], number: u32) -> Result<Text, AllocError>
@@ -58,7 +61,10 @@ fn lower_operand(alloc: Global, signals: &[Signal], operand: &Operand) -> Result
     if !operand.inverted {
         return Ok(of);
     }
-    let negated = VExpr::Unary { op: VUnaryOp::Not, of };
+    let negated = VExpr::Unary {
+        op: VUnaryOp::Not,
+        of,
+    };
     Ok(VPrim::Paren(Boxed::new(alloc, negated)?))
 }
 
@@ -87,7 +93,10 @@ fn lower_expr(alloc: Global, signals: &[Signal], expr: &Expr) -> Result<VExpr, A
         Expr::Single(operand) => {
             let of = lower_primary(alloc, signals, &operand.primary)?;
             if operand.inverted {
-                Ok(VExpr::Unary { op: VUnaryOp::Not, of })
+                Ok(VExpr::Unary {
+                    op: VUnaryOp::Not,
+                    of,
+                })
             } else {
                 Ok(VExpr::Prim(of))
             }
