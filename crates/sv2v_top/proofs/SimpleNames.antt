@@ -1,7 +1,6 @@
 -- A name token of a source text is a simple name of a target text.
 use Rattle.std.proofs.Common.{◌≡◌, ℕ, zero, suc, ◌+◌, ◌-◌, ◌<◌, inl, inr, Bool, true, false, not, cond, ◌&&◌, nat_lt, Option, Some, None, List, [], ◌∷◌, length, take, fold, refl, sym, ap, subst, ◌∙◌, add-one, arith}
-use Rattle.std.specs.List.{list_all, list_any, take_while}
-use Rattle.std.specs.Str.{bytes_eq}
+use Rattle.std.specs.List.{list_all, take_while}
 use Rattle.std.proofs.lemmas.List.Sums.{take_while-cons}
 use Rattle.row_machine.specs.Valuation.{Member}
 use Rattle.sv_source.specs.declared.token.Kind.{Kind}
