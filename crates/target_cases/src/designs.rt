@@ -1,17 +1,25 @@
-//! Reads target texts, and prints the designs that they read as, or the rule that they break with the token at which they do.
-#![tactic(auto)]
+//! Texts that are read as designs.
 
-use case_files::{Case, escaped, load_cases};
-use std::{env, io};
+use case_files::{Case, escaped};
+use std::{fs, io};
 use sv_source::Text;
 use v_reader::{ReadFail, discard, read_verilog};
 use v_tree::VDesign;
 
 /// The longest text that is read, in bytes.
-const LONGEST: usize = 1 << 24;
+const LONGEST: usize = 1 << 28;
+
+/// What comes of a design.
+#[derive(Clone, Copy)]
+pub enum Shown {
+    /// The names of its modules, and how many ports and items each has.
+    Modules,
+    /// How many modules it has.
+    Count,
+}
 
 /// Prints the names of a design's modules, and how many ports and items each has.
-fn print(rt: &HostRuntime, design: &VDesign) -> io::Result<()> {
+fn print_modules(rt: &HostRuntime, design: &VDesign) -> io::Result<()> {
     for module in design.modules.as_slice() {
         let name = escaped(rt.alloc(), module.name.as_bytes())?;
         let ports = module.ports.len();
@@ -27,14 +35,22 @@ fn refuse(rt: &HostRuntime, rule: u16, line: u32, col: u32, word: &Text) -> io::
     println!(rt; "E{rule} {line}:{col} {word}")
 }
 
-/// Reads a text.
-fn read(rt: &HostRuntime, bytes: &[u8]) -> io::Result<()> {
+/// Shows a design that a text reads as.
+fn show(rt: &HostRuntime, design: &VDesign, shown: Shown) -> io::Result<()> {
+    match shown {
+        Shown::Modules => print_modules(rt, design),
+        Shown::Count => println!(rt; "{} modules", design.modules.len()),
+    }
+}
+
+/// Reads a text, and shows the design.
+fn show_text(rt: &HostRuntime, bytes: &[u8], shown: Shown) -> io::Result<()> {
     if bytes.len() > LONGEST {
         return println!(rt; "too long");
     }
     match read_verilog(rt.alloc(), bytes) {
         Ok(design) => {
-            let printed = print(rt, &design);
+            let printed = show(rt, &design, shown);
             discard(design);
             printed
         }
@@ -50,20 +66,19 @@ fn read(rt: &HostRuntime, bytes: &[u8]) -> io::Result<()> {
     }
 }
 
-/// Reads the files of one case.
-fn run(rt: &HostRuntime, case: Case) -> io::Result<()> {
-    println!(rt; "== {}", case.name)?;
-    for file in case.files {
-        read(rt, file.bytes.as_bytes())?;
+/// Reads the files of a case.
+pub fn read(rt: &HostRuntime, case: &Case) -> io::Result<()> {
+    for file in &case.files {
+        show_text(rt, file.bytes.as_bytes(), Shown::Modules)?;
     }
     Ok(())
 }
 
-fn main(rt: HostRuntime) -> io::Result<()> {
-    for path in env::args(&rt)?.skip(1) {
-        for case in load_cases(&rt, path.as_str())? {
-            run(&rt, case)?;
-        }
+/// Reads files one by one.
+pub fn read_files(rt: &HostRuntime, paths: &[String], shown: Shown) -> io::Result<()> {
+    for path in paths {
+        let text = fs::read_to_string(rt, path.as_str())?;
+        show_text(rt, text.as_bytes(), shown)?;
     }
     Ok(())
 }
