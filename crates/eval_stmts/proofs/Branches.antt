@@ -1,5 +1,5 @@
 -- Statements form by form, from what their parts did.
-use Rattle.std.proofs.Common.{◌≡◌, ℕ, Bool, true, false, refl, ap, sym, ◌∙◌, subst}
+use Rattle.std.proofs.Common.{◌≡◌, Bool, true, false, refl, ap, sym, ◌∙◌, subst}
 use Rattle.sv_types.specs.declared.statement.Outcome.{Outcome}
 use Rattle.sv_types.specs.declared.statement.Outcome.TheVariants.{Normal}
 use Rattle.sv_types.specs.Surroundings.{Around, Tally, counted, onward}
