@@ -1,5 +1,5 @@
 -- Lines on the error stream, and counts of faults.
-use Rattle.std.proofs.Common.{◌≡◌, refl, ℕ, List, Option, inl, inr, arith}
+use Rattle.std.proofs.Common.{refl, ℕ, List, Option, inl, inr, arith}
 use Rattle.sv_source.specs.Faults.{Rose, NoFault}
 use Rattle.sv_source.specs.Putting.{Gains, PutCause}
 use Rattle.sv_source.specs.declared.sink.Put.{Put}
