@@ -1,23 +1,19 @@
 -- How a run ends keeps each promise of the call.
-use Rattle.std.proofs.Common.{◌≡◌, ℕ, List, Option, Some, Result, Ok, Err, ap, subst, ◌∙◌, inl, inr}
-use Rattle.sv_source.specs.Faults.{NoFault}
+use Rattle.std.proofs.Common.{◌≡◌, ℕ, List, Option, Some, Result, Ok, Err, ap, subst, ◌∙◌, inl, inr, arith}
+use Rattle.sv_source.specs.Faults.{Rose, NoFault}
 use Rattle.sv_source.specs.Loading.{Contents}
 use Rattle.sv_source.specs.declared.text.Text.{Text}
 use Rattle.sv_source.specs.declared.refusal.Refusal.{Refusal}
 use Rattle.sv_source.specs.Message.{memory_line, refusal_line}
 use Rattle.command_line.specs.declared.words.Asked.{Asked}
 use Rattle.command_line.specs.Words.{asked}
-use Rattle.endings.specs.Sinks.{Put_on, Took, Untouched, FailedAt}
-use Rattle.endings.specs.Ends.{Says, said, unsaid, Writes, written, unwritten}
-use Rattle.endings.specs.Calls.{Call, Said}
-use Rattle.endings.specs.declared.status.Status.{Status}
-use Rattle.endings.specs.declared.status.Status.TheVariants.{Done, Refused, Usage, Memory, FileFault, SinkFault}
-use Rattle.endings.proofs.Saying.{no-rise}
 use Rattle.sv2v_top.specs.declared.run.Stop.{Stop}
 use Rattle.sv2v_top.specs.declared.run.Stop.TheVariants as S
+use Rattle.sv2v_top.specs.declared.status.Status.{Status}
+use Rattle.sv2v_top.specs.declared.status.Status.TheVariants.{Done, Refused, Usage, Memory, FileFault, SinkFault}
 use Rattle.sv2v_top.specs.Headline.{ExpandsTo, file_of, IsTranslated, Cause, Answers, RunGives}
-use Rattle.sv2v_top.specs.Endings.{Ends, Runs, line_of, status_of}
-use Rattle.sv2v_top.specs.Promises.{IsDone, OnDone, IsRefusal, OnRefused, IsUsage, OnUsage, OnMemory, IsFileFault, OnFileFault, IsSinkFault, of_output, of_errors, OnSinkFault, NeverUnsettled, UsageComes, Accepts, DoneComes, RefusalComes}
+use Rattle.sv2v_top.specs.Endings.{Put_on, Took, Untouched, FailedAt, Says, said, unsaid, Writes, written, unwritten, Ends, Runs, line_of, status_of}
+use Rattle.sv2v_top.specs.Promises.{Call, Said, IsDone, OnDone, IsRefusal, OnRefused, IsUsage, OnUsage, OnMemory, IsFileFault, OnFileFault, IsSinkFault, of_output, of_errors, OnSinkFault, NeverUnsettled, UsageComes, Accepts, DoneComes, RefusalComes}
 use Rattle.sv2v_top.proofs.Causes.{no-cause, one-cause}
 
 -- the run of a call
@@ -143,6 +139,11 @@ pub of-run : {words : List (List ℕ)} {told : Option Contents} {before after : 
     → Runs words told before after out err status → Ending (record { words = words; told = told; faults_before = before; faults_after = after; out = out; err = err }) status
 of-run {words = words} {told = told} {before = before} {after = after} {out = out} {err = err} {status = status} r =
     outcome _ status r
+
+-- a count that rose did so in the call, or stands at its last value
+pub no-rise : (before now : ℕ) → Rose before now → NoFault before now → ⊥
+no-rise before now (inl rose) calm = absurd (omega (arith, calm.level))
+no-rise before now (inr last) calm = absurd (omega (arith, calm.below, last))
 
 module _ (c : Call) (status : Status) where
   -- a translation of files that are told accepts them

@@ -1,13 +1,18 @@
--- From the tokens of an expansion to the request.
+-- From the tokens of an expansion to the request, and to the sinks.
 use Rattle.std.proofs.Common.{◌≡◌, ◌≤◌, refl, sym, ap, subst, ℕ, length, List, Option, Result, Ok, Err}
 use Rattle.sv_source.specs.Faults.{NotRaised}
 use Rattle.sv_source.specs.Loading.{Contents}
 use Rattle.sv_source.specs.declared.token.Token.{Token}
 use Rattle.sv_source.specs.declared.text.Text.{Text}
 use Rattle.sv_source.specs.declared.refusal.Refusal.{Refusal}
+use Rattle.sv_source.specs.Putting.{appended, Gains, GainsFront, PutCause}
+use Rattle.sv_source.specs.declared.sink.Put.{Put}
+use Rattle.sv_source.specs.declared.sink.Put.TheVariants.{Ok as PutOk, Failed}
 use Rattle.command_line.specs.declared.words.Asked.{Asked}
 use Rattle.sv2v_top.specs.declared.run.Stop.{Stop}
 use Rattle.sv2v_top.specs.declared.run.Stop.TheVariants as S
+use Rattle.sv2v_top.specs.declared.status.Status.TheVariants.{SinkFault}
+use Rattle.sv2v_top.specs.Endings.{Says, said, unsaid}
 use Rattle.sv2v_top.specs.Headline.{ExpandsTo, file_of, TokensGive, AskedGives, Cause, in_tokens}
 use Rattle.sv2v_top.specs.Translation.{Breaks}
 use Rattle.sv2v_top.proofs.Listed.{cause-listed}
@@ -32,3 +37,17 @@ from-tokens request some told before now tokens names (Err (S.Refused path refus
 pub refused-gives : (top : List ℕ) (tokens : List Token) (names : List (List ℕ)) (r : Refusal) (stop : Stop)
     → Breaks top tokens r → stop ≡ S.Refused (file_of names r.place) r → TokensGive top tokens names (Err stop)
 refused-gives top tokens names r stop b is = subst (λ (s : Stop). TokensGive top tokens names (Err s)) (sym is) (refl, b)
+
+-- the line of a write fault, put on the error stream
+pub fault-said : {b a : Option (List ℕ)} → {fb fa : ℕ} → {line : List ℕ} → (result : Put)
+    → Gains b a line result → PutCause result fb fa
+    → Says (record { before = b; after = a; faults_before = fb; faults_after = fa }) line SinkFault SinkFault
+fault-said PutOk g c = said g refl
+fault-said Failed g c = unsaid (record { front = g; rose = c }) refl
+
+-- what a sink gained, by equal bytes
+pub took-same : (b a : Option (List ℕ)) → {bytes same : List ℕ} → bytes ≡ same → a ≡ appended b bytes → a ≡ appended b same
+took-same b a e g = subst (λ (xs : List ℕ). a ≡ appended b xs) e g
+
+pub front-same : (b a : Option (List ℕ)) → {bytes same : List ℕ} → bytes ≡ same → GainsFront b a bytes → GainsFront b a same
+front-same b a e g = subst (λ (xs : List ℕ). GainsFront b a xs) e g

@@ -1,5 +1,5 @@
 -- What a call of the translator promises of each status: its cause, and what stands on the output and the error stream.
-use Rattle.std.specs.Prelude.{◌≡◌, ℕ, List, Some, None, Err}
+use Rattle.std.specs.Prelude.{◌≡◌, ◌⊎◌, ℕ, List, Option, Some, None, Err}
 use Rattle.sv_source.specs.Faults.{NoFault, NotRaised}
 use Rattle.sv_source.specs.Loading.{Contents}
 use Rattle.sv_source.specs.Message.{usage_line, memory_line, read_fault_line, refusal_line, write_fault_line}
@@ -9,14 +9,33 @@ use Rattle.command_line.specs.declared.words.Asked.{Asked}
 use Rattle.command_line.specs.Words.{asked}
 use Rattle.sv2v_top.specs.declared.run.Stop.{Stop}
 use Rattle.sv_core.specs.declared.design.Design.{Design}
-use Rattle.endings.specs.Sinks.{Took, Untouched, FailedAt}
-use Rattle.endings.specs.Ends.{Says, Unless}
-use Rattle.endings.specs.Calls.{Call, Said}
-use Rattle.endings.specs.declared.status.Status.{Status}
-use Rattle.endings.specs.declared.status.Status.TheVariants.{Done, Refused, Usage, Memory, FileFault, SinkFault, Unsettled}
+use Rattle.sv2v_top.specs.declared.status.Status.{Status}
+use Rattle.sv2v_top.specs.declared.status.Status.TheVariants.{Done, Refused, Usage, Memory, FileFault, SinkFault, Unsettled}
 use Rattle.sv2v_top.specs.Translation.{Accepted}
 use Rattle.sv2v_top.specs.Headline.{ExpandsTo, file_of, IsTranslated, IsRefused, IsFaulty, Cause, RunGives}
-use Rattle.sv2v_top.specs.Endings.{line_of}
+use Rattle.sv2v_top.specs.Endings.{Put_on, Took, Untouched, FailedAt, Says, line_of}
+
+-- a call: its words, what the files tell, how often they had failed before and after it, and its two sinks
+pub record Call : Type 0 where
+  pub words : List (List ℕ)
+  pub told : Option Contents
+  pub faults_before : ℕ
+  pub faults_after : ℕ
+  pub out : Put_on
+  pub err : Put_on
+
+-- what a sink shows of a call: its bytes and its faults, before and after it
+abbrev pub sink : {S : Type 0} → (S → Option (List ℕ)) → (S → ℕ) → S → S → Put_on
+sink written faults old new = record { before = written old; after = written new; faults_before = faults old; faults_after = faults new }
+
+-- the call with these words over files, as they stand before and after it
+abbrev pub call : {F : Type 0} → List (List ℕ) → (F → Option Contents) → (F → ℕ) → F → F → Put_on → Put_on → Call
+call words contents faults old new out err = record { words = words; told = contents old; faults_before = faults old; faults_after = faults new; out = out; err = err }
+
+-- the line is on the error stream, and the output is as it was
+pub record Said (c : Call) (line : List ℕ) : Type 0 where
+  pub line_put : Took c.err line
+  pub nothing_put : Untouched c.out
 
 -- `Done`: the words name a top and files, the text is a right translation of these files, all of it is on the output, and
 -- nothing is on the error stream.
@@ -81,6 +100,10 @@ OnSinkFault c status = status ≡ SinkFault → IsSinkFault c
 -- the translator runs no design, so none fails to settle
 abbrev pub NeverUnsettled : Status → Type 0
 NeverUnsettled status = status ≡ Unsettled → ⊥
+
+-- one of these, unless memory or a sink fails
+abbrev pub Unless : Type 0 → Status → Type 0
+Unless Answered status = Answered ⊎ (status ≡ Memory) ⊎ (status ≡ SinkFault)
 
 -- words that aren't of the form are answered with `Usage`
 abbrev pub UsageComes : Call → Status → Type 0

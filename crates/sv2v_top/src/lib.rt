@@ -7,8 +7,9 @@ mod literals;
 mod main_call;
 mod name_table;
 mod run;
+mod status;
 mod translation;
 mod uses;
 
-pub use endings::Status;
 pub use main_call::translate_main;
+pub use status::Status;

@@ -1,19 +1,19 @@
 //! The top call: from words, files and sinks to a status.
 
 ghost use Rattle.std.specs.Prelude.{◌≡◌, ◌≤◌, map, string_bytes};
-ghost use Rattle.endings.specs.Sinks.{sink};
-ghost use Rattle.endings.specs.Ends.{Says, LevelUnless};
-ghost use Rattle.endings.specs.Calls.{call};
-ghost use Rattle.endings.specs.declared.status.Status.TheVariants.{Done, SinkFault};
-ghost use Rattle.sv2v_top.specs.Endings.{Runs, line_of, status_of};
-ghost use Rattle.sv2v_top.specs.Promises.{OnDone, OnRefused, OnUsage, OnMemory, OnFileFault, OnSinkFault, UsageComes, DoneComes, RefusalComes, NeverUnsettled};
+ghost use Rattle.sv2v_top.specs.Endings.{Says, Writes, Runs, LevelUnless, line_of, status_of};
+ghost use Rattle.sv2v_top.specs.Promises.{call, sink, OnDone, OnRefused, OnUsage, OnMemory, OnFileFault, OnSinkFault, UsageComes, DoneComes, RefusalComes, NeverUnsettled};
 ghost use Rattle.sv_source.specs.Putting.{Gains, PutCause};
+ghost use Rattle.sv2v_top.specs.declared.status.Status.TheVariants.{Done, SinkFault};
 
 use crate::run::{Stop, run};
-use endings::{Status, write_out};
+use crate::status::Status;
 use std::alloc::Global;
 use std::string::String;
-use sv_source::{Files, Put, Sink, put_out_of_memory, put_read_fault, put_refusal, put_usage};
+use sv_source::{
+    Files, Put, Sink, Text, put_all, put_out_of_memory, put_read_fault, put_refusal, put_usage,
+    put_write_fault,
+};
 
 /// Puts the line of a stop on the error stream.
 fn put_line<E: Sink>(stop: &Stop, err: &mut E) -> Put
@@ -55,6 +55,23 @@ fn say<E: Sink>(stop: &Stop, err: &mut E) -> Status
     }
 }
 
+/// Writes the text, and answers `Done`, or says a write fault and answers `SinkFault`.
+fn write_out<O: Sink, E: Sink>(text: &Text, out: &mut O, err: &mut E) -> Status
+    ensures writes { Writes (sink O.written O.faults out.old out.new) (sink E.written E.faults err.old err.new) text.now result }
+    ensures out_later { O.faults out.old ≤ O.faults out.new }
+    ensures err_later { E.faults err.old ≤ E.faults err.new }
+    ensures out_level { LevelUnless SinkFault result (O.faults out.old) (O.faults out.new) }
+    ensures err_level { LevelUnless SinkFault result (E.faults err.old) (E.faults err.new) }
+{
+    match put_all(out, text.as_bytes()) {
+        Put::Ok => Status::Done,
+        Put::Failed => {
+            let _ = put_write_fault(err);
+            Status::SinkFault
+        }
+    }
+}
+
 /// The whole run: what the words and files give, and how it ends on the sinks.
 fn answer<F: Files, O: Sink, E: Sink>(
     alloc: Global,
@@ -72,7 +89,7 @@ fn answer<F: Files, O: Sink, E: Sink>(
     ensures files_level { result ≡ Done → F.faults files.new ≡ F.faults files.old }
 {
     match run(alloc, words, files) {
-        Ok(text) => write_out(text.as_bytes(), out, err),
+        Ok(text) => write_out(&text, out, err),
         Err(stop) => say(&stop, err),
     }
 }

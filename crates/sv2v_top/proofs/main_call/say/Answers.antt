@@ -1,5 +1,5 @@
 use Rattle.std.proofs.Common.{refl}
-use Rattle.endings.specs.Ends.{said, unsaid}
+use Rattle.sv2v_top.specs.Endings.{said, unsaid}
 use Rattle.sv2v_top.proofs.main_call.say.Goals as goal
 
 pub returns-in-Ok-clause-says : goal.returns-in-Ok-clause-says
