@@ -1,1 +1,2 @@
-pub mod Valued
+pub mod Tops
+pub mod Valuing

@@ -1,6 +1,13 @@
-//! The values of typed expressions (IEEE 1800-2017 clause 11), and where valuing one stops.
+//! The values of typed expressions, functions and statements (IEEE 1800-2017 clauses 11.2.1, 12 and 13), and where valuing them
+//! stops.
 #![tactic(auto)]
 
-mod constants;
+mod fails;
+mod numbers;
+mod runs;
+mod valued;
 
-pub use constants::{Env, EvalFail, Slots, value};
+pub use eval_stmts::{Env, Update};
+pub use fails::{EvalFail, SizeFail};
+pub use runs::{run_function, run_stmt};
+pub use valued::{size, value};

@@ -1,5 +1,5 @@
 -- Statements form by form, from what their parts did.
-use Rattle.std.proofs.Common.{◌≡◌, ℕ, Bool, true, false, Option, refl, ap, sym, ◌∙◌, subst}
+use Rattle.std.proofs.Common.{◌≡◌, Bool, true, false, refl, ap, sym, ◌∙◌, subst}
 use Rattle.sv_types.specs.declared.statement.Outcome.{Outcome}
 use Rattle.sv_types.specs.declared.statement.Outcome.TheVariants.{Normal}
 use Rattle.sv_types.specs.Surroundings.{Around, Tally, counted, onward}
@@ -19,8 +19,8 @@ use Rattle.eval_stmts.specs.Stepping.{Does, Stops, Resumes, counted_step}
 use Rattle.eval_stmts.proofs.Chains as C
 
 -- one more statement counts
-pub counted-left : (sc : Scope) (st : Step) (old : Env) (left : Option ℕ) → counted (running old.budget) ≡ running left → Resumes sc st (counted_step st) old (record old { budget = left })
-counted-left sc st old left is = C.after sc (λ a s t. counted t) st old (record old { budget = left }) (record { signals = refl; locals = refl; pending = refl }) (λ a s i. is)
+pub counted-on : (sc : Scope) (st : Step) (old new : Env) → SameSlots old new → counted (running old.budget) ≡ running new.budget → Resumes sc st (counted_step st) old new
+counted-on sc st old new same is = C.after sc (λ a s t. counted t) st old new same (λ a s i. is)
 
 pub counted-stops : (sc : Scope) (st : Step) (old : Env) (h : Halt) → Halts h (counted (running old.budget)) → Stops sc (counted_step st) old h
 counted-stops sc st old h stops = C.before-stops sc (λ a s t. counted t) st old h (λ a s i. stops)

@@ -1,6 +1,6 @@
 -- The turns of a loop.
 use Rattle.std.proofs.Common.{◌≡◌, ℕ, zero, suc, Bool, true, false, cond, refl, ap, sym, ◌∙◌, subst}
-use Rattle.sv_types.specs.declared.statement.Outcome.TheVariants.{Normal, Break, Continue, Return}
+use Rattle.sv_types.specs.declared.statement.Outcome.TheVariants.{Normal}
 use Rattle.sv_types.specs.Surroundings as S
 use Rattle.sv_types.specs.Surroundings.{Around, Tally, stopped, onward}
 use Rattle.sv_types.specs.Meanings.{Meaning}
@@ -126,80 +126,6 @@ last-stops sc test body step old h stops = record {
       subst (Halts h) (sym (effort-zero test body step a s (running old.budget)))
       (halts-onward h (λ u. cond (is_true test (current a s)) (stopped S.Turns u) u) (test.values (current a s) (running old.budget)) (subst (λ e. Halts h (test.values e (running old.budget))) i.now stops));
 }
-
--- a body that goes on
-pub goes-next : (sc : Scope) (n : ℕ) (test : Meaning) (body step : Step) (old new : Env) → Does sc body old new Normal → Resumes sc (next_step n test body step) (body_step n test body step) old new
-goes-next sc n test body step old new d = record {
-  holds = d.holds;
-  at = λ a s i.
-      let ran = d.at a s i in
-      let u = body.run a s in
-      record {
-        mid = u;
-        is = ran.is;
-        run = sym (ap (λ o. R.after_turn o (next_run n test body step) a u) ran.is.outcome);
-        effort = sym (goes-on (E.after_turn u.outcome (next_effort n test body step) a u) (body.effort a s (running old.budget)) new.budget ran.effort
-            ∙ ap (λ o. E.after_turn o (next_effort n test body step) a u (running new.budget)) ran.is.outcome);
-      };
-}
-
-pub continues : (sc : Scope) (n : ℕ) (test : Meaning) (body step : Step) (old new : Env) → Does sc body old new Continue → Resumes sc (next_step n test body step) (body_step n test body step) old new
-continues sc n test body step old new d = record {
-  holds = d.holds;
-  at = λ a s i.
-      let ran = d.at a s i in
-      let u = body.run a s in
-      record {
-        mid = record u { outcome = Normal };
-        is = record { now = ran.is.now; pending = ran.is.pending; outcome = refl };
-        run = sym (ap (λ o. R.after_turn o (next_run n test body step) a u) ran.is.outcome);
-        effort = sym (goes-on (E.after_turn u.outcome (next_effort n test body step) a u) (body.effort a s (running old.budget)) new.budget ran.effort
-            ∙ ap (λ o. E.after_turn o (next_effort n test body step) a u (running new.budget)) ran.is.outcome);
-      };
-}
-
-pub breaks : (sc : Scope) (n : ℕ) (test : Meaning) (body step : Step) (old new : Env) → Does sc body old new Break → Does sc (body_step n test body step) old new Normal
-breaks sc n test body step old new d = record {
-  holds = d.holds;
-  at = λ a s i.
-      let ran = d.at a s i in
-      let u = body.run a s in
-      record {
-        is = subst (λ v. IsAt sc new a v Normal) (sym (ap (λ o. R.after_turn o (next_run n test body step) a u) ran.is.outcome)) (record { now = ran.is.now; pending = ran.is.pending; outcome = refl });
-        effort = goes-on (E.after_turn u.outcome (next_effort n test body step) a u) (body.effort a s (running old.budget)) new.budget ran.effort
-            ∙ ap (λ o. E.after_turn o (next_effort n test body step) a u (running new.budget)) ran.is.outcome;
-      };
-}
-
-pub returns : (sc : Scope) (n : ℕ) (test : Meaning) (body step : Step) (old new : Env) → Does sc body old new Return → Does sc (body_step n test body step) old new Return
-returns sc n test body step old new d = record {
-  holds = d.holds;
-  at = λ a s i.
-      let ran = d.at a s i in
-      let u = body.run a s in
-      record {
-        is = subst (λ v. IsAt sc new a v Return) (sym (ap (λ o. R.after_turn o (next_run n test body step) a u) ran.is.outcome)) ran.is;
-        effort = goes-on (E.after_turn u.outcome (next_effort n test body step) a u) (body.effort a s (running old.budget)) new.budget ran.effort
-            ∙ ap (λ o. E.after_turn o (next_effort n test body step) a u (running new.budget)) ran.is.outcome;
-      };
-}
-
-pub body-stops : (sc : Scope) (n : ℕ) (test : Meaning) (body step : Step) (old : Env) (h : Halt) → Stops sc body old h → Stops sc (body_step n test body step) old h
-body-stops sc n test body step old h d = record {
-  at = λ a s i. let u = body.run a s in halts-onward h (E.after_turn u.outcome (next_effort n test body step) a u) (body.effort a s (running old.budget)) (d.at a s i);
-}
-
--- the variable is set for the next turn
-pub steps-on : (sc : Scope) (n : ℕ) (test : Meaning) (body step : Step) (old new : Env) → Does sc step old new Normal → Resumes sc (turns_step n test body step) (next_step n test body step) old new
-steps-on sc n test body step old new d = record {
-  holds = d.holds;
-  at = λ a s i.
-      let ran = d.at a s i in
-      record { mid = step.run a s; is = ran.is; run = refl; effort = sym (goes-on (E.turns n test body step a (step.run a s)) (step.effort a s (running old.budget)) new.budget ran.effort) };
-}
-
-pub step-stops : (sc : Scope) (n : ℕ) (test : Meaning) (body step : Step) (old : Env) (h : Halt) → Stops sc step old h → Stops sc (next_step n test body step) old h
-step-stops sc n test body step old h d = record { at = λ a s i. halts-onward h (E.turns n test body step a (step.run a s)) (step.effort a s (running old.budget)) (d.at a s i) }
 
 -- a step before the turns
 abbrev pub led_by : Step → Step → Step

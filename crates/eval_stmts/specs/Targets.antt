@@ -101,7 +101,6 @@ ActualsFit (p ∷ ps) (e ∷ es) fs = Fits (meaning e) fs (assigned_width p.two_
 
 pub record RoutineFits (f : ℕ) (es : List Expr) (fs : ℕ → List Parameter) (holds : ℕ → Bool) : Type 0 where
   pub actuals : ActualsFit (fs f) es fs
-  pub alone : AllFit es fs
   pub held : AllHeld (actual_roots (fs f) (map meaning es)) holds
 
 -- whether a value matches, and what trying the values of an item takes

@@ -126,8 +126,8 @@ fn value_places<C: Fn(Call) -> Result<Called, Halt>>(
     )
 }
 
-// Writes updates in order.
-fn write_all(alloc: Global, updates: &[Update], env: &mut Env) -> Result<(), AllocError>
+/// Writes updates in order.
+pub fn write_all(alloc: Global, updates: &[Update], env: &mut Env) -> Result<(), AllocError>
     requires { AllReady updates.now (is_held env.old.signals.items) }
     ensures { OnOk result (Written env.old env.new (changes_of updates.now)) }
 {

@@ -16,7 +16,7 @@ mod values;
 mod variables;
 mod writes;
 
-pub use assigns::assign;
+pub use assigns::{assign, write_all};
 pub use choices::chosen_item;
 pub use controls::{Control, MOST_TURNS};
 pub use env::{Env, Update};

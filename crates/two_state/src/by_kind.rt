@@ -9,6 +9,7 @@ ghost use Rattle.two_state.specs.Kinds.{Helps, HasBits, Gives, value_of, result_
 
 use crate::parts::{function, one_input, two_inputs};
 use crate::values::{same, selected, two_state, wild_equal};
+use pairs::both;
 use std::alloc::{AllocError, Global};
 use sv_source::Text;
 use v_tree::{Helper, HelperKind, VFunction, helper_name};
@@ -18,8 +19,7 @@ fn cast(alloc: Global, name: Text, width: u32) -> Result<VFunction, AllocError>
     requires { 0 < width }
     ensures { IfOk result (λ f. Gives f name (result_width kinds.Cast width) (inputs_for kinds.Cast width) (value_of kinds.Cast width)) }
 {
-    let value = same(alloc)?;
-    let inputs = one_input(alloc, width)?;
+    let (value, inputs) = both(same(alloc), one_input(alloc, width))?;
     function(alloc, name, width, inputs, value)
 }
 
@@ -28,8 +28,7 @@ fn converted(alloc: Global, name: Text, width: u32) -> Result<VFunction, AllocEr
     requires { 0 < width }
     ensures { IfOk result (λ f. Gives f name (result_width kinds.TwoState width) (inputs_for kinds.TwoState width) (value_of kinds.TwoState width)) }
 {
-    let value = two_state(alloc, width)?;
-    let inputs = one_input(alloc, width)?;
+    let (value, inputs) = both(two_state(alloc, width), one_input(alloc, width))?;
     function(alloc, name, width, inputs, value)
 }
 
@@ -46,8 +45,7 @@ fn select(
     requires index { 0 < index }
     ensures { IfOk result (λ f. Gives f name part (inputs_for (kinds.Select part index) width) (value_of (kinds.Select part index) width)) }
 {
-    let value = selected(alloc, part)?;
-    let inputs = two_inputs(alloc, width, index)?;
+    let (value, inputs) = both(selected(alloc, part), two_inputs(alloc, width, index))?;
     function(alloc, name, part, inputs, value)
 }
 
@@ -56,8 +54,7 @@ fn wild(alloc: Global, name: Text, width: u32) -> Result<VFunction, AllocError>
     requires { 0 < width }
     ensures { IfOk result (λ f. Gives f name (result_width kinds.WildEq width) (inputs_for kinds.WildEq width) (value_of kinds.WildEq width)) }
 {
-    let value = wild_equal(alloc, width)?;
-    let inputs = two_inputs(alloc, width, width)?;
+    let (value, inputs) = both(wild_equal(alloc, width), two_inputs(alloc, width, width))?;
     function(alloc, name, 1, inputs, value)
 }
 

@@ -6,6 +6,7 @@ ghost use Rattle.v_meaning.specs.Statements.{doing, assignment, name_target};
 ghost use Rattle.two_state.specs.Kinds.{Gives, input_of, vector, other};
 
 use crate::values::{OTHER, VECTOR};
+use pairs::both;
 use std::alloc::{AllocError, Global};
 use sv_source::{Items, Text};
 use v_tree::{VExpr, VFunction, VLocal, VLocals, VLval, VStmt};
@@ -68,7 +69,9 @@ pub fn function(
     requires { 0 < width }
     ensures { IfOk result (λ f. Gives f name width inputs (meaning value)) }
 {
-    let result = name.copy(alloc)?;
+    let copy = name.copy(alloc);
+    let (result, parts) = both(copy, Ok((name, inputs, value)))?;
+    let (name, inputs, value) = parts;
     Ok(VFunction {
         range: Some(width - 1),
         name: result,

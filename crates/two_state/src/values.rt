@@ -13,6 +13,7 @@ ghost use Rattle.v_tree.specs.declared.expressions.VExtent.TheVariants.{Up};
 ghost use Rattle.two_state.specs.Kinds.{vector, other, bit, each, is_set, matching};
 
 use b4_core::{BinOp, Bit4, RedOp, UnOp, Vec4};
+use pairs::both;
 use std::alloc::{AllocError, Global};
 use sv_source::{Items, Text};
 use v_build::{
@@ -80,18 +81,23 @@ pub fn selected(alloc: Global, part: u32) -> Result<VExpr, AllocError>
 fn set_bit(alloc: Global, i: u32) -> Result<VExpr, AllocError>
     ensures { IfOk result (λ e. meaning e ≡ is_set i) }
 {
-    let read = bit_of(alloc, VECTOR, i)?;
-    let one = one_bit(alloc, Bit4::One)?;
+    let (read, one) = both(bit_of(alloc, VECTOR, i), one_bit(alloc, Bit4::One))?;
     compare(alloc, true, false, read, one)
+}
+
+/// `~o[i]`
+fn inverse_bit(alloc: Global, i: u32) -> Result<VExpr, AllocError>
+    ensures { IfOk result (λ e. meaning e ≡ means.unary Not (bit other i)) }
+{
+    let read = bit_of(alloc, OTHER, i)?;
+    unary(alloc, UnOp::Not, read)
 }
 
 /// `(~o[i]) === 1'bx`
 fn wild_bit(alloc: Global, i: u32) -> Result<VExpr, AllocError>
     ensures { IfOk result (λ e. meaning e ≡ means.equal Case (means.unary Not (bit other i)) (means.literal (X ∷ []))) }
 {
-    let read = bit_of(alloc, OTHER, i)?;
-    let inverse = unary(alloc, UnOp::Not, read)?;
-    let unknown = one_bit(alloc, Bit4::X)?;
+    let (inverse, unknown) = both(inverse_bit(alloc, i), one_bit(alloc, Bit4::X))?;
     compare(alloc, true, false, inverse, unknown)
 }
 
@@ -99,8 +105,7 @@ fn wild_bit(alloc: Global, i: u32) -> Result<VExpr, AllocError>
 fn equal_bit(alloc: Global, i: u32) -> Result<VExpr, AllocError>
     ensures { IfOk result (λ e. meaning e ≡ means.binary Xnor (bit vector i) (bit other i)) }
 {
-    let left = bit_of(alloc, VECTOR, i)?;
-    let right = bit_of(alloc, OTHER, i)?;
+    let (left, right) = both(bit_of(alloc, VECTOR, i), bit_of(alloc, OTHER, i))?;
     binary(alloc, BinOp::Xnor, left, right)
 }
 
@@ -108,8 +113,7 @@ fn equal_bit(alloc: Global, i: u32) -> Result<VExpr, AllocError>
 fn matching_bit(alloc: Global, i: u32) -> Result<VExpr, AllocError>
     ensures { IfOk result (λ e. meaning e ≡ matching i) }
 {
-    let wild = wild_bit(alloc, i)?;
-    let equal = equal_bit(alloc, i)?;
+    let (wild, equal) = both(wild_bit(alloc, i), equal_bit(alloc, i))?;
     binary(alloc, BinOp::Or, wild, equal)
 }
 

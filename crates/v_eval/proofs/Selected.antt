@@ -23,6 +23,7 @@ use Rattle.v_meaning.specs.Values.{Meaning, meaning, sel_meaning, expr_step, pri
 use Rattle.v_eval.specs.declared.operators.Context.{Context}
 use Rattle.v_eval.specs.declared.paths.Path.{Path}
 use Rattle.v_eval.specs.declared.paths.Named as N
+use Rattle.v_eval.specs.declared.held.Slot.{Slot}
 use Rattle.v_eval.specs.declared.scopes.Scope as C
 use Rattle.v_eval.specs.Holding.{holding, bits_in, bit_or_x}
 use Rattle.v_eval.specs.Indices.{clamped}
@@ -129,14 +130,14 @@ name-means : (name : Name) (ss : List T.SelMeaning) (n : Named) (c : Context) (s
 unfolding reference
 name-means name ss n c sc v is = ap (λ m. ext c.width c.signed (value_of m ss sc v)) is
 
-pub name-valued : (r u : List Bit4) (p : VPrim) (name : Name) (ss : List VSel) (o : Option N.Named) (q : Path) (c : Context) (s : C.Scope) (signals locals : List (List Bit4)) → p ≡ O.Name name ss
-    → named_or_not o ≡ nameless (named (names_of s) name) → path_of q ≡ T.path_from (scope_of s) (holding signals locals) (map sel_meaning ss) (T.start (named_or_not o))
-    → u ≡ tabulated (width_of (named_or_not o) (map sel_meaning ss)) (λ j. bit_or_x (bits_in signals locals (named_or_not o).number) (picked (window_of q.window) j))
-    → r ≡ ext c.width c.signed u → r ≡ at (prim_meaning p) c (scope_of s) (holding signals locals)
-name-valued r u p name ss o q c s signals locals is found path read outer =
+pub name-valued : (r u : List Bit4) (p : VPrim) (name : Name) (ss : List VSel) (o : Option N.Named) (q : Path) (c : Context) (s : C.Scope) (signals : List (List Bit4)) (over : List Slot) (locals : List (List Bit4)) → p ≡ O.Name name ss
+    → named_or_not o ≡ nameless (named (names_of s) name) → path_of q ≡ T.path_from (scope_of s) (holding signals over locals) (map sel_meaning ss) (T.start (named_or_not o))
+    → u ≡ tabulated (width_of (named_or_not o) (map sel_meaning ss)) (λ j. bit_or_x (bits_in signals over locals (named_or_not o).number) (picked (window_of q.window) j))
+    → r ≡ ext c.width c.signed u → r ≡ at (prim_meaning p) c (scope_of s) (holding signals over locals)
+name-valued r u p name ss o q c s signals over locals is found path read outer =
     let n = named_or_not o in
-    let v = holding signals locals in
-    let bits = bits_in signals locals n.number in
+    let v = holding signals over locals in
+    let bits = bits_in signals over locals n.number in
     outer
     ∙ ap (ext c.width c.signed) (read ∙ ap (λ (x : T.Path). tabulated (width_of n (map sel_meaning ss)) (λ j. bit_or_x bits (picked x.window j))) path ∙ name-read n (map sel_meaning ss) (scope_of s) v bits (λ k. refl))
     ∙ name-means name (map sel_meaning ss) n c (scope_of s) v found ∙ sym (ap (λ m. at m c (scope_of s) v) (is-name p name ss is))

@@ -4,11 +4,20 @@ ghost use Rattle.std.specs.Prelude.{◌≡◌, ◌^◌, ◌<◌, ℕ, length, sl
 ghost use Rattle.b4_core.specs.declared.bit.Bit4.TheVariants.{X};
 ghost use Rattle.picks.specs.Windows.{picked, tabulated};
 ghost use Rattle.v_eval.specs.Windows.{window_of, IsNear};
-ghost use Rattle.v_eval.specs.Holding.{holds, slot_of, bit_in, bit_or_x};
+ghost use Rattle.v_eval.specs.Holding.{slot_of, signal_bits, bit_in, bit_or_x};
 
 use crate::windows::Window;
 use b4_core::{Bit4, Vec4};
 use std::alloc::{AllocError, Global};
+
+/// A signal that holds something else by now.
+#[derive(Drop)]
+pub struct Slot {
+    /// The number of the signal.
+    pub number: u64,
+    /// What it holds.
+    pub bits: Vec4,
+}
 
 /// What signals and locals hold while an expression is valued: for each, by its number, its bits, least first, the words of
 /// a memory one behind the other. Locals are numbered from 2^32 on. What isn't there is x.
@@ -16,12 +25,14 @@ use std::alloc::{AllocError, Global};
 pub struct Held<'a> {
     /// Signals.
     pub signals: &'a [Vec4],
+    /// Signals that hold something else by now.
+    pub over: &'a [Slot],
     /// Locals.
     pub locals: &'a [Vec4],
 }
 
 // What the one with a number of these holds.
-fn slot(slots: &[Vec4], n: u64) -> &[Bit4]
+fn bits_at(slots: &[Vec4], n: u64) -> &[Bit4]
     ensures { result.now ≡ slot_of slots.now n }
 {
     match slots.get(n as usize) {
@@ -30,15 +41,27 @@ fn slot(slots: &[Vec4], n: u64) -> &[Bit4]
     }
 }
 
-impl Held<'_> {
+impl<'a> Held<'a> {
+    // The bits of the signal with a number.
+    fn signal(&self, number: u64) -> &'a [Bit4]
+        ensures { result.now ≡ signal_bits self.now.signals.now self.now.over.now number }
+    {
+        for slot in self.over {
+            if slot.number == number {
+                return slot.bits.as_slice();
+            }
+        }
+        bits_at(self.signals, number)
+    }
+
     /// The bits of the signal or local with a number.
-    pub fn bits_of(&self, number: u64) -> &[Bit4]
+    pub fn bits_of(&self, number: u64) -> &'a [Bit4]
         ensures { result.now ≡ bit_in self.now number }
     {
         if number < 4294967296 {
-            slot(self.signals, number)
+            self.signal(number)
         } else {
-            slot(self.locals, number - 4294967296)
+            bits_at(self.locals, number - 4294967296)
         }
     }
 }

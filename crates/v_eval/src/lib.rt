@@ -15,7 +15,7 @@ mod windows;
 
 pub use around::{Around, Vectors, number_of};
 pub use evaluate::{path, value};
-pub use held::{Held, read};
+pub use held::{Held, Slot, read};
 pub use indices::index_of;
 pub use modules::{Local, Module, Signal, function_of, inputs_of};
 pub use operators::{

@@ -5,7 +5,7 @@ use Rattle.b4_core.specs.declared.bit.Bit4.{Bit4}
 use Rattle.row_machine.specs.Valuation.{Valuation, Changes, put, changed}
 use Rattle.row_machine.specs.Steps.{unchanged, later_or, then_changes}
 use Rattle.v_run.specs.declared.pieces.Piece.{Piece}
-use Rattle.v_run.specs.Changes.{change_of, changes_of}
+use Rattle.v_run.specs.Changes.{change_of, changes_of, AllNear}
 
 later-assoc : (a b c : Option Bit4) → later_or c (later_or b a) ≡ later_or (later_or c b) a
 later-assoc a b None = refl
@@ -51,4 +51,8 @@ changes-both (r ∷ ps) qs = ap (then_changes (change_of r)) (changes-both ps qs
 pub write-next : (p : Piece) (ps : List Piece) (now new all : Valuation) → new ≡ put (change_of p) now → put (changes_of (p ∷ ps)) now ≡ all → put (changes_of ps) new ≡ all
 write-next p ps now new all is before = ap (put (changes_of ps)) is ∙ sym (put-then (change_of p) (changes_of ps) now) ∙ before
 
-pub ruleset changes = (changes-both)
+pub near-both : (ps qs : List Piece) → AllNear ps → AllNear qs → AllNear (ps ++ qs)
+near-both [] qs h g = g
+near-both (p ∷ ps) qs h g = (h.0, near-both ps qs h.1 g)
+
+pub ruleset changes = (changes-both, near-both)

@@ -5,3 +5,4 @@ pub mod Targeted
 pub mod Assigning
 pub mod Deciding
 pub mod Clearing
+pub mod PutOver

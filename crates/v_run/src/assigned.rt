@@ -12,22 +12,25 @@ use crate::slots::write;
 use crate::state::State;
 use b4_core::Vec4;
 use std::alloc::{AllocError, Global};
+use v_eval::Slot;
 
-/// Makes writes in what signals and locals hold, in their order. Or want of memory.
+/// Makes writes in what locals hold, and over what signals hold, in their order. Or want of memory.
 #[tactic(auto, using(crate::proofs::Changed::changes))]
 pub fn write_all(
     alloc: Global,
-    signals: &mut Vec<Vec4>,
+    signals: &[Vec4],
+    over: &mut Vec<Slot>,
     locals: &mut Vec<Vec4>,
     pieces: &[Piece],
 ) -> Result<(), AllocError>
     requires { AllNear pieces.now }
-    ensures { OnOk result (holding signals.new.items locals.new.items ≡ put (changes_of pieces.now) (holding signals.old.items locals.old.items)) }
+    ensures { OnOk result (holding signals.now over.new.items locals.new.items ≡ put (changes_of pieces.now) (holding signals.now over.old.items locals.old.items)) }
 {
     for piece in pieces {
         write(
             alloc,
             signals,
+            over,
             locals,
             piece.number,
             piece.window,
@@ -41,7 +44,7 @@ pub fn write_all(
 #[tactic(auto, using(crate::proofs::Changed::changes))]
 pub fn assign(
     alloc: Global,
-    state: &mut State,
+    state: &mut State<'_>,
     later: bool,
     pieces: Pieces,
 ) -> Result<(), AllocError>
@@ -53,7 +56,8 @@ pub fn assign(
     }
     write_all(
         alloc,
-        &mut state.signals,
+        state.signals,
+        &mut state.over,
         &mut state.locals,
         pieces.as_slice(),
     )?;

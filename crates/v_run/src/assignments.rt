@@ -7,7 +7,7 @@ ghost use Rattle.v_meaning.specs.Runs.{current, assign_as};
 ghost use Rattle.v_meaning.specs.Statements.{target, changes_of as assigned_changes};
 ghost use Rattle.v_meaning.specs.Values.{meaning, given as given_bits};
 ghost use Rattle.v_eval.specs.Answering.{Answers};
-ghost use Rattle.v_eval.specs.Holding.{holds, holding};
+ghost use Rattle.v_eval.specs.Holding.{holds};
 ghost use Rattle.v_eval.specs.Limits.{limits, most_given};
 ghost use Rattle.v_eval.specs.Scopes.{scope_of};
 ghost use Rattle.v_run.specs.Changes.{changes_of, AllNear};
@@ -74,7 +74,7 @@ pub fn assignment<F: Fn(Held<'_>, usize, Vectors) -> Result<Vec4, AllocError>>(
     alloc: Global,
     scope: Scope<'_>,
     call: &F,
-    state: &mut State,
+    state: &mut State<'_>,
     lval: &VLval,
     e: &VExpr,
     later: bool,
@@ -87,10 +87,7 @@ pub fn assignment<F: Fn(Held<'_>, usize, Vectors) -> Result<Vec4, AllocError>>(
 {
     let around = Around {
         scope,
-        held: Held {
-            signals: state.signals.as_slice(),
-            locals: state.locals.as_slice(),
-        },
+        held: state.held(),
     };
     let pieces = writes(alloc, around, call, lval, e)?;
     assign(alloc, state, later, pieces)

@@ -49,7 +49,7 @@ fn set_between(held: &mut Vec4, window: Window, low: usize, high: usize, bits: &
 
 // Writes bits through a window on a vector that reaches as high.
 #[tactic(auto, using(crate::proofs::Written::slots))]
-fn set_bits(held: &mut Vec4, window: Window, bits: &Vec4)
+pub fn set_bits(held: &mut Vec4, window: Window, bits: &Vec4)
     requires high { window.high ≤ length held.old }
     requires near { IsNear window }
     ensures { VectorWritten held.old held.new (window_of window) bits.now }

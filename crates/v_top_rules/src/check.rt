@@ -61,8 +61,7 @@ fn is_few(sum: Option<Sum>) -> bool
 }
 
 /// Says whether a design can be run with the module of this name as its top: it is there, at most 4,096 instances stand below it,
-/// and its signals and theirs have at most 2^26 bits. Each module is looked at once for each step that instances nest, and no step
-/// more than there are modules.
+/// and its signals and theirs have at most 2^26 bits.
 #[tactic(auto, using(crate::proofs::Counting::few_fits, crate::proofs::Counting::many_unfit))]
 pub fn check_top(alloc: Global, design: &VDesign, top: &Text) -> Result<(), TopFail>
     ensures { TopGives design.now top.now result }

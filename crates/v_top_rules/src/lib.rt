@@ -3,6 +3,8 @@
 
 mod check;
 mod nodes;
+mod orders;
+mod search;
 mod sums;
 
 pub use check::{TopFail, check_top, top_bits};

@@ -4,6 +4,8 @@ ghost use Rattle.std.specs.Prelude.{◌≡◌, ◌+◌, true, length, map, IfOk}
 ghost use Rattle.v_top_rules.specs.Sums as means;
 
 use crate::nodes::{Node, Nodes, bits_added};
+use crate::orders::are_settled;
+use crate::search::{Found, search};
 use std::alloc::{AllocError, Global};
 use sv_source::{Items, at};
 
@@ -72,7 +74,7 @@ fn alone(node: &Node) -> Sum
 }
 
 // What stands below a module, where these stand below the modules of its instances.
-fn node_sum(node: &Node, sums: &[Sum]) -> Sum
+pub(crate) fn node_sum(node: &Node, sums: &[Sum]) -> Sum
     ensures { result ≡ means.sum_from node.now.below sums.now (means.alone node.now) }
 {
     let mut all = alone(node);
@@ -83,7 +85,7 @@ fn node_sum(node: &Node, sums: &[Sum]) -> Sum
 }
 
 // The modules alone.
-fn first_round(alloc: Global, nodes: &[Node]) -> Result<Sums, AllocError>
+pub(crate) fn first_round(alloc: Global, nodes: &[Node]) -> Result<Sums, AllocError>
     ensures { IfOk result (λ sums. sums ≡ map means.alone nodes.now) }
 {
     let mut sums = Sums::new(alloc);
@@ -104,7 +106,7 @@ fn next_round(alloc: Global, nodes: &[Node], sums: &[Sum]) -> Result<Sums, Alloc
     Ok(next)
 }
 
-fn is_same(a: Sum, b: Sum) -> bool
+pub(crate) fn is_same(a: Sum, b: Sum) -> bool
     ensures { result ≡ means.is_same a b }
 {
     a.instances == b.instances && a.bits == b.bits
@@ -125,12 +127,11 @@ fn are_same(a: &[Sum], b: &[Sum]) -> bool
     true
 }
 
-/// What stands below modules, to as many steps as there are modules. Or want of memory.
+// The same by rounds, each of which looks at all instances.
 #[tactic(auto, using(crate::proofs::Rounds::stop_round))]
-pub fn sums_of(alloc: Global, nodes: &Nodes) -> Result<Sums, AllocError>
+fn sums_by_rounds(alloc: Global, nodes: &[Node]) -> Result<Sums, AllocError>
     ensures { IfOk result (λ sums. sums ≡ means.rounds (length nodes.now) nodes.now) }
 {
-    let nodes = nodes.as_slice();
     let mut sums = first_round(alloc, nodes)?;
     for _round in 0..nodes.len() {
         let next = next_round(alloc, nodes, sums.as_slice())?;
@@ -140,4 +141,18 @@ pub fn sums_of(alloc: Global, nodes: &Nodes) -> Result<Sums, AllocError>
         sums = next;
     }
     Ok(sums)
+}
+
+/// What stands below modules, to as many steps as there are modules. Each instance is looked at twice where no module holds
+/// itself. Or want of memory.
+#[tactic(auto, using(crate::proofs::Ordered::settled_rounds))]
+pub fn sums_of(alloc: Global, nodes: &Nodes) -> Result<Sums, AllocError>
+    ensures { IfOk result (λ sums. sums ≡ means.rounds (length nodes.now) nodes.now) }
+{
+    let nodes = nodes.as_slice();
+    let Found { places, sums } = search(alloc, nodes)?;
+    if are_settled(nodes, places.as_slice(), sums.as_slice()) {
+        return Ok(sums);
+    }
+    sums_by_rounds(alloc, nodes)
 }

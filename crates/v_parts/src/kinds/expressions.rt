@@ -1,6 +1,6 @@
 //! What stands among the parts of expressions and targets.
 
-use crate::kind::Kind;
+use crate::kind::{Kind, discard};
 use v_tree::{VBinaryOp, VExpr, VExprs, VExtent, VLval, VPart, VPrim, VSel, VSels, VUnaryOp};
 
 /// An expression.
@@ -23,7 +23,10 @@ impl Kind for Expr {
     fn take(part: VPart) -> Option<VExpr> {
         match part {
             VPart::Expr(value) => Some(value),
-            _ => None,
+            rest => {
+                discard(rest);
+                None
+            }
         }
     }
 }
@@ -48,7 +51,10 @@ impl Kind for Prim {
     fn take(part: VPart) -> Option<VPrim> {
         match part {
             VPart::Prim(value) => Some(value),
-            _ => None,
+            rest => {
+                discard(rest);
+                None
+            }
         }
     }
 }
@@ -123,7 +129,10 @@ impl Kind for Right {
     fn take(part: VPart) -> Option<(VBinaryOp, VPrim)> {
         match part {
             VPart::Right(a, b) => Some((a, b)),
-            _ => None,
+            rest => {
+                discard(rest);
+                None
+            }
         }
     }
 }
@@ -148,7 +157,10 @@ impl Kind for Arms {
     fn take(part: VPart) -> Option<(VPrim, VPrim)> {
         match part {
             VPart::Arms(a, b) => Some((a, b)),
-            _ => None,
+            rest => {
+                discard(rest);
+                None
+            }
         }
     }
 }
@@ -173,7 +185,10 @@ impl Kind for Args {
     fn take(part: VPart) -> Option<VExprs> {
         match part {
             VPart::Args(value) => Some(value),
-            _ => None,
+            rest => {
+                discard(rest);
+                None
+            }
         }
     }
 }
@@ -223,7 +238,10 @@ impl Kind for Lval {
     fn take(part: VPart) -> Option<VLval> {
         match part {
             VPart::Lval(value) => Some(value),
-            _ => None,
+            rest => {
+                discard(rest);
+                None
+            }
         }
     }
 }
@@ -248,7 +266,10 @@ impl Kind for Sel {
     fn take(part: VPart) -> Option<VSel> {
         match part {
             VPart::Sel(value) => Some(value),
-            _ => None,
+            rest => {
+                discard(rest);
+                None
+            }
         }
     }
 }
@@ -273,7 +294,10 @@ impl Kind for Sels {
     fn take(part: VPart) -> Option<VSels> {
         match part {
             VPart::Sels(value) => Some(value),
-            _ => None,
+            rest => {
+                discard(rest);
+                None
+            }
         }
     }
 }

@@ -1,6 +1,6 @@
 //! What stands among the parts of modules and their items.
 
-use crate::kind::Kind;
+use crate::kind::{Kind, discard};
 use v_tree::{
     Texts, VConnection, VConnections, VEdge, VInit, VItem, VLocal, VModule, VPart, VRegRest,
     VSensitivity,
@@ -26,7 +26,10 @@ impl Kind for Ports {
     fn take(part: VPart) -> Option<Texts> {
         match part {
             VPart::Ports(value) => Some(value),
-            _ => None,
+            rest => {
+                discard(rest);
+                None
+            }
         }
     }
 }
@@ -76,7 +79,10 @@ impl Kind for Initial {
     fn take(part: VPart) -> Option<VInit> {
         match part {
             VPart::Initial(value) => Some(value),
-            _ => None,
+            rest => {
+                discard(rest);
+                None
+            }
         }
     }
 }
@@ -101,7 +107,10 @@ impl Kind for RegRest {
     fn take(part: VPart) -> Option<VRegRest> {
         match part {
             VPart::RegRest(value) => Some(value),
-            _ => None,
+            rest => {
+                discard(rest);
+                None
+            }
         }
     }
 }
@@ -126,7 +135,10 @@ impl Kind for Input {
     fn take(part: VPart) -> Option<VLocal> {
         match part {
             VPart::Input(value) => Some(value),
-            _ => None,
+            rest => {
+                discard(rest);
+                None
+            }
         }
     }
 }
@@ -151,7 +163,10 @@ impl Kind for Edge {
     fn take(part: VPart) -> Option<VEdge> {
         match part {
             VPart::Edge(value) => Some(value),
-            _ => None,
+            rest => {
+                discard(rest);
+                None
+            }
         }
     }
 }
@@ -176,7 +191,10 @@ impl Kind for Event {
     fn take(part: VPart) -> Option<VSensitivity> {
         match part {
             VPart::Event(value) => Some(value),
-            _ => None,
+            rest => {
+                discard(rest);
+                None
+            }
         }
     }
 }
@@ -201,7 +219,10 @@ impl Kind for Connection {
     fn take(part: VPart) -> Option<VConnection> {
         match part {
             VPart::Connection(value) => Some(value),
-            _ => None,
+            rest => {
+                discard(rest);
+                None
+            }
         }
     }
 }
@@ -226,7 +247,10 @@ impl Kind for Connections {
     fn take(part: VPart) -> Option<VConnections> {
         match part {
             VPart::Connections(value) => Some(value),
-            _ => None,
+            rest => {
+                discard(rest);
+                None
+            }
         }
     }
 }
@@ -251,7 +275,10 @@ impl Kind for Item {
     fn take(part: VPart) -> Option<VItem> {
         match part {
             VPart::Item(value) => Some(value),
-            _ => None,
+            rest => {
+                discard(rest);
+                None
+            }
         }
     }
 }
@@ -276,7 +303,10 @@ impl Kind for Module {
     fn take(part: VPart) -> Option<VModule> {
         match part {
             VPart::Module(value) => Some(value),
-            _ => None,
+            rest => {
+                discard(rest);
+                None
+            }
         }
     }
 }

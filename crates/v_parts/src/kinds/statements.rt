@@ -1,6 +1,6 @@
 //! What stands among the parts of statements.
 
-use crate::kind::Kind;
+use crate::kind::{Kind, discard};
 use v_tree::{VBranch, VCaseItem, VCaseItems, VCaseKind, VLabel, VLocal, VPart, VStmt};
 
 /// A statement.
@@ -23,7 +23,10 @@ impl Kind for Stmt {
     fn take(part: VPart) -> Option<VStmt> {
         match part {
             VPart::Stmt(value) => Some(value),
-            _ => None,
+            rest => {
+                discard(rest);
+                None
+            }
         }
     }
 }
@@ -48,7 +51,10 @@ impl Kind for Branch {
     fn take(part: VPart) -> Option<VBranch> {
         match part {
             VPart::Branch(value) => Some(value),
-            _ => None,
+            rest => {
+                discard(rest);
+                None
+            }
         }
     }
 }
@@ -73,7 +79,10 @@ impl Kind for Else {
     fn take(part: VPart) -> Option<VBranch> {
         match part {
             VPart::Else(value) => Some(value),
-            _ => None,
+            rest => {
+                discard(rest);
+                None
+            }
         }
     }
 }
@@ -123,7 +132,10 @@ impl Kind for CaseItem {
     fn take(part: VPart) -> Option<VCaseItem> {
         match part {
             VPart::CaseItem(value) => Some(value),
-            _ => None,
+            rest => {
+                discard(rest);
+                None
+            }
         }
     }
 }
@@ -148,7 +160,10 @@ impl Kind for CaseItems {
     fn take(part: VPart) -> Option<VCaseItems> {
         match part {
             VPart::CaseItems(value) => Some(value),
-            _ => None,
+            rest => {
+                discard(rest);
+                None
+            }
         }
     }
 }
@@ -198,7 +213,10 @@ impl Kind for Label {
     fn take(part: VPart) -> Option<VLabel> {
         match part {
             VPart::Label(value) => Some(value),
-            _ => None,
+            rest => {
+                discard(rest);
+                None
+            }
         }
     }
 }
@@ -223,7 +241,10 @@ impl Kind for Local {
     fn take(part: VPart) -> Option<VLocal> {
         match part {
             VPart::Local(value) => Some(value),
-            _ => None,
+            rest => {
+                discard(rest);
+                None
+            }
         }
     }
 }

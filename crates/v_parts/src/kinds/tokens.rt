@@ -1,6 +1,6 @@
 //! Names and numbers among parts.
 
-use crate::kind::Kind;
+use crate::kind::{Kind, discard};
 use b4_core::Vec4;
 use sv_source::Text;
 use v_tree::VPart;
@@ -25,7 +25,10 @@ impl Kind for Name {
     fn take(part: VPart) -> Option<Text> {
         match part {
             VPart::Name(value) => Some(value),
-            _ => None,
+            rest => {
+                discard(rest);
+                None
+            }
         }
     }
 }
@@ -50,7 +53,10 @@ impl Kind for Number {
     fn take(part: VPart) -> Option<Vec4> {
         match part {
             VPart::Number(value) => Some(value),
-            _ => None,
+            rest => {
+                discard(rest);
+                None
+            }
         }
     }
 }

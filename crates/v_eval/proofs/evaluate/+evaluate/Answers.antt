@@ -52,7 +52,7 @@ prim_value-returns-in_ok-extended-in-Name-clause-value g t c =
     let o = c.find-named.result in
     let sels : c.as_slice.result.now ≡ c.in-Name.sels = search rules in
     let same : c.as_slice-in-Name.result.now ≡ c.in-Name.sels = search rules in
-    name-valued c.in_ok-extended-in-Name.field-0 c.in_ok-bits-in-Name.bits c.args.prim.now c.in-Name.name c.as_slice.result.now o c.in_ok-path-in-Name.path c.args.at s h.signals.now h.locals.now
+    name-valued c.in_ok-extended-in-Name.field-0 c.in_ok-bits-in-Name.bits c.args.prim.now c.in-Name.name c.as_slice.result.now o c.in_ok-path-in-Name.path c.args.at s h.signals.now h.over.now h.locals.now
     (c.in-Name.is ∙ ap (O.Name c.in-Name.name) (sym sels)) c.find-named.ensures c.in_ok-path-in-Name.ensures.path
     (subst (λ xs. c.in_ok-bits-in-Name.bits ≡ tabulated (width_of (named_or_not o) (map sel_meaning xs)) (λ j. bit_or_x (bit_in h (named_or_not o).number) (picked (window_of c.in_ok-path-in-Name.path.window) j))) (same ∙ sym sels) c.in_ok-bits-in-Name.ensures)
     c.in_ok-extended-in-Name.ensures

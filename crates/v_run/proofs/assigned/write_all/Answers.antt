@@ -12,9 +12,9 @@ loop-piece-preserved c =
     let pieces = c.args.pieces.now in
     let i = c.loop-piece.piece-index in
     let p = c.piece-item.result in
-    let now = holding c.loop-piece.signals.items c.loop-piece.locals.items in
-    let new = holding c.write.new.signals.items c.write.new.locals.items in
-    let all = put (changes_of pieces) (holding c.args.signals.now.items c.args.locals.now.items) in
+    let now = holding c.args.signals.now c.loop-piece.over.items c.loop-piece.locals.items in
+    let new = holding c.args.signals.now c.write.new.over.items c.write.new.locals.items in
+    let all = put (changes_of pieces) (holding c.args.signals.now c.args.over.now.items c.args.locals.now.items) in
     let front = at-front pieces i p (omega arith) c.piece-item.is in
     record {
       held = write-next p (drop (i + 1) pieces) now new all c.in_ok-write.ensures (subst (λ ps. put (changes_of ps) now ≡ all) front c.loop-piece.invariant.held);
@@ -24,6 +24,6 @@ loop-piece-preserved c =
 pub returns : goal.returns
 returns c =
     let pieces = c.args.pieces.now in
-    let now = holding c.loop-piece.signals.items c.loop-piece.locals.items in
+    let now = holding c.args.signals.now c.loop-piece.over.items c.loop-piece.locals.items in
     let none : drop c.loop-piece.piece-index pieces ≡ [] = drop_of_length-le pieces (omega arith) in
     ap (λ ps. put (changes_of ps) now) (sym none) ∙ c.loop-piece.invariant.held

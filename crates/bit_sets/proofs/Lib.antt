@@ -1,0 +1,4 @@
+pub mod Laws
+pub mod Growth
+pub mod Steps
+pub mod Cuts

@@ -1,0 +1,168 @@
+-- Which forms are lowered, and how many operands each has.
+use Rattle.std.proofs.Common.{◌≡◌, ℕ, Bool, true, false, ℤ, List, length, rules, refl, ap, sym, ◌∙◌, subst}
+use Rattle.b4_core.specs.declared.operators.UnOp.{UnOp}
+use Rattle.b4_core.specs.declared.operators.BinOp.{BinOp}
+use Rattle.b4_core.specs.declared.operators.RedOp.{RedOp}
+use Rattle.b4_core.specs.declared.operators.ShiftOp.{ShiftOp}
+use Rattle.b4_core.specs.declared.operators.OrdOp.{OrdOp}
+use Rattle.b4_core.specs.declared.operators.EqOp.{EqOp}
+use Rattle.b4_core.specs.declared.operators.EqOp.TheVariants.{Wild}
+use Rattle.sv_types.specs.declared.expression.Expr.{Expr}
+use Rattle.sv_types.specs.declared.expression.Form.{Form, Form-F, out-Form, the_lemmas}
+use Rattle.sv_types.specs.declared.expression.Form.TheVariants as V
+use Rattle.sv_types.specs.declared.expression.Choice.{Choice}
+use Rattle.sv_types.specs.Layouts.{layout}
+use Rattle.sv_types.specs.Surroundings.{Parameter}
+use Rattle.sv_types.specs.Expressions.{meaning}
+use Rattle.sv_types.proofs.Terms.{Steps, by-expr}
+use Rattle.eval_parts.specs.Limits.{Fits}
+use Rattle.eval_parts.specs.Steps.{is_path}
+use Rattle.eval_parts.proofs.Nodes.{nodes}
+use Rattle.eval_forms.specs.Asked.{form_asked, AllFitAsked}
+use Rattle.eval_forms.specs.Kinds.{is_call}
+use Rattle.eval_forms.proofs.AskedLaws.{AllFewer, asking}
+use Rattle.eval_forms.proofs.Strict as K
+use Rattle.eval_forms.proofs.Uncalled as U
+use Rattle.expr_lower.specs.Leaves.{leaves, Each, IsLowered}
+use Rattle.expr_lower.specs.Lowering.{AreParts}
+use Rattle.expr_lower.proofs.AskedLeaves as A
+
+pub count-Unary : (e : Expr) (op : UnOp) (x : Expr) (w : ℕ) (s : Bool) (n : ℕ) → e.form ≡ V.Unary op x → AreParts e w s n → n ≡ 1
+count-Unary e op x w s n is h = h.1 ∙ ap length (sym (K.asked-by e (V.Unary op x) (Form-F.Unary op x) h.0 w s is (K.out-Unary op x)))
+
+pub count-Reduce : (e : Expr) (op : RedOp) (x : Expr) (w : ℕ) (s : Bool) (n : ℕ) → e.form ≡ V.Reduce op x → AreParts e w s n → n ≡ 1
+count-Reduce e op x w s n is h = h.1 ∙ ap length (sym (K.asked-by e (V.Reduce op x) (Form-F.Reduce op x) h.0 w s is (K.out-Reduce op x)))
+
+pub count-Negate : (e : Expr) (x : Expr) (w : ℕ) (s : Bool) (n : ℕ) → e.form ≡ V.Negate x → AreParts e w s n → n ≡ 1
+count-Negate e x w s n is h = h.1 ∙ ap length (sym (K.asked-by e (V.Negate x) (Form-F.Negate x) h.0 w s is (K.out-Negate x)))
+
+pub count-Binary : (e : Expr) (op : BinOp) (x : Expr) (y : Expr) (w : ℕ) (s : Bool) (n : ℕ) → e.form ≡ V.Binary op x y → AreParts e w s n → n ≡ 2
+count-Binary e op x y w s n is h = h.1 ∙ ap length (sym (K.asked-by e (V.Binary op x y) (Form-F.Binary op x y) h.0 w s is (K.out-Binary op x y)))
+
+pub count-Shift : (e : Expr) (op : ShiftOp) (x : Expr) (y : Expr) (w : ℕ) (s : Bool) (n : ℕ) → e.form ≡ V.Shift op x y → AreParts e w s n → n ≡ 2
+count-Shift e op x y w s n is h = h.1 ∙ ap length (sym (K.asked-by e (V.Shift op x y) (Form-F.Shift op x y) h.0 w s is (K.out-Shift op x y)))
+
+pub count-Power : (e : Expr) (x : Expr) (y : Expr) (w : ℕ) (s : Bool) (n : ℕ) → e.form ≡ V.Power x y → AreParts e w s n → n ≡ 2
+count-Power e x y w s n is h = h.1 ∙ ap length (sym (K.asked-by e (V.Power x y) (Form-F.Power x y) h.0 w s is (K.out-Power x y)))
+
+pub count-Order : (e : Expr) (op : OrdOp) (x : Expr) (y : Expr) (w : ℕ) (s : Bool) (n : ℕ) → e.form ≡ V.Order op x y → AreParts e w s n → n ≡ 2
+count-Order e op x y w s n is h = h.1 ∙ ap length (sym (K.asked-by e (V.Order op x y) (Form-F.Order op x y) h.0 w s is (K.out-Order op x y)))
+
+pub count-Equal : (e : Expr) (op : EqOp) (negated : Bool) (x : Expr) (y : Expr) (w : ℕ) (s : Bool) (n : ℕ) → e.form ≡ V.Equal op negated x y → AreParts e w s n → n ≡ 2
+count-Equal e op negated x y w s n is h = h.1 ∙ ap length (sym (K.asked-by e (V.Equal op negated x y) (Form-F.Equal op negated x y) h.0 w s is (K.out-Equal op negated x y)))
+
+pub count-Both : (e : Expr) (x : Expr) (y : Expr) (w : ℕ) (s : Bool) (n : ℕ) → e.form ≡ V.Both x y → AreParts e w s n → n ≡ 2
+count-Both e x y w s n is h = h.1 ∙ ap length (sym (K.asked-by e (V.Both x y) (Form-F.Both x y) h.0 w s is (K.out-Both x y)))
+
+pub count-Either : (e : Expr) (x : Expr) (y : Expr) (w : ℕ) (s : Bool) (n : ℕ) → e.form ≡ V.Either x y → AreParts e w s n → n ≡ 2
+count-Either e x y w s n is h = h.1 ∙ ap length (sym (K.asked-by e (V.Either x y) (Form-F.Either x y) h.0 w s is (K.out-Either x y)))
+
+pub count-Choose : (e : Expr) (z : Expr) (x : Expr) (y : Expr) (w : ℕ) (s : Bool) (n : ℕ) → e.form ≡ V.Choose z x y → AreParts e w s n → n ≡ 3
+count-Choose e z x y w s n is h = h.1 ∙ ap length (sym (K.asked-by e (V.Choose z x y) (Form-F.Choose z x y) h.0 w s is (K.out-Choose z x y)))
+
+pub unbuilt-Member : (e : Expr) (x : Expr) (k : ℕ) → e.form ≡ V.Member x k → Each IsLowered (leaves e) → ⊥
+unbuilt-Member e x k is h = (subst (Each IsLowered) (A.leaves-Member e x k is) h).0
+
+pub unbuilt-Index : (e : Expr) (x : Expr) (y : Expr) → e.form ≡ V.Index x y → Each IsLowered (leaves e) → ⊥
+unbuilt-Index e x y is h = (subst (Each IsLowered) (A.leaves-Index e x y is) h).0
+
+pub unbuilt-Part : (e : Expr) (x : Expr) (left : ℤ) (right : ℤ) → e.form ≡ V.Part x left right → Each IsLowered (leaves e) → ⊥
+unbuilt-Part e x left right is h = (subst (Each IsLowered) (A.leaves-Part e x left right is) h).0
+
+pub unbuilt-Slide : (e : Expr) (x : Expr) (y : Expr) (n : ℕ) (up : Bool) → e.form ≡ V.Slide x y n up → Each IsLowered (leaves e) → ⊥
+unbuilt-Slide e x y n up is h = (subst (Each IsLowered) (A.leaves-Slide e x y n up is) h).0
+
+pub unbuilt-Inside : (e : Expr) (x : Expr) (cs : List Choice) → e.form ≡ V.Inside x cs → Each IsLowered (leaves e) → ⊥
+unbuilt-Inside e x cs is h = (subst (Each IsLowered) (A.leaves-Inside e x cs is) h).0
+
+pub unbuilt-Cast : (e : Expr) (x : Expr) → e.form ≡ V.Cast x → Each IsLowered (leaves e) → ⊥
+unbuilt-Cast e x is h = (subst (Each IsLowered) (A.leaves-Cast e x is) h).0
+
+pub unbuilt-Clog2 : (e : Expr) (x : Expr) → e.form ≡ V.Clog2 x → Each IsLowered (leaves e) → ⊥
+unbuilt-Clog2 e x is h = (subst (Each IsLowered) (A.leaves-Clog2 e x is) h).0
+
+pub unbuilt-Pattern : (e : Expr) (es : List Expr) → e.form ≡ V.Pattern es → Each IsLowered (leaves e) → ⊥
+unbuilt-Pattern e es is h = (subst (Each IsLowered) (A.leaves-Pattern e es is) h).0
+
+pub unbuilt-Call : (e : Expr) (f : ℕ) (es : List Expr) → e.form ≡ V.Call f es → Each IsLowered (leaves e) → ⊥
+unbuilt-Call e f es is h = (subst (Each IsLowered) (A.leaves-Call e f es is) h).0
+
+pub unbuilt-Stream : (e : Expr) (reversed : Bool) (n : ℕ) (es : List Expr) → e.form ≡ V.Stream reversed n es → Each IsLowered (leaves e) → ⊥
+unbuilt-Stream e reversed n es is h = (subst (Each IsLowered) (A.leaves-Stream e reversed n es is) h).0
+
+pub unbuilt-Wild : (e : Expr) (op : EqOp) (negated : Bool) (x y : Expr) → e.form ≡ V.Equal op negated x y → op ≡ Wild → Each IsLowered (leaves e) → ⊥
+unbuilt-Wild e op negated x y is wild h = (subst (Each IsLowered) (A.leaves-Equal e Wild negated x y (is ∙ ap (λ o. V.Equal o negated x y) wild)) h).0
+
+out-Signal : (n : ℕ) → out-Form (V.Signal n) ≡ Form-F.Signal n
+out-Signal n = search (rules, the_lemmas)
+
+out-Local : (n : ℕ) → out-Form (V.Local n) ≡ Form-F.Local n
+out-Local n = search (rules, the_lemmas)
+
+path-clash : (e : Expr) (f : Form) (y : Form-F Choice Form Expr) → e.form ≡ f → out-Form f ≡ y → is_path y ≡ true → is_path (out-Form e.form) ≡ false → ⊥
+path-clash e f y is out path kind = (let clash : true ≡ false = sym path ∙ sym (ap (λ g. is_path (out-Form g)) is ∙ ap is_path out) ∙ kind in cc)
+
+pub path-Signal : (e : Expr) (n : ℕ) → e.form ≡ V.Signal n → is_path (out-Form e.form) ≡ false → ⊥
+path-Signal e n is kind = path-clash e (V.Signal n) (Form-F.Signal n) is (out-Signal n) refl kind
+
+pub path-Local : (e : Expr) (n : ℕ) → e.form ≡ V.Local n → is_path (out-Form e.form) ≡ false → ⊥
+path-Local e n is kind = path-clash e (V.Local n) (Form-F.Local n) is (out-Local n) refl kind
+
+-- an expression of which all forms are lowered is no call
+abbrev UncalledForm : Form → Type 0
+UncalledForm f = (e : Expr) → e.form ≡ f → Each IsLowered (leaves e) → is_call (out-Form e.form) ≡ false
+
+abbrev UncalledExpr : Expr → Type 0
+UncalledExpr e = Each IsLowered (leaves e) → is_call (out-Form e.form) ≡ false
+
+abbrev AnyChoice : Choice → Type 0
+AnyChoice c = Unit {0}
+
+uncalled-steps : Steps AnyChoice UncalledForm UncalledExpr
+uncalled-steps = record {
+  value = λ e h. tt;
+  range = λ low high h g. tt;
+  expr = λ e h all. h e refl all;
+  literal = λ v goes_on e is all. U.uncalled-Literal e v goes_on is;
+  fill = λ b e is all. U.uncalled-Fill e b is;
+  constant = λ v e is all. U.uncalled-Constant e v is;
+  signal = λ n e is all. U.uncalled-Signal e n is;
+  local = λ n e is all. U.uncalled-Local e n is;
+  member = λ x k h0 e is all. U.uncalled-Member e x k is;
+  index = λ x y h0 h1 e is all. U.uncalled-Index e x y is;
+  part_select = λ x left right h0 e is all. U.uncalled-Part e x left right is;
+  sliding = λ x y n up h0 h1 e is all. U.uncalled-Slide e x y n up is;
+  unary = λ op x h1 e is all. U.uncalled-Unary e op x is;
+  reduce = λ op x h1 e is all. U.uncalled-Reduce e op x is;
+  negate = λ x h0 e is all. U.uncalled-Negate e x is;
+  binary = λ op x y h1 h2 e is all. U.uncalled-Binary e op x y is;
+  shift = λ op x y h1 h2 e is all. U.uncalled-Shift e op x y is;
+  power = λ x y h0 h1 e is all. U.uncalled-Power e x y is;
+  order = λ op x y h1 h2 e is all. U.uncalled-Order e op x y is;
+  equal = λ op negated x y h2 h3 e is all. U.uncalled-Equal e op negated x y is;
+  both = λ x y h0 h1 e is all. U.uncalled-Both e x y is;
+  either = λ x y h0 h1 e is all. U.uncalled-Either e x y is;
+  choose = λ z x y h0 h1 h2 e is all. U.uncalled-Choose e z x y is;
+  concat = λ es h0 e is all. U.uncalled-Concat e es is;
+  repeat = λ n es h1 e is all. U.uncalled-Repeat e n es is;
+  inside = λ x cs h0 h1 e is all. U.uncalled-Inside e x cs is;
+  cast = λ x h0 e is all. U.uncalled-Cast e x is;
+  clog2 = λ x h0 e is all. U.uncalled-Clog2 e x is;
+  pattern = λ es h0 e is all. U.uncalled-Pattern e es is;
+  call = λ f es h1 e is all. absurd (unbuilt-Call e f es is all);
+  stream = λ reversed n es h2 e is all. U.uncalled-Stream e reversed n es is;
+}
+
+uncalled : (e : Expr) → UncalledExpr e
+uncalled = by-expr AnyChoice UncalledForm UncalledExpr uncalled-steps
+
+-- what is known of the operands
+pub record Operands (e : Expr) (fs : ℕ → List Parameter) (w : ℕ) (s : Bool) : Type 0 where
+  pub fits : AllFitAsked fs (form_asked (layout e.of) fs w s (out-Form e.form))
+  pub fewer : AllFewer (nodes e) (form_asked (layout e.of) fs w s (out-Form e.form))
+  pub built : A.EachAsked IsLowered (form_asked (layout e.of) fs w s (out-Form e.form))
+
+pub operands-of : (e : Expr) (fs : ℕ → List Parameter) (w : ℕ) (s : Bool) → is_path (out-Form e.form) ≡ false → Each IsLowered (leaves e) → Fits (meaning e) fs w → Operands e fs w s
+operands-of e fs w s kind built fits =
+    let laws = asking e (record { no_path = kind; no_call = uncalled e built }) in
+    record { fits = laws.fits fs w s fits; fewer = laws.fewer fs w s; built = A.asked-leaves e IsLowered fs w s built }

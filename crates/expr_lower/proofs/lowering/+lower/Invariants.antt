@@ -1,0 +1,32 @@
+use Rattle.std.proofs.Common.{◌+◌, ◌*◌, map, drop}
+use Rattle.sv_types.specs.declared.expression.Form.{out-Form}
+use Rattle.sv_types.specs.Layouts.{layout}
+use Rattle.v_build.specs.Trees.{meanings}
+use Rattle.eval_parts.proofs.Nodes.{nodes}
+use Rattle.eval_forms.specs.Asked.{asked, form_asked, AllFitAsked}
+use Rattle.eval_forms.specs.Callees.{formals_in}
+use Rattle.eval_forms.proofs.AskedLaws.{AllFewer}
+use Rattle.expr_lower.specs.Leaves.{IsLowered}
+use Rattle.expr_lower.proofs.AskedLeaves.{EachAsked}
+use Rattle.expr_lower.proofs.Asking.{Made}
+use Rattle.expr_lower.proofs.lowering.+lower.Given as goal
+
+abbrev pub decreases-lower : goal.decreases-lower
+decreases-lower l = 3 * nodes l.e.now + 2
+
+abbrev pub decreases-parts : goal.decreases-parts
+decreases-parts l = 3 * nodes l.e.now + 1
+
+abbrev pub decreases-answer : goal.decreases-answer
+decreases-answer l = 3 * nodes l.operand.of.now + 3
+
+abbrev pub invariant-parts-loop-operand : goal.invariant-parts-loop-operand
+invariant-parts-loop-operand l =
+    let all = form_asked (layout l.e.of) (formals_in l.functions) l.width l.signed (out-Form l.e.form) in
+    let qs = map asked (drop l.operand-index l.operand-items) in
+    record {
+      fits : AllFitAsked (formals_in l.functions) qs;
+      fewer : AllFewer (nodes l.e) qs;
+      built : EachAsked IsLowered qs;
+      made : Made l.names l.functions qs all (meanings l.made);
+    }

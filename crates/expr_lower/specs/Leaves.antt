@@ -1,0 +1,76 @@
+-- What an expression reads, and which of its forms aren't lowered.
+use Rattle.std.specs.Prelude.{ℕ, List, [], ◌∷◌, ◌++◌}
+use Rattle.b4_core.specs.declared.operators.EqOp.{EqOp}
+use Rattle.b4_core.specs.declared.operators.EqOp.TheVariants.{Logic, Case, Wild}
+use Rattle.sv_types.specs.declared.expression.Expr.{Expr, Expr-F, fold-Expr}
+use Rattle.sv_types.specs.declared.expression.Form.{Form-F}
+use Rattle.sv_types.specs.declared.expression.Choice.{Choice-F}
+use Rattle.sv_types.specs.Layouts.{Layout, layout}
+
+-- a signal or a local by its number, with the type that the expression has there; or a form that isn't lowered yet
+pub data Leaf : Type 0 where
+  Signals : ℕ → Layout → Leaf
+  Locals : ℕ → Layout → Leaf
+  Unlowered : Leaf
+
+-- all lists, one behind the other
+abbrev pub together : List (List Leaf) → List Leaf
+together [] = []
+together (l ∷ ls) = l ++ together ls
+
+-- `==?` needs a helper
+abbrev pub by_helper : EqOp → List Leaf → List Leaf
+by_helper Logic l = l
+by_helper Case l = l
+by_helper Wild l = Unlowered ∷ l
+
+abbrev pub choice_step : Choice-F (List Leaf) (Layout → List Leaf) (List Leaf) → List Leaf
+choice_step (Choice-F.Value v) = v
+choice_step (Choice-F.Range low high) = low ++ high
+
+abbrev pub form_step : Form-F (List Leaf) (Layout → List Leaf) (List Leaf) → Layout → List Leaf
+form_step (Form-F.Literal v goes_on) of = []
+form_step (Form-F.Fill b) of = []
+form_step (Form-F.Constant v) of = []
+form_step (Form-F.Signal n) of = Signals n of ∷ []
+form_step (Form-F.Local n) of = Locals n of ∷ []
+form_step (Form-F.Member x k) of = Unlowered ∷ x
+form_step (Form-F.Index x i) of = Unlowered ∷ (x ++ i)
+form_step (Form-F.Part x left right) of = Unlowered ∷ x
+form_step (Form-F.Slide x i n up) of = Unlowered ∷ (x ++ i)
+form_step (Form-F.Unary op x) of = x
+form_step (Form-F.Reduce op x) of = x
+form_step (Form-F.Negate x) of = x
+form_step (Form-F.Binary op x y) of = x ++ y
+form_step (Form-F.Shift op x y) of = x ++ y
+form_step (Form-F.Power x y) of = x ++ y
+form_step (Form-F.Order op x y) of = x ++ y
+form_step (Form-F.Equal op negated x y) of = by_helper op (x ++ y)
+form_step (Form-F.Both x y) of = x ++ y
+form_step (Form-F.Either x y) of = x ++ y
+form_step (Form-F.Choose z x y) of = z ++ (x ++ y)
+form_step (Form-F.Concat xs) of = together xs
+form_step (Form-F.Repeat n xs) of = together xs
+form_step (Form-F.Inside x cs) of = Unlowered ∷ (x ++ together cs)
+form_step (Form-F.Cast x) of = Unlowered ∷ x
+form_step (Form-F.Clog2 x) of = Unlowered ∷ x
+form_step (Form-F.Pattern xs) of = Unlowered ∷ together xs
+form_step (Form-F.Call f xs) of = Unlowered ∷ together xs
+form_step (Form-F.Stream reversed n xs) of = Unlowered ∷ together xs
+
+abbrev pub expr_step : Expr-F (List Leaf) (Layout → List Leaf) (List Leaf) → List Leaf
+expr_step e = e.form (layout e.of)
+
+abbrev pub leaves : Expr → List Leaf
+leaves = fold-Expr (List Leaf) (Layout → List Leaf) (List Leaf) choice_step form_step expr_step
+
+-- each of them has a property
+abbrev pub Each : (Leaf → Type 0) → List Leaf → Type 0
+Each P [] = Unit {0}
+Each P (l ∷ ls) = P l × Each P ls
+
+-- all forms are lowered
+abbrev pub IsLowered : Leaf → Type 0
+IsLowered (Signals n of) = Unit {0}
+IsLowered (Locals n of) = Unit {0}
+IsLowered Unlowered = ⊥

@@ -1,0 +1,4 @@
+pub mod Leaves
+pub mod Named
+pub mod Numbers
+pub mod Lowering

@@ -1,0 +1,81 @@
+-- What a lowered expression promises (IEEE 1800-2017 clause 11.6, IEEE 1364-2005 clause 5.4).
+use Rattle.std.specs.Prelude.{◌≡◌, ℕ, Bool, List, [], ◌∷◌, length, None}
+use Rattle.row_machine.specs.Valuation.{Valuation}
+use Rattle.sv_types.specs.declared.expression.Expr.{Expr}
+use Rattle.sv_types.specs.declared.statement.Function.{Function}
+use Rattle.sv_types.specs.declared.expression.Form.{out-Form}
+use Rattle.sv_types.specs.Layouts.{Layout, layout}
+use Rattle.sv_types.specs.Surroundings.{Around, Parameter, local_number}
+use Rattle.sv_types.specs.Meanings as S
+use Rattle.sv_types.specs.Expressions.{meaning}
+use Rattle.v_tree.specs.Names.{Name}
+use Rattle.v_tree.specs.declared.names.NameMap.{NameMap}
+use Rattle.v_meaning.specs.Scopes.{Scope, named}
+use Rattle.v_meaning.specs.Values as T
+use Rattle.eval_forms.specs.Callees.{formals_in}
+use Rattle.eval_parts.specs.Limits.{Fits}
+use Rattle.eval_forms.specs.Asked.{Asked, width_asked, sign_asked, form_asked}
+use Rattle.lowering_laws.specs.Agreeing.{Images, Stands}
+use Rattle.lowering_laws.specs.Held.{marked}
+use Rattle.lowering_laws.specs.NamedImages.{SameNames}
+use Rattle.lowering_laws.specs.Same.{Same}
+use Rattle.expr_lower.specs.Leaves.{Leaf, Signals, Locals, Unlowered, leaves, Each}
+use Rattle.expr_lower.specs.Named.{signal_name, local_name}
+
+-- A name stands for the image of a signal or local of a type: it is a vector with the type's bits, and the images are told so.
+pub record IsShown (name : Name) (im : Images) (sc : Scope) (n : ℕ) (of : Layout) : Type 0 where
+  pub number : (named sc.names name).number ≡ im.number n
+  pub vector : (named sc.names name).words ≡ None
+  pub width : (named sc.names name).width ≡ length of.two_state
+  pub image : im.width n ≡ length of.two_state
+  pub marks : (j : ℕ) → im.two_state n j ≡ marked of.two_state j
+
+-- the text has what a leaf of the expression needs
+abbrev pub LeafStands : NameMap → List Function → Images → Around → Scope → Leaf → Type 0
+LeafStands names fs im a sc (Signals n of) = IsShown (signal_name names.signals n) im sc n of
+LeafStands names fs im a sc (Locals n of) = IsShown (local_name names.locals n) im sc (local_number n) of
+LeafStands names fs im a sc Unlowered = ⊥
+
+-- A target expression stands for an expression on all valuations that agree, and names the images of what that names, all of
+-- them and no other.
+pub record Stood (im : Images) (a : Around) (sc : Scope) (e : S.Meaning) (w : ℕ) (s : Bool) (m : T.Meaning) : Type 0 where
+  pub stands : Stands im a sc e w s m
+  pub names : SameNames im.number e m sc
+
+-- so it is for an expression at a width and a sign, wherever the text has what the leaves need
+abbrev pub Lowers : NameMap → List Function → Expr → ℕ → Bool → T.Meaning → Type 0
+Lowers names fs e w s m = (im : Images) (a : Around) (sc : Scope) → Each (LeafStands names fs im a sc) (leaves e) → Stood im a sc (meaning e) w s m
+
+-- what is asked, one by one
+abbrev pub LowersEach : NameMap → List Function → List Asked → List T.Meaning → Type 0
+LowersEach names fs [] [] = Unit {0}
+LowersEach names fs [] (m ∷ ms) = ⊥
+LowersEach names fs (q ∷ qs) [] = ⊥
+LowersEach names fs (q ∷ qs) (m ∷ ms) = Lowers names fs q.of (width_asked q.ask (meaning q.of)) (sign_asked q.ask (meaning q.of)) m × LowersEach names fs qs ms
+
+-- the same for one valuation
+abbrev pub SameEach : List Asked → Around → List T.Meaning → Scope → Valuation → Type 0
+SameEach [] a [] sc v = Unit {0}
+SameEach [] a (m ∷ ms) sc v = ⊥
+SameEach (q ∷ qs) a [] sc v = ⊥
+SameEach (q ∷ qs) a (m ∷ ms) sc v = Same (meaning q.of) (width_asked q.ask (meaning q.of)) (sign_asked q.ask (meaning q.of)) a m sc v × SameEach qs a ms sc v
+
+-- the names of what is asked
+abbrev pub NamesEach : (ℕ → ℕ) → List Asked → List T.Meaning → Scope → Type 0
+NamesEach image [] [] sc = Unit {0}
+NamesEach image [] (m ∷ ms) sc = ⊥
+NamesEach image (q ∷ qs) [] sc = ⊥
+NamesEach image (q ∷ qs) (m ∷ ms) sc = SameNames image (meaning q.of) m sc × NamesEach image qs ms sc
+
+-- A target expression that is made of the target expressions of what an expression asks stands for the expression.
+abbrev pub Combines : NameMap → List Function → Expr → ℕ → Bool → List T.Meaning → T.Meaning → Type 0
+Combines names fs e w s parts m = Fits (meaning e) (formals_in fs) w
+    → LowersEach names fs (form_asked (layout e.of) (formals_in fs) w s (out-Form e.form)) parts → Lowers names fs e w s m
+
+-- whatever the names and functions are
+abbrev pub CombinesAll : Expr → ℕ → Bool → List T.Meaning → T.Meaning → Type 0
+CombinesAll e w s parts m = (names : NameMap) (fs : List Function) → Combines names fs e w s parts m
+
+-- there are as many parts as the expression asks for
+abbrev pub AreParts : Expr → ℕ → Bool → ℕ → Type 0
+AreParts e w s n = (fs : ℕ → List Parameter) × (n ≡ length (form_asked (layout e.of) fs w s (out-Form e.form)))

@@ -1,0 +1,11 @@
+pub mod Agreeing
+pub mod Selects
+pub mod Plain
+pub mod Hanging
+pub mod Placing
+pub mod Running
+pub mod Branching
+pub mod Scopes
+pub mod Blocks
+pub mod Terms
+pub mod Conforming

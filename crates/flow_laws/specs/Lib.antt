@@ -1,0 +1,4 @@
+pub mod Hangs
+pub mod Places
+pub mod Runs
+pub mod Statements

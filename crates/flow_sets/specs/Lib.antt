@@ -1,0 +1,4 @@
+pub mod Bits
+pub mod Uses
+pub mod Ends
+pub mod Flows

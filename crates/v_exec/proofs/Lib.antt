@@ -1,0 +1,12 @@
+pub mod Copying
+pub mod Binding
+pub mod Choosing
+pub mod Forms
+pub mod Running
+pub mod Calling
+pub mod Staying
+pub mod KeptExprs
+pub mod KeptStmts
+pub mod KeptRuns
+pub mod KeptModules
+pub mod KeptLinks

@@ -1,0 +1,7 @@
+pub mod Limits
+pub mod Choices
+pub mod Entering
+pub mod Inside
+pub mod Agreeing
+pub mod Keeping
+pub mod Modules

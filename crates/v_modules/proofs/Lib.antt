@@ -1,0 +1,4 @@
+pub mod Placing
+pub mod Naming
+pub mod Once
+pub mod InputKinds

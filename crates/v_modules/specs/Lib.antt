@@ -1,0 +1,4 @@
+pub mod Places
+pub mod Named
+pub mod Tables
+pub mod Laws

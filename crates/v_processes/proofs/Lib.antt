@@ -1,0 +1,6 @@
+pub mod Connecting
+pub mod Kept
+pub mod Named
+pub mod Counted
+pub mod ItemParts
+pub mod Entering

@@ -1,0 +1,20 @@
+-- Connections to children.
+use Rattle.std.specs.Prelude.{Bool, true, false, Option, Some, None, List, []}
+use Rattle.v_tree.specs.declared.expressions.VExpr.{VExpr}
+use Rattle.v_meaning.specs.Scopes.{Scope}
+use Rattle.v_meaning.specs.Values.{meaning}
+use Rattle.v_meaning.specs.Modules.{Signal, Process, signals, driving, from_output, port_target, as_target}
+use Rattle.v_modules.specs.declared.table.Table.{Table}
+use Rattle.v_modules.specs.Tables.{items_of}
+use Rattle.v_processes.specs.declared.process.Port.{Port}
+use Rattle.v_processes.specs.Processes.{port_named}
+
+-- the signals of a module that may be none
+abbrev pub ports_of : Option Table → List Signal
+ports_of None = []
+ports_of (Some t) = signals (items_of t)
+
+-- the process that an expression is which is connected to a port, an input or not
+abbrev pub connected : Bool → Scope → Port → VExpr → List Process
+connected true sc port e = driving sc (port_target (port_named port)) (meaning e)
+connected false sc port e = from_output sc (port_named port) (as_target e)

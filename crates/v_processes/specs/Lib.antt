@@ -1,0 +1,5 @@
+pub mod Connected
+pub mod Processes
+pub mod Connections
+pub mod Naming
+pub mod Walks
