@@ -7,7 +7,8 @@ use Rattle.v_meaning.specs.Modules.{parts}
 use Rattle.v_meaning.specs.Machine.{machine, of_signal}
 use Rattle.stim_rows.specs.declared.shape.Port.{Port}
 use Rattle.stim_rows.specs.Lines.{lines_of}
-use Rattle.eval_top.specs.Running.{widths_of, inputs_of, LinesOf, Unsettles}
+use Rattle.eval_top.specs.Designs.{widths_of}
+use Rattle.eval_top.specs.Running.{inputs_of, LinesOf, Unsettles}
 use Rattle.eval_top.proofs.OneRun.{one-trace, trace-settles, one-failure}
 
 module _ (e : VDesign) (top : Name) where

@@ -1,3 +1,4 @@
+pub mod Designs
 pub mod Asking
 pub mod Loading
 pub mod Running

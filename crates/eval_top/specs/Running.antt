@@ -13,13 +13,10 @@ use Rattle.stim_rows.specs.Lines.{lines_of}
 use Rattle.round_runner.specs.declared.rounds.Change.{Change}
 use Rattle.round_runner.specs.Rows.{IsTrace, IsUnsettled}
 use Rattle.v_meaning.specs.Modules.{Signal, parts}
-use Rattle.v_meaning.specs.Machine.{machine, size, of_signal}
+use Rattle.v_meaning.specs.Machine.{machine, of_signal}
+use Rattle.eval_top.specs.Designs.{widths_of}
 use Rattle.eval_top.specs.Asking.{first_path}
 use Rattle.eval_top.specs.Loading.{HasText, TextBreak, HasRows, RowFileBreak}
-
--- how many bits each signal of a design has, those of memories with all their words
-abbrev pub widths_of : VDesign → Name → List ℕ
-widths_of e top = map size (parts e.modules top).signals
 
 -- the signals that the vectors of a row stand for: the top's inputs in port order
 abbrev pub inputs_of : VDesign → Name → List ℕ

@@ -5,7 +5,9 @@ mod asking;
 mod loading;
 mod main_call;
 mod run;
+mod runner;
 mod running;
 
 pub use endings::Status;
-pub use main_call::eval_main;
+pub use main_call::run_main;
+pub use runner::{RunFail, Runner};

@@ -13,10 +13,11 @@ use Rattle.v_meaning.specs.Modules.{Signal, Kind, input_net, net, variable, sign
 use Rattle.v_meaning.specs.Machine.{machine, is_input}
 use Rattle.stim_rows.specs.declared.shape.Port.{Port}
 use Rattle.text_shape.specs.Shapes as shapes
-use Rattle.cycle_dst.specs.Running as cycle
-use Rattle.cycle_dst.specs.declared.RunFail.{RunFail}
-use Rattle.cycle_dst.specs.declared.RunFail.TheVariants.{Memory, Unsettled}
-use Rattle.eval_top.specs.Running.{widths_of, inputs_of, HasTrace}
+use Rattle.eval_top.specs.Designs as designs
+use Rattle.eval_top.specs.Designs.{widths_of}
+use Rattle.eval_top.specs.declared.runner.RunFail.{RunFail}
+use Rattle.eval_top.specs.declared.runner.RunFail.TheVariants.{Memory, Unsettled}
+use Rattle.eval_top.specs.Running.{inputs_of, HasTrace}
 use Rattle.eval_top.specs.Parts.{stop_of, TraceGives}
 use Rattle.eval_top.proofs.Fitting.{items-same}
 
@@ -41,23 +42,23 @@ module _ (ss : List Signal) where
   same-numbers (name ∷ names) =
       by-kind name names (filter (λ n. shapes.is_input (kind_of ss n)) names) (filter (λ n. is_input (kind_of ss n)) names) (kind_of ss name) (same-numbers names)
 
-same-ports : (m : Option VModule) → shapes.top_ports m ≡ cycle.top_ports m
+same-ports : (m : Option VModule) → shapes.top_ports m ≡ designs.top_ports m
 same-ports None = refl
 same-ports (Some m) = refl
 
-same-inputs : (e : VDesign) (top : Name) → inputs_of e top ≡ cycle.inputs_of e top
+same-inputs : (e : VDesign) (top : Name) → inputs_of e top ≡ designs.top_inputs e top
 same-inputs e top =
     ap (λ (items : List VItem). map (λ (p : Port). p.signal) (shapes.inputs items (shapes.top_ports (module_named e.modules top)))) (items-same e.modules top)
     ∙ same-numbers (signals (items_of e.modules top)) (shapes.top_ports (module_named e.modules top))
     ∙ ap (inputs (signals (items_of e.modules top))) (same-ports (module_named e.modules top))
 
-pub takes-rows : (e : VDesign) (top : Name) (rows : List (List (List Bit4))) → FitRows (widths_of e top) (inputs_of e top) rows → cycle.RowsFit e top rows
+pub takes-rows : (e : VDesign) (top : Name) (rows : List (List (List Bit4))) → FitRows (widths_of e top) (inputs_of e top) rows → designs.RowsFit e top rows
 takes-rows e top rows fit = subst (λ (ns : List ℕ). FitRows (widths_of e top) ns rows) (same-inputs e top) fit
 
-pub gives-trace : (e : VDesign) (top : Name) (rows trace : List (List (List Bit4))) → cycle.RunGives e top rows (Ok trace) → HasTrace e top rows trace
+pub gives-trace : (e : VDesign) (top : Name) (rows trace : List (List (List Bit4))) → designs.RunGives e top rows (Ok trace) → HasTrace e top rows trace
 gives-trace e top rows trace g = subst (λ (ns : List ℕ). IsTrace (machine e top) (widths_of e top) ns rows trace) (sym (same-inputs e top)) g
 
-pub fails-at : (e : VDesign) (top : Name) (rows : List (List (List Bit4))) (fail : RunFail) → cycle.RunGives e top rows (Err fail)
+pub fails-at : (e : VDesign) (top : Name) (rows : List (List (List Bit4))) (fail : RunFail) → designs.RunGives e top rows (Err fail)
     → TraceGives e top rows (Err (stop_of fail))
 fails-at e top rows Memory g = g
 fails-at e top rows (Unsettled row name old new) g = record {
