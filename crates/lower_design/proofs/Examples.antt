@@ -9,7 +9,6 @@ use Rattle.std.proofs.Common.{◌≡◌, ℕ, ◌==◌, true, false, ◌||◌, L
 use Rattle.b4_core.specs.declared.bit.Bit4.{Bit4}
 use Rattle.b4_core.specs.declared.bit.Bit4.TheVariants.{Zero, One, X}
 use Rattle.b4_core.specs.declared.operators.BinOp.TheVariants.{Xor}
-use Rattle.b4_core.specs.declared.operators.UnOp.TheVariants.{Not}
 use Rattle.row_machine.specs.Valuation.{Place, Valuation}
 use Rattle.row_machine.specs.Steps.{begun}
 use Rattle.sv_core.specs.declared.design.SignalKind.{SignalKind}
@@ -26,18 +25,21 @@ use Rattle.sv_core.specs.declared.design.Stmt.{Stmt}
 use Rattle.sv_core.specs.declared.design.Stmt.TheVariants as S
 use Rattle.sv_core.specs.Statements.{Doing, sequence, choice, assignment, stmt_doing, doing}
 use Rattle.sv_core.specs.Machine.{edge_process}
-use Rattle.v_core.specs.Names.{Name}
-use Rattle.v_core.specs.declared.tree.VPrim.TheVariants.{Name as PrimName}
-use Rattle.v_core.specs.declared.tree.VExpr.{VExpr}
-use Rattle.v_core.specs.declared.tree.VExpr.TheVariants as E
-use Rattle.v_core.specs.declared.tree.VBranch.{VBranch}
-use Rattle.v_core.specs.declared.tree.VBranch.TheVariants.{Statement, Empty}
-use Rattle.v_core.specs.declared.tree.VStmt.{VStmt}
-use Rattle.v_core.specs.declared.tree.VStmt.TheVariants as V
-use Rattle.v_core.specs.declared.tree.VSensitivity.TheVariants as On
-use Rattle.v_core.specs.declared.tree.VItem.{VItem}
-use Rattle.v_core.specs.declared.tree.VItem.TheVariants as I
-use Rattle.lower_design.specs.Lowered.{branch, driver_in, drives_in, item_by, declarations, trigger_items, lowered_level, lowered_stmt, lowered_items, reads_trigger, triggered}
+use Rattle.v_tree.specs.Names.{Name}
+use Rattle.v_tree.specs.declared.operators.VBinaryOp.TheVariants as W
+use Rattle.v_tree.specs.declared.operators.VUnaryOp.TheVariants.{Not}
+use Rattle.v_tree.specs.declared.expressions.VExpr.{VExpr}
+use Rattle.v_tree.specs.declared.expressions.VExpr.TheVariants as E
+use Rattle.v_tree.specs.declared.statements.VBranch.{VBranch}
+use Rattle.v_tree.specs.declared.statements.VBranch.TheVariants.{Statement, Empty}
+use Rattle.v_tree.specs.declared.statements.VStmt.{VStmt}
+use Rattle.v_tree.specs.declared.statements.VStmt.TheVariants as V
+use Rattle.v_tree.specs.declared.items.VSensitivity.TheVariants as On
+use Rattle.v_tree.specs.declared.items.VSignal.TheVariants as D
+use Rattle.v_tree.specs.declared.items.VProcess.TheVariants.{Assign, Always}
+use Rattle.v_tree.specs.declared.items.VItem.{VItem}
+use Rattle.v_tree.specs.declared.items.VItem.TheVariants as I
+use Rattle.lower_design.specs.Lowered.{branch, driver_in, drives_in, process_by, declarations, trigger_items, lowered_level, lowered_stmt, lowered_items, reads_trigger, triggered, whole_name, whole_target}
 use Rattle.lower_design.proofs.Levels.{block-level, either-level, assign-level, assign-out, lines-assign, lines-block, lines-if}
 
 abbrev clk : Name
@@ -132,16 +134,16 @@ unwritten = ap (λ (d : Doing). (d.run signals (begun (holding Zero Zero One))).
 
 -- `begin n = ..; end`
 abbrev sets : VExpr → VStmt
-sets value = V.Assign n value false
+sets value = V.Assign (whole_target n) value false
 
 abbrev read : Name → VExpr
-read name = E.Prim (PrimName name)
+read name = E.Prim (whole_name name)
 
 abbrev first_block : VBranch
-first_block = Statement (V.Block (sets (E.Unary Not (PrimName q)) ∷ []))
+first_block = Statement (V.Block None (sets (E.Unary Not (whole_name q)) ∷ []))
 
 abbrev second_block : VBranch
-second_block = Statement (V.Block (sets (read q) ∷ []))
+second_block = Statement (V.Block None (sets (read q) ∷ []))
 
 abbrev if_line : VStmt
 if_line = V.If (read a) first_block (Some second_block)
@@ -155,31 +157,33 @@ decides-lowered =
     first : branch (lowered_stmt signals set_inverted) ≡ first_block
     first =
         ap branch (assign-level VStmt (lowered_level signals) 4 (Single (inverted 2)) false)
-        ∙ ap (λ ss. Statement (V.Block ss)) (lines-assign n (E.Unary Not (PrimName q)) false)
+        ∙ ap (λ ss. Statement (V.Block None ss)) (lines-assign (whole_target n) (E.Unary Not (whole_name q)) false)
 
     second : branch (lowered_stmt signals (S.Block (set_plain ∷ []))) ≡ second_block
     second =
         ap branch (block-level VStmt (lowered_level signals) (set_plain ∷ []))
-        ∙ ap (λ ss. Statement (V.Block ss)) (lines-block (lowered_stmt signals set_plain ∷ []))
-        ∙ (λ i. Statement (V.Block (assign-level VStmt (lowered_level signals) 4 (Single (plain 2)) false i ∷ [])))
+        ∙ ap (λ ss. Statement (V.Block None ss)) (lines-block (lowered_stmt signals set_plain ∷ []))
+        ∙ (λ i. Statement (V.Block None (assign-level VStmt (lowered_level signals) 4 (Single (plain 2)) false i ∷ [])))
 
 -- the whole target
 abbrev items : List VItem
 items =
-    I.Input None clk ∷ I.Input None a ∷ I.OutputReg None q ∷ I.Output None y ∷ I.Reg None n ∷ I.Reg None (codes "sv2v_t") ∷ I.Initial (codes "sv2v_t") (Zero ∷ [])
-    ∷ I.Assign y (E.Binary Xor (PrimName a) (PrimName q))
-    ∷ I.Always On.Star (Statement (V.Block (V.If (read (codes "sv2v_t")) Empty None ∷ if_line ∷ [])))
-    ∷ I.Always (On.Edges (record { rising = true; name = clk } ∷ [])) (Statement (V.Block (V.Assign q (read n) true ∷ [])))
+    I.Signal (D.Input None clk) ∷ I.Signal (D.Input None a) ∷ I.Signal (D.OutputReg None q None) ∷ I.Signal (D.Output None y) ∷ I.Signal (D.Reg None n None)
+    ∷ I.Signal (D.Reg None (codes "sv2v_t") None) ∷ I.Initial (record { name = codes "sv2v_t"; value = Zero ∷ [] })
+    ∷ I.Process (Assign (whole_target y) (E.Binary W.Xor (whole_name a) (whole_name q)))
+    ∷ I.Process (Always On.Star (Statement (V.Block None (V.If (read (codes "sv2v_t")) Empty None ∷ if_line ∷ []))))
+    ∷ I.Process (Always (On.Edges (record { rising = true; name = clk } ∷ [])) (Statement (V.Block None (V.Assign (whole_target q) (read n) true ∷ []))))
     ∷ []
 
 all-items : lowered_items signals processes ≡ items
 all-items =
-    (λ i. (declarations (λ k. drives_in k (assign-out 3 driven false i) || (false || (false || false))) 0 signals ++ trigger_items true) ++ (driver_in signals (assign-out 3 driven false i) ∷ comb i ∷ edge i ∷ []))
+    (λ i. (declarations (λ k. drives_in k (assign-out 3 driven false i) || (false || (false || false))) 0 signals ++ trigger_items true)
+    ++ (I.Process (driver_in signals (assign-out 3 driven false i)) ∷ I.Process (comb i) ∷ I.Process (edge i) ∷ []))
   where
-    comb : item_by signals Comb decides ≡ I.Always On.Star (Statement (V.Block (reads_trigger ∷ if_line ∷ [])))
-    comb = ap (λ s. I.Always On.Star (triggered s)) decides-lowered ∙ ap (λ ss. I.Always On.Star (Statement (V.Block (reads_trigger ∷ ss)))) (lines-if (read a) first_block (Some second_block))
+    comb : process_by signals Comb decides ≡ Always On.Star (Statement (V.Block None (reads_trigger ∷ if_line ∷ [])))
+    comb = ap (λ s. Always On.Star (triggered s)) decides-lowered ∙ ap (λ ss. Always On.Star (Statement (V.Block None (reads_trigger ∷ ss)))) (lines-if (read a) first_block (Some second_block))
 
-    edge : item_by signals (Edges edges) keeps ≡ I.Always (On.Edges (record { rising = true; name = clk } ∷ [])) (Statement (V.Block (V.Assign q (read n) true ∷ [])))
+    edge : process_by signals (Edges edges) keeps ≡ Always (On.Edges (record { rising = true; name = clk } ∷ [])) (Statement (V.Block None (V.Assign (whole_target q) (read n) true ∷ [])))
     edge =
-        ap (λ s. I.Always (On.Edges (record { rising = true; name = clk } ∷ [])) (branch s)) (assign-level VStmt (lowered_level signals) 2 (Single (plain 4)) true)
-        ∙ ap (λ ss. I.Always (On.Edges (record { rising = true; name = clk } ∷ [])) (Statement (V.Block ss))) (lines-assign q (read n) true)
+        ap (λ s. Always (On.Edges (record { rising = true; name = clk } ∷ [])) (branch s)) (assign-level VStmt (lowered_level signals) 2 (Single (plain 4)) true)
+        ∙ ap (λ ss. Always (On.Edges (record { rising = true; name = clk } ∷ [])) (Statement (V.Block None ss))) (lines-assign (whole_target q) (read n) true)

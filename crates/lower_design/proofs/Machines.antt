@@ -1,214 +1,284 @@
--- The machine of the lowered design: the source's, with the trigger behind its signals.
-use Rattle.std.proofs.Common.{◌≡◌, ◌⊎◌, ℕ, zero, suc, ◌==◌, ◌<◌, Bool, true, false, not, ◌||◌, cond, List, [], ◌∷◌, ◌++◌, map, flat_map, length, Option, Some, None, refl, sym, ap, subst, ◌∙◌, inl, inr, arith, if◌then◌else◌}
+-- The processes of the lowered design's machine do what the source's do, but for the trigger.
+use Rattle.std.proofs.Common.{◌≡◌, ℕ, zero, suc, ◌+◌, ◌<◌, ◌≤◌, ◌^◌, Bool, true, false, not, ◌&&◌, ◌||◌, cond, List, [], ◌∷◌, map, filter, length, sum, Some, None, refl, sym, ap, subst, ◌∙◌, inl, inr, arith}
+use Rattle.std.specs.Prelude.{nat_lt}
 use Rattle.std.specs.List.{slice_get, list_any}
-use Rattle.std.specs.Str.{bytes_eq}
-use Rattle.std.proofs.lemmas.Bool.{or_cases, or_left, or_right, false≢true, eqb-true, eq-eqb}
-use Rattle.b4_core.specs.declared.bit.Bit4.{Bit4}
+use Rattle.std.proofs.lemmas.Bool.{or_cases, or_left, or_right, and_parts, false≢true, eqb-true, eq-eqb, le-leb, lt-ltb, ltb-true, ltb-false}
+use Rattle.std.proofs.lemmas.List.Sums.{sum_by-cons}
 use Rattle.b4_core.specs.Bitwise.{edge_of}
 use Rattle.row_machine.specs.Valuation.{Member, Place, Valuation, Changes, has, is_place}
-use Rattle.row_machine.specs.Machine as M
-use Rattle.row_machine.specs.Places.{places_of, without}
-use Rattle.row_machine.specs.Steps.{begun, later_or, is_edge}
+use Rattle.row_machine.specs.Places.{places_of, places_from, without}
+use Rattle.row_machine.specs.Steps.{Progress, is_edge}
+use Rattle.row_machine.specs.Steps as Steps
 use Rattle.row_machine.proofs.Basics.{is_place-true}
 use Rattle.sv_core.specs.declared.design.Signal.{Signal}
-use Rattle.sv_core.specs.declared.design.Expr.{Expr}
 use Rattle.sv_core.specs.declared.design.EdgeOn.{EdgeOn}
 use Rattle.sv_core.specs.declared.design.Stmt.{Stmt}
-use Rattle.sv_core.specs.declared.design.Stmt.TheVariants as S
-use Rattle.sv_core.specs.Numbers.{holds, each_once}
+use Rattle.sv_core.specs.declared.design.Design.{Design}
+use Rattle.sv_core.specs.Numbers.{each_once}
 use Rattle.sv_core.specs.Statements as SD
-use Rattle.sv_core.specs.Statements.{width_of, doing, stmt_doing, expr_signals}
+use Rattle.sv_core.specs.Statements.{width_of, width_or_zero, doing}
 use Rattle.sv_core.specs.Machine as Source
 use Rattle.sv_core.specs.Machine.{places_of_signals, comb_process, edge_process}
-use Rattle.v_core.specs.Names.{Name, among, once}
-use Rattle.v_core.specs.Value.{meaning}
-use Rattle.v_core.specs.Signals as T
-use Rattle.v_core.specs.Signals.{InitialValue, number_of, width_named, places_named, signals, processes, initials, items_of}
-use Rattle.v_core.specs.Statements.{doing_of}
-use Rattle.v_core.specs.Statements as TD
-use Rattle.v_core.specs.Machine as Target
-use Rattle.v_core.specs.Machine.{places_of_names, given, is_written}
-use Rattle.lower_design.specs.Shape.{name_of, trigger}
-use Rattle.lower_design.specs.Lowered.{branch, lowered_expr, lowered_stmt, triggered, lowered_edge}
-use Rattle.lower_design.proofs.Names.{true_or_false, same_bytes, differ_bytes, pick_true, pick_false}
-use Rattle.lower_design.proofs.Places.{has-append, has-signal, has-without, has-without-only}
-use Rattle.lower_design.proofs.Levels.{assign-level}
-use Rattle.lower_design.proofs.Runs.{append-nil, Found, AllFound, Uses, changes-same, names-of, Triggered, body-same, triggered-same}
-use Rattle.lower_design.proofs.Refinement.{ReadsMore}
+use Rattle.v_meaning.specs.Scopes.{Use, all_bits}
+use Rattle.v_meaning.specs.Runs.{State, begun}
+use Rattle.v_meaning.specs.Statements.{covers, covered}
+use Rattle.v_meaning.specs.Statements as TD
+use Rattle.v_meaning.specs.Modules as T
+use Rattle.v_meaning.specs.Machine as Target
+use Rattle.v_meaning.specs.Machine.{size}
+use Rattle.lower_design.specs.Translatable.{Translatable}
+use Rattle.lower_design.specs.Lowered.{lowered_edge, is_driven}
+use Rattle.lower_design.proofs.Names.{true_or_false, member-at}
+use Rattle.lower_design.proofs.Places.{has-append, has-signal, has-place, has-without, has-without-only}
+use Rattle.lower_design.proofs.Meanings.{Found, AllFound, use_named}
+use Rattle.lower_design.proofs.Runs.{progress, Uses}
+use Rattle.lower_design.proofs.Hangs.{stmt-tame}
+use Rattle.lower_design.proofs.Sound.{in-signals, signals-in, at-number, once-member, member-once}
+use Rattle.lower_design.proofs.Refinement.{ReadsMore, SameEdges}
+use Rattle.lower_design.proofs.Items.{own, us, sc, get-below, found-below, image_of, image-there, range_keeps}
+
+pub bool-same : (a b : Bool) → (a ≡ true → b ≡ true) → (b ≡ true → a ≡ true) → a ≡ b
+bool-same true true f g = refl
+bool-same true false f g = sym (f refl)
+bool-same false true f g = g refl
+bool-same false false f g = refl
 
 -- what isn't in a list without some isn't among these
-pub has-without-not : (own places : List Place) (q : Place) → has (without own places) q ≡ true → has own q ≡ false
+has-without-not : (avoided places : List Place) (q : Place) → has (without avoided places) q ≡ true → has avoided q ≡ false
 unfolding has
-has-without-not own [] q e = absurd (false≢true e)
-has-without-not own (p ∷ ps) q e = pick (has-without-not own ps q) (has own p) refl e
+has-without-not avoided [] q e = absurd (false≢true e)
+has-without-not avoided (p ∷ ps) q e = pick (has-without-not avoided ps q) (has avoided p) refl e
   where
-    pick : (has (without own ps) q ≡ true → has own q ≡ false) → (b : Bool) → has own p ≡ b → has (cond (not b) (p ∷ without own ps) (without own ps)) q ≡ true → has own q ≡ false
+    pick : (has (without avoided ps) q ≡ true → has avoided q ≡ false) → (b : Bool) → has avoided p ≡ b → has (cond (not b) (p ∷ without avoided ps) (without avoided ps)) q ≡ true → has avoided q ≡ false
     pick more true h k = more k
     pick more false h k =
-        elim (or_cases (is_place p q) (has (without own ps) q) k) [
-          | inl l ↦ ap (has own) (sym (is_place-true p q l)) ∙ h
+        elim (or_cases (is_place p q) (has (without avoided ps) q) k) [
+          | inl l ↦ ap (has avoided) (sym (is_place-true p q l)) ∙ h
           | inr l ↦ more l
         ]
 
-pub has-flat : {A : Type 0} (f : A → List Place) (xs : List A) (q : Place) → has (flat_map f xs) q ≡ true → (x : A) × Member xs x × (has (f x) q ≡ true)
+and-false : (b : Bool) → (b && false) ≡ false
+and-false true = refl
+and-false false = refl
+
+-- what is in a list and passes the test is in what the test keeps
+pub has-filter : (f : Place → Bool) (ps : List Place) (q : Place) → has (filter f ps) q ≡ (has ps q && f q)
 unfolding has
-has-flat f [] q e = absurd (false≢true e)
-has-flat f (x ∷ xs) q e =
-    elim (or_cases _ _ (sym (has-append (f x) (flat_map f xs) q) ∙ e)) [
-      | inl h ↦ (x, inl refl, h)
-      | inr h ↦ (let r = has-flat f xs q h in (r.0, inr r.1, r.2))
+has-filter f [] q = refl
+has-filter f (p ∷ ps) q = pick (is_place p q) refl (f p) refl (has-filter f ps q)
+  where
+    pick : (b : Bool) → is_place p q ≡ b → (c : Bool) → f p ≡ c → has (filter f ps) q ≡ (has ps q && f q)
+        → has (cond c (p ∷ filter f ps) (filter f ps)) q ≡ ((b || has ps q) && f q)
+    pick true e true g more = ap (λ b. b || has (filter f ps) q) e ∙ sym g ∙ ap f (is_place-true p q e)
+    pick true e false g more =
+        let none : f q ≡ false = sym (ap f (is_place-true p q e)) ∙ g in
+        more ∙ ap (λ b. has ps q && b) none ∙ and-false (has ps q) ∙ sym none
+    pick false e true g more = ap (λ b. b || has (filter f ps) q) e ∙ more
+    pick false e false g more = more
+
+pub has-bit : (n k w : ℕ) (q : Place) → has (places_from n k w) q ≡ true → q.bit < k + w
+unfolding has
+has-bit n k zero q e = absurd (false≢true e)
+has-bit n k (suc w) q e =
+    elim (or_cases (is_place (record { signal = n; bit = k }) q) (has (places_from n (suc k) w) q) e) [
+      | inl h ↦ (let same : k ≡ q.bit = eqb-true k q.bit (and_parts _ _ h).1 in omega (arith, same))
+      | inr h ↦ (let below : q.bit < suc k + w = has-bit n (suc k) w q h in omega (arith, below))
     ]
 
-pub below-get : (ss : List Signal) (n : ℕ) (s : Signal) → slice_get ss n ≡ Some s → n < length ss
-below-get [] n s e = cc
-below-get (t ∷ ss) zero s e = omega arith
-below-get (t ∷ ss) (suc n) s e = let r = below-get ss n s e in omega (arith, r)
+-- a use of a whole signal covers its places
+covers-whole : (n w : ℕ) (q : Place) → covers (record { number = n; low = 0; high = w }) q ≡ has (places_of n w) q
+covers-whole n w q = bool-same _ _
+    (λ h. let p = and_parts _ _ h in let r = and_parts _ _ p.1 in
+    has-place n 0 w q (sym (eqb-true n q.signal p.0)) (omega arith) (inside (ltb-true q.bit w r.1)))
+    (λ h. let below = has-bit n 0 w q h in
+    (λ i. eq-eqb n q.signal (sym (has-signal n 0 w q h)) i && (le-leb 0 q.bit (omega arith) i && lt-ltb q.bit w (outside below) i)))
+  where
+    inside : q.bit < w → q.bit < 0 + w
+    inside h = omega (arith, h)
 
-module _ (ss : List Signal) (us : List T.Signal) where
-  abbrev name : ℕ → Name
-  name n = name_of ss n
+    outside : q.bit < 0 + w → q.bit < w
+    outside h = omega (arith, h)
 
-  -- found names differ where their numbers do
-  pub names-apart : (k n : ℕ) → Found ss us k → Found ss us n → name k ≡ name n → k ≡ n
-  names-apart k n f g e = sym f.number ∙ ap (number_of us) e ∙ g.number
+-- each signal that has a bit adds to their sum
+few-by : (ss : List Signal) → ((s : Signal) → Member ss s → 1 ≤ s.width) → length ss ≤ sum (map (λ (s : Signal). s.width) ss)
+few-by [] wide = omega arith
+few-by (s ∷ ss) wide =
+    let more = few-by ss (λ x m. wide x (inr m)) in
+    let total = sum_by-cons (λ (x : ℕ). x) s.width (map (λ (x : Signal). x.width) ss) in
+    let own = wide s (inl refl) in
+    omega (arith, more, total, own)
 
-  among-names : (ks : List ℕ) (n : ℕ) → AllFound ss us ks → Found ss us n → among (map name ks) (name n) ≡ holds ks n
-  among-names [] n f g = refl
-  among-names (k ∷ ks) n f g = λ i. one (true_or_false (k == n)) i || among-names ks n (λ j m. f j (inr m)) g i
+-- the places of signals
+pub has-places : (k : ℕ) (all : List T.Signal) (n : ℕ) (u : T.Signal) (q : Place) → slice_get all n ≡ Some u → has (places_of (k + n) (size u)) q ≡ true → has (Target.places_from k all) q ≡ true
+has-places k [] n u q e h = cc
+has-places k (t ∷ rest) zero u q e h =
+    let same : t ≡ u = cc in
+    let index : k + 0 ≡ k = omega arith in
+    has-append (places_of k (size t)) (Target.places_from (suc k) rest) q ∙ or_left _ _ (ap (λ (x : T.Signal). has (places_of k (size x)) q) same ∙ ap (λ j. has (places_of j (size u)) q) (sym index) ∙ h)
+has-places k (t ∷ rest) (suc n) u q e h =
+    let index : k + suc n ≡ suc k + n = omega arith in
+    has-append (places_of k (size t)) (Target.places_from (suc k) rest) q
+    ∙ or_right (has (places_of k (size t)) q) _ (has-places (suc k) rest n u q e (subst (λ j. has (places_of j (size u)) q ≡ true) index h))
+
+module _ (d : Design) (t : Translatable d) where
+  abbrev ss : List Signal
+  ss = d.signals
+
+  abbrev pub parts : T.Parts
+  parts = own d.signals d.processes
+
+  abbrev pub count : ℕ
+  count = length (us d t)
+
+  -- all that a process uses are signals
+  abbrev pub AllBelow : List ℕ → Type 0
+  AllBelow ns = (n : ℕ) → Member ns n → n < length ss
+
+  pub record UsesSignals (x : SD.Doing) : Type 0 where
+    pub reads : AllBelow x.reads
+    pub targets : AllBelow x.targets
+    pub later_targets : AllBelow x.later_targets
+
+  all-found : (ns : List ℕ) → AllBelow ns → AllFound ss (sc d t) ns
+  all-found ns low n m = found-below d t n (low n m)
+
+  pub uses : (x : SD.Doing) → UsesSignals x → Uses ss (sc d t) x
+  uses x u = record { reads = all-found x.reads u.reads; targets = all-found x.targets u.targets; later_targets = all-found x.later_targets u.later_targets }
+
+  pub few : length ss ≤ 2 ^ 22
+  few = let a = few-by ss t.some_bits in let b = t.all_bits in omega (arith, a, b)
+
+  -- what the uses of names cover are the places of their signals
+  pub covered-named : (ns : List ℕ) (q : Place) → AllBelow ns → covered (map (use_named ss (sc d t)) ns) q ≡ has (places_of_signals ss ns) q
+  unfolding has
+  covered-named [] q low = refl
+  covered-named (n ∷ ns) q low =
+      (λ i. (ap (λ x. covers (record { number = x.number; low = 0; high = all_bits x }) q) (found-below d t n (low n (inl refl))) ∙ covers-whole n (width_of ss n) q) i
+      || covered-named ns q (λ k m. low k (inr m)) i)
+      ∙ sym (has-append (places_of n (width_of ss n)) (places_of_signals ss ns) q)
+
+  once-same : (ns : List ℕ) (q : Place) → has (places_of_signals ss ns) q ≡ has (places_of_signals ss (each_once ns)) q
+  once-same ns q = bool-same _ _
+      (λ h. let r = in-signals ss ns q h in signals-in ss (each_once ns) r.0 q (member-once ns r.0 r.1) r.2)
+      (λ h. let r = in-signals ss (each_once ns) q h in signals-in ss ns r.0 q (once-member ns r.0 r.1) r.2)
+
+  -- the places of the source's signals are places of the target
+  pub there : (n : ℕ) (q : Place) → n < length ss → has (places_of n (width_of ss n)) q ≡ true → has (Target.places count parts) q ≡ true
+  there n q low h =
+      let r = get-below ss n low in
+      let index : n ≡ 0 + n = omega arith in
+      let wide : width_of ss n ≡ (image_of (is_driven d.processes n) r.0).width = ap width_or_zero r.1 ∙ sym (range_keeps r.0.width (t.some_bits r.0 (member-at ss n r.0 r.1))) in
+      has-places 0 (us d t) n (image_of (is_driven d.processes n) r.0) q (image-there d t n r.0 r.1) (sym (λ i. has (places_of (index i) (wide i)) q) ∙ h)
+
+  pub all-there : (ns : List ℕ) (q : Place) → AllBelow ns → has (places_of_signals ss ns) q ≡ true → has (Target.places count parts) q ≡ true
+  all-there ns q low h = let r = in-signals ss ns q h in there r.0 q (low r.0 r.1) r.2
+
+  -- a process writes the places of its targets
+  pub writes-same : (ns : List ℕ) (uses : List Use) → AllBelow ns → uses ≡ map (use_named ss (sc d t)) ns → (q : Place)
+      → has (filter (covered uses) (Target.places count parts)) q ≡ has (places_of_signals ss (each_once ns)) q
+  writes-same ns uses low e q =
+      has-filter (covered uses) (Target.places count parts) q
+      ∙ ap (λ xs. has (Target.places count parts) q && covered xs q) e
+      ∙ ap (λ b. has (Target.places count parts) q && b) (covered-named ns q low)
+      ∙ within (has (Target.places count parts) q) (has (places_of_signals ss ns) q) (all-there ns q low)
+      ∙ once-same ns q
     where
-      one : ((k == n) ≡ true) ⊎ ((k == n) ≡ false) → bytes_eq (name k) (name n) ≡ (k == n)
-      one (inl e) = subst (λ j. bytes_eq (name k) (name j) ≡ true) (eqb-true k n e) (same_bytes (name k)) ∙ sym e
-      one (inr e) = differ_bytes (name k) (name n) (λ h. false≢true (sym e ∙ eq-eqb k n (names-apart k n (f k (inl refl)) g h))) ∙ sym e
+      within : (a b : Bool) → (b ≡ true → a ≡ true) → (a && b) ≡ b
+      within true b f = refl
+      within false true f = f refl
+      within false false f = refl
 
-  once-names : (ks : List ℕ) → AllFound ss us ks → once (map name ks) ≡ map name (each_once ks)
-  once-names [] f = refl
-  once-names (k ∷ ks) f = pick (holds ks k) (among-names ks k rest (f k (inl refl))) (once-names ks rest)
+  -- a run writes and updates signals alone
+  signal-small : (ns : List ℕ) → AllBelow ns → (q : Place) → nat_lt q.signal (2 ^ 32) ≡ false → (n : ℕ) → Member ns n → has (places_of n (width_of ss n)) q ≡ false
+  signal-small ns low q h n m =
+      elim (true_or_false (has (places_of n (width_of ss n)) q)) [
+        | inr f ↦ f
+        | inl e ↦ absurd (high (has-signal n 0 (width_of ss n) q e) (low n m) (ltb-false q.signal (2 ^ 32) h))
+      ]
     where
-      rest : AllFound ss us ks
-      rest j m = f j (inr m)
+      high : q.signal ≡ n → n < length ss → 2 ^ 32 ≤ q.signal → ⊥
+      high a b c = let f = few in omega (arith, a, b, c, f)
 
-      pick : (b : Bool) → among (map name ks) (name k) ≡ b → once (map name ks) ≡ map name (each_once ks)
-          → (if among (map name ks) (name k) then once (map name ks) else name k ∷ once (map name ks)) ≡ map name (if b then each_once ks else k ∷ each_once ks)
-      pick true e more = pick_true _ _ _ e ∙ more
-      pick false e more = pick_false _ _ _ e ∙ ap (λ ns. name k ∷ ns) more
-
-  found-once : (ks : List ℕ) → AllFound ss us ks → AllFound ss us (each_once ks)
-  found-once [] f n m = elim m [ ]
-  found-once (k ∷ ks) f n m = pick (found-once ks (λ j l. f j (inr l)) n) (holds ks k) m
+  to-signals : (c e : Changes) (q : Place) → (nat_lt q.signal (2 ^ 32) ≡ false → e q ≡ None) → c q ≡ e q → Target.to_signals c q ≡ e q
+  to-signals c e q none same = pick (nat_lt q.signal (2 ^ 32)) refl
     where
-      pick : (Member (each_once ks) n → Found ss us n) → (b : Bool) → Member (if b then each_once ks else k ∷ each_once ks) n → Found ss us n
-      pick rest true l = rest l
-      pick rest false (inl e) = f n (inl e)
-      pick rest false (inr l) = rest l
+      pick : (b : Bool) → nat_lt q.signal (2 ^ 32) ≡ b → cond b (c q) None ≡ e q
+      pick true h = same
+      pick false h = sym (none h)
 
-  pub places-found : (ks : List ℕ) → AllFound ss us ks → places_of_names us (map name ks) ≡ places_of_signals ss ks
-  places-found [] f = refl
-  places-found (k ∷ ks) f = λ i. places_of ((f k (inl refl)).number i) ((f k (inl refl)).width i) ++ places-found ks (λ j m. f j (inr m)) i
+  -- the run of a body, in the source and in the target
+  abbrev Runs : SD.Doing → TD.Doing → Type 0
+  Runs x e = (v : Valuation) (s : State) → progress v (e.run (sc d t) v s) ≡ x.run ss (progress v s)
 
-  pub writes-found : (ks : List ℕ) (names : List Name) → AllFound ss us ks → names ≡ map name ks → places_of_names us (once names) ≡ places_of_signals ss (each_once ks)
-  writes-found ks names f e = ap (λ ns. places_of_names us (once ns)) e ∙ ap (places_of_names us) (once-names ks f) ∙ places-found (each_once ks) (found-once ks f)
+  module _ (body : Stmt) (u : UsesSignals (doing body)) (p : T.Process) (in_scope : p.scope ≡ sc d t) (runs : Runs (doing body) p.does) where
+    ran : (v : Valuation) → progress v (Target.ran count parts p v) ≡ (doing body).run ss (Steps.begun v)
+    ran v = ap (λ s. progress v (p.does.run s v begun)) in_scope ∙ runs v begun
+
+    pub assigns-same : (v : Valuation) (q : Place) → Target.to_signals (Target.ran count parts p v).written q ≡ (comb_process ss body).assigns v q
+    assigns-same v q =
+        to-signals (Target.ran count parts p v).written ((doing body).run ss (Steps.begun v)).written q
+        (λ h. (stmt-tame ss body).written (Steps.begun v) q (signal-small (doing body).targets u.targets q h))
+        (ap (λ (x : Progress). x.written q) (ran v))
+
+    pub updates-same : (v : Valuation) (q : Place) → Target.to_signals (Target.ran count parts p v).pending q ≡ ((doing body).run ss (Steps.begun v)).pending q
+    updates-same v q =
+        to-signals (Target.ran count parts p v).pending ((doing body).run ss (Steps.begun v)).pending q
+        (λ h. (stmt-tame ss body).pending (Steps.begun v) q (signal-small (doing body).later_targets u.later_targets q h))
+        (ap (λ (x : Progress). x.pending q) (ran v))
+
+    -- a combinational process that reads the source's signals, and perhaps others
+    module _ (writes : p.does.writes p.scope ≡ map (use_named ss (sc d t)) (doing body).targets)
+        (reads : (q : Place) → q.signal < length ss → covered (p.does.reads p.scope) q ≡ has (places_of_signals ss (doing body).reads) q) where
+      writes-are : (q : Place) → has (Target.writes_of count parts p) q ≡ has (comb_process ss body).writes q
+      writes-are = writes-same (doing body).targets (p.does.writes p.scope) u.targets writes
+
+      covered-writes : (q : Place) → covered (p.does.writes p.scope) q ≡ has (comb_process ss body).writes q
+      covered-writes q = ap (λ xs. covered xs q) writes ∙ covered-named (doing body).targets q u.targets ∙ once-same (doing body).targets q
+
+      abbrev seen : List Place
+      seen = places_of_signals ss (doing body).reads
+
+      abbrev source_own : List Place
+      source_own = (comb_process ss body).writes
+
+      below : (q : Place) → has seen q ≡ true → q.signal < length ss
+      below q h = u.reads q.signal (at-number ss (doing body).reads q h)
+
+      pub comb-reads : ReadsMore (length ss) (comb_process ss body) (Target.comb count parts true [] p)
+      comb-reads = record {
+        from_zero = refl;
+        source_waits = refl;
+        target_waits = refl;
+        writes = writes-are;
+        assigns = assigns-same;
+        reads = λ q h.
+            let l = has-without-only source_own seen q h in
+            has-filter _ (Target.places count parts) q
+            ∙ (λ i. all-there (doing body).reads q u.reads l i
+            && ((reads q (below q l) ∙ l) i && not ((covered-writes q ∙ has-without-not source_own seen q h) i)));
+        no_more = λ q low h.
+            let a = and_parts _ _ (and_parts _ _ (sym (has-filter _ (Target.places count parts) q) ∙ h)).1 in
+            has-without source_own seen q (sym (reads q low) ∙ a.0) (sym (covered-writes q) ∙ not-false _ a.1);
+      }
+        where
+          not-false : (b : Bool) → not b ≡ true → b ≡ false
+          not-false true e = absurd (false≢true e)
+          not-false false e = refl
 
   -- edges are the same
-  edge-found : (v w : Valuation) (e : EdgeOn) → Found ss us e.signal → Target.has_edge us v w (lowered_edge ss e) ≡ Source.has_edge v w e
-  edge-found v w e f = λ i. is_edge e.rising (edge_of (v (record { signal = f.number i; bit = 0 })) (w (record { signal = f.number i; bit = 0 })))
+  edge-found : (v w : Valuation) (e : EdgeOn) → Found ss (sc d t) e.signal → Target.has_edge v w (T.edge_on (sc d t) (lowered_edge ss e)) ≡ Source.has_edge v w e
+  edge-found v w e f = ap (λ x. is_edge e.rising (edge_of (v (record { signal = x.number; bit = 0 })) (w (record { signal = x.number; bit = 0 })))) f
 
-  edges-found : (v w : Valuation) (es : List EdgeOn) → ((e : EdgeOn) → Member es e → Found ss us e.signal)
-      → list_any (Target.has_edge us v w) (map (lowered_edge ss) es) ≡ list_any (Source.has_edge v w) es
+  edges-found : (v w : Valuation) (es : List EdgeOn) → ((e : EdgeOn) → Member es e → Found ss (sc d t) e.signal)
+      → list_any (Target.has_edge v w) (map (T.edge_on (sc d t)) (map (lowered_edge ss) es)) ≡ list_any (Source.has_edge v w) es
   edges-found v w [] f = refl
   edges-found v w (e ∷ es) f = λ i. edge-found v w e (f e (inl refl)) i || edges-found v w es (λ x m. f x (inr m)) i
 
-  -- an edge process is the same
-  pub edge-same : (es : List EdgeOn) (body : Stmt) → Uses ss us (doing body) → ((e : EdgeOn) → Member es e → Found ss us e.signal)
-      → Target.edge_process us (map (lowered_edge ss) es) (branch (lowered_stmt ss body)) ≡ edge_process ss es body
-  edge-same es body u f =
-      let s = body-same ss us body in
-      λ i. record {
-        writes = writes-found (doing body).later_targets _ u.later_targets s.later_targets i;
-        runs = λ v w. edges-found v w es f i;
-        updates = λ v. (s.run u (begun v) i).pending;
-      }
-
-  nothing-before : (c : Option Bit4) → later_or c None ≡ c
-  nothing-before (Some b) = refl
-  nothing-before None = refl
-
-  more-reads : (own xs : List Place) (t p : M.Process) → p.reads ≡ without own xs → t.reads ≡ without own xs → (q : Place) → has p.reads q ≡ true → has t.reads q ≡ true
-  more-reads own xs t p e f q h = ap (λ ps. has ps q) (f ∙ sym e) ∙ h
-
-  -- a continuous assignment is the same
-  pub driver-same : (n to : ℕ) (value : Expr) → Found ss us to → AllFound ss us (expr_signals value)
-      → ReadsMore n (comb_process ss (S.Assign to value false)) (Target.driver_process us (name to) (lowered_expr ss value))
-  driver-same n to value f g = record {
-    from_zero = refl;
-    source_waits = refl;
-    target_waits = refl;
-    writes = own;
-    assigns = λ i v q. assigns v q i;
-    reads = λ q h. ap (λ ps. has ps q) reads ∙ h;
-    no_more = λ q low h. ap (λ ps. has ps q) (sym reads) ∙ h;
+  pub edge-same : (es : List EdgeOn) (body : Stmt) (u : UsesSignals (doing body)) (p : T.Process) → p.scope ≡ sc d t → Runs (doing body) p.does
+      → p.does.later p.scope ≡ map (use_named ss (sc d t)) (doing body).later_targets → ((e : EdgeOn) → Member es e → Found ss (sc d t) e.signal)
+      → SameEdges (length ss) (edge_process ss es body) (Target.edge count parts (map (T.edge_on (sc d t)) (map (lowered_edge ss) es)) p)
+  edge-same es body u p in_scope runs later found = record {
+    writes = writes-same (doing body).later_targets (p.does.later p.scope) u.later_targets later;
+    runs = λ v w. edges-found v w es found;
+    updates = updates-same body u p in_scope runs;
   }
-    where
-      is : doing (S.Assign to value false) ≡ SD.assignment to value false
-      is = assign-level SD.Doing stmt_doing to value false
-
-      own : places_named us (name to) ≡ (comb_process ss (S.Assign to value false)).writes
-      own = (λ i. places_of (f.number i) (f.width i)) ∙ sym (ap (λ (d : SD.Doing). places_of_signals ss (each_once d.targets)) is ∙ append-nil (places_of to (width_of ss to)))
-
-      seen : places_of_names us (meaning (lowered_expr ss value)).names ≡ places_of_signals ss (doing (S.Assign to value false)).reads
-      seen = ap (places_of_names us) (names-of ss value) ∙ places-found (expr_signals value) g ∙ sym (ap (λ (d : SD.Doing). places_of_signals ss d.reads) is)
-
-      reads : (Target.driver_process us (name to) (lowered_expr ss value)).reads ≡ (comb_process ss (S.Assign to value false)).reads
-      reads = λ i. without (own i) (seen i)
-
-      assigns : (v : Valuation) (q : Place) → (Target.driver_process us (name to) (lowered_expr ss value)).assigns v q ≡ (comb_process ss (S.Assign to value false)).assigns v q
-      assigns v q =
-          ap (λ (c : Changes). c q) (changes-same ss us to value v f g)
-          ∙ sym (nothing-before (SD.changes_of ss to value v q))
-          ∙ sym (ap (λ (d : SD.Doing). (d.run ss (begun v)).written q) is)
-
-  -- an `always_comb` is the same, but for the trigger
-  module _ (n : ℕ) (inits : List InitialValue) (first : Target.is_triggered us inits trigger ≡ true) (number : number_of us trigger ≡ n)
-      (body : Stmt) (u : Uses ss us (doing body)) where
-    abbrev runs : TD.Doing
-    runs = doing_of (triggered (lowered_stmt ss body))
-
-    abbrev source_own : List Place
-    source_own = places_of_signals ss (each_once (doing body).targets)
-
-    abbrev source_seen : List Place
-    source_seen = places_of_signals ss (doing body).reads
-
-    same : Triggered ss us (doing body) runs
-    same = triggered-same ss us body
-
-    started : list_any (Target.is_triggered us inits) runs.reads ≡ true
-    started = ap (list_any (Target.is_triggered us inits)) same.reads ∙ or_left _ _ first
-
-    own : places_of_names us (once runs.targets) ≡ source_own
-    own = writes-found (doing body).targets _ u.targets same.targets
-
-    seen : places_of_names us runs.reads ≡ places_named us trigger ++ source_seen
-    seen = ap (places_of_names us) same.reads ∙ ap (λ ps. places_named us trigger ++ ps) (places-found (doing body).reads u.reads)
-
-    too-high : (q : Place) → q.signal < n → has (places_named us trigger) q ≡ true → ⊥
-    too-high q low h = let e : q.signal ≡ n = has-signal (number_of us trigger) 0 (width_named us trigger) q h ∙ number in omega (arith, e, low)
-
-    pub comb-same : ReadsMore n (comb_process ss body) (Target.star_process us inits (triggered (lowered_stmt ss body)))
-    comb-same = record {
-      from_zero = started;
-      source_waits = refl;
-      target_waits = ap (λ b. cond b [] (places_of_names us runs.reads)) started;
-      writes = own;
-      assigns = λ i v. (same.run u (begun v) i).written;
-      reads = λ q h. has-without (places_of_names us (once runs.targets)) (places_of_names us runs.reads) q
-          (ap (λ ps. has ps q) seen ∙ has-append (places_named us trigger) source_seen q
-          ∙ or_right (has (places_named us trigger) q) _ (has-without-only source_own source_seen q h))
-          (ap (λ ps. has ps q) own ∙ has-without-not source_own source_seen q h);
-      no_more = λ q low h. has-without source_own source_seen q
-          (elim (or_cases _ _ (sym (has-append (places_named us trigger) source_seen q) ∙ ap (λ ps. has ps q) (sym seen)
-          ∙ has-without-only (places_of_names us (once runs.targets)) (places_of_names us runs.reads) q h)) [
-            | inl k ↦ absurd (too-high q low k)
-            | inr k ↦ k
-          ])
-          (ap (λ ps. has ps q) (sym own) ∙ has-without-not (places_of_names us (once runs.targets)) (places_of_names us runs.reads) q h);
-    }

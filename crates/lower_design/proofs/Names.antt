@@ -1,12 +1,11 @@
 -- Names, and look-ups among distinct ones.
-use Rattle.std.proofs.Common.{◌≡◌, ℕ, zero, suc, ◌⊎◌, Bool, true, false, not, ◌&&◌, if◌then◌else◌, List, [], ◌∷◌, map, Some, refl, sym, ap, subst, ◌∙◌, inl, inr}
+use Rattle.std.proofs.Common.{◌≡◌, ℕ, zero, suc, ◌⊎◌, Bool, true, false, not, ◌&&◌, if◌then◌else◌, List, [], ◌∷◌, Some, refl, sym, ap, subst, ◌∙◌, inl, inr}
 use Rattle.std.specs.List.{slice_get}
 use Rattle.std.specs.Str.{bytes_eq}
 use Rattle.std.proofs.lemmas.Slice.Eq.{bytes_eq-Decides}
 use Rattle.std.proofs.lemmas.Bool.{or_cases, or_left, or_right, and_parts, false≢true}
 use Rattle.row_machine.specs.Valuation.{Member}
-use Rattle.v_core.specs.Names.{Name, among, distinct}
-use Rattle.v_core.specs.Signals.{Signal, number_of, width_named}
+use Rattle.v_tree.specs.Names.{Name, among, distinct}
 
 pub same_bytes : (a : Name) → bytes_eq a a ≡ true
 same_bytes a = (bytes_eq-Decides a a).1 refl
@@ -64,45 +63,3 @@ rest_distinct n names d = (and_parts _ _ d).1
 
 pub distinct_more : (n : Name) (names : List Name) → (Member names n → ⊥) → distinct names ≡ true → distinct (n ∷ names) ≡ true
 distinct_more n names fresh d = (λ i. not (not-among names n fresh i) && distinct names) ∙ d
-
-abbrev pub name_of : Signal → Name
-name_of s = s.name
-
--- the first of distinct names differs from each later one
-first_differs : (t : Signal) (ts : List Signal) (s : Signal) → distinct (map name_of (t ∷ ts)) ≡ true → Member ts s → bytes_eq t.name s.name ≡ false
-first_differs t ts s d m =
-    differ_bytes t.name s.name (λ e. first_fresh t.name (map name_of ts) d (subst (λ n. Member (map name_of ts) n) (sym e) (named ts m)))
-  where
-    named : (us : List Signal) → Member us s → Member (map name_of us) s.name
-    named [] k = elim k [ ]
-    named (u ∷ us) (inl e) = inl (ap name_of e)
-    named (u ∷ us) (inr k) = inr (named us k)
-
--- the look-up finds each signal by its name, where the names are distinct
-pub number-found : (ts : List Signal) → distinct (map name_of ts) ≡ true → (n : ℕ) (s : Signal) → slice_get ts n ≡ Some s → number_of ts s.name ≡ n
-number-found [] d n s e = cc
-number-found (t ∷ ts) d zero s e =
-    let same : t ≡ s = cc in
-    pick_true (bytes_eq t.name s.name) 0 _ (subst (λ (x : Signal). bytes_eq t.name x.name ≡ true) same (same_bytes t.name))
-number-found (t ∷ ts) d (suc n) s e =
-    pick_false (bytes_eq t.name s.name) 0 _ (first_differs t ts s d (member-at ts n s e))
-    ∙ ap suc (number-found ts (rest_distinct t.name (map name_of ts) d) n s e)
-
-pub width-found : (ts : List Signal) → distinct (map name_of ts) ≡ true → (n : ℕ) (s : Signal) → slice_get ts n ≡ Some s → width_named ts s.name ≡ s.width
-width-found [] d n s e = cc
-width-found (t ∷ ts) d zero s e =
-    let same : t ≡ s = cc in
-    pick_true (bytes_eq t.name s.name) t.width _ (subst (λ (x : Signal). bytes_eq t.name x.name ≡ true) same (same_bytes t.name)) ∙ ap (λ (x : Signal). x.width) same
-width-found (t ∷ ts) d (suc n) s e =
-    pick_false (bytes_eq t.name s.name) t.width _ (first_differs t ts s d (member-at ts n s e))
-    ∙ width-found ts (rest_distinct t.name (map name_of ts) d) n s e
-
--- signals of one name are one
-pub named-once : (ts : List Signal) → distinct (map name_of ts) ≡ true → (s t : Signal) → Member ts s → Member ts t → s.name ≡ t.name → s ≡ t
-named-once [] d s t ms mt e = elim ms [ ]
-named-once (u ∷ us) d s t (inl ms) (inl mt) e = ms ∙ sym mt
-named-once (u ∷ us) d s t (inl ms) (inr mt) e =
-    absurd (false≢true (sym (first_differs u us t d mt) ∙ subst (λ (x : Signal). bytes_eq x.name t.name ≡ true) ms (subst (λ n. bytes_eq s.name n ≡ true) e (same_bytes s.name))))
-named-once (u ∷ us) d s t (inr ms) (inl mt) e =
-    absurd (false≢true (sym (first_differs u us s d ms) ∙ subst (λ (x : Signal). bytes_eq x.name s.name ≡ true) mt (subst (λ n. bytes_eq t.name n ≡ true) (sym e) (same_bytes t.name))))
-named-once (u ∷ us) d s t (inr ms) (inr mt) e = named-once us (rest_distinct u.name (map name_of us) d) s t ms mt e

@@ -54,8 +54,8 @@ module _ (n : ℕ) where
     pub from_zero : t.from_zero ≡ p.from_zero
     pub source_waits : p.waits_for ≡ []
     pub target_waits : t.waits_for ≡ []
-    pub writes : t.writes ≡ p.writes
-    pub assigns : t.assigns ≡ p.assigns
+    pub writes : (q : Place) → has t.writes q ≡ has p.writes q
+    pub assigns : (v : Valuation) (q : Place) → t.assigns v q ≡ p.assigns v q
     pub reads : (q : Place) → has p.reads q ≡ true → has t.reads q ≡ true
     pub no_more : (q : Place) → IsBelow q → has t.reads q ≡ true → has p.reads q ≡ true
 
@@ -64,6 +64,12 @@ module _ (n : ℕ) where
     pub writes : (q : Place) → has p.writes q ≡ true → IsBelow q
     pub reads : (q : Place) → has p.reads q ≡ true → IsBelow q
 
+  -- the second edge process does what the first does
+  pub record SameEdges (p t : EdgeProcess) : Type 0 where
+    pub writes : (q : Place) → has t.writes q ≡ has p.writes q
+    pub runs : (v w : Valuation) → t.runs v w ≡ p.runs v w
+    pub updates : (v : Valuation) (q : Place) → t.updates v q ≡ p.updates v q
+
   pub record EdgeBelow (p : EdgeProcess) : Type 0 where
     pub writes : (q : Place) → has p.writes q ≡ true → IsBelow q
     pub runs : (v v' w w' : Valuation) → SameBelow v v' → SameBelow w w' → p.runs v w ≡ p.runs v' w'
@@ -71,10 +77,10 @@ module _ (n : ℕ) where
 
   pub record Extends (extra : Valuation) (d e : Machine) : Type 0 where
     pub combs : AllZip ReadsMore d.combs e.combs
-    pub edges : e.edges ≡ d.edges
-    pub inputs : e.inputs ≡ d.inputs
+    pub edges : AllZip SameEdges d.edges e.edges
+    pub inputs : (q : Place) → has e.inputs q ≡ has d.inputs q
     pub initial : (q : Place) → IsBelow q → e.initial q ≡ d.initial q
-    pub start : (q : Place) → IsBelow q → e.start q ≡ d.start q
+    pub start : (q : Place) → IsBelow q → has d.inputs q ≡ false → e.start q ≡ d.start q
     pub beyond : (q : Place) → n ≤ q.signal → e.start q ≡ extra q
     pub combs_below : (p : Process) → Member d.combs p → CombBelow p
     pub edges_below : (p : EdgeProcess) → Member d.edges p → EdgeBelow p
@@ -103,11 +109,11 @@ module _ (n : ℕ) where
     pub lifted_below : (v : Valuation) → SameBelow (lifted m v) v
     lifted_below v q h = ap (λ o. image_or o v (extra q)) (own_origin q h)
 
-    same_writes : (qs : List Place) → ((q : Place) → has qs q ≡ true → IsBelow q) → SameWrites m qs qs
-    same_writes qs below = record {
-      images = λ q q' o. ap (has qs) (same_place q q' o);
+    same_writes : (qs ks : List Place) → ((q : Place) → has ks q ≡ has qs q) → ((q : Place) → has qs q ≡ true → IsBelow q) → SameWrites m qs ks
+    same_writes qs ks same below = record {
+      images = λ q q' o. same q' ∙ ap (has qs) (same_place q q' o);
       no_more = λ q' o. elim (true_or_false (has qs q')) [
-        | inr f ↦ f
+        | inr f ↦ same q' ∙ f
         | inl h ↦ absurd (apart q' (below q' h) (is_beyond q' o))
       ];
     }
@@ -137,53 +143,62 @@ module _ (n : ℕ) where
     one_writer (p ∷ ps) (t ∷ ts) z one = (
       λ q h x k.
           let r = zip-back ReadsMore ps ts z.1 x k in
-          ap (λ qs. has qs q) r.2.writes ∙ one.0 q (ap (λ qs. has qs q) (sym z.0.writes) ∙ h) r.0 r.1,
+          r.2.writes q ∙ one.0 q (sym (z.0.writes q) ∙ h) r.0 r.1,
       one_writer ps ts z.1 one.1,
+    )
+
+    edges_one_writer : (ps ts : List EdgeProcess) → AllZip SameEdges ps ts → OneWriter (λ (p : EdgeProcess). p.writes) ps → OneWriter (λ (p : EdgeProcess). p.writes) ts
+    edges_one_writer [] [] z one = tt
+    edges_one_writer [] (t ∷ ts) z one = absurd z
+    edges_one_writer (p ∷ ps) [] z one = absurd z
+    edges_one_writer (p ∷ ps) (t ∷ ts) z one = (
+      λ q h x k. (let r = zip-back SameEdges ps ts z.1 x k in r.2.writes q ∙ one.0 q (sym (z.0.writes q) ∙ h) r.0 r.1),
+      edges_one_writer ps ts z.1 one.1,
     )
 
     module _ (d e : Machine) (x : Extends extra d e) (sound : Sound d) where
       honest : (p t : Process) → Honest p → ReadsMore p t → Honest t
       honest p t h r = record {
-        by_reads = λ v u same q. (λ i. r.assigns i v q) ∙ h.by_reads v u (λ k a. same k (r.reads k a)) q ∙ sym (λ i. r.assigns i u q);
-        within = λ v q w. (λ i. r.assigns i v q) ∙ h.within v q (ap (λ qs. has qs q) (sym r.writes) ∙ w);
+        by_reads = λ v u same q. r.assigns v q ∙ h.by_reads v u (λ k a. same k (r.reads k a)) q ∙ sym (r.assigns u q);
+        within = λ v q w. r.assigns v q ∙ h.within v q (sym (r.writes q) ∙ w);
       }
 
       twin : (p t : Process) → Member d.combs p → ReadsMore p t → Twin m d e p t
       twin p t k r = record {
         from_zero = r.from_zero;
-        writes = subst (λ qs. SameWrites m p.writes qs) (sym r.writes) (same_writes p.writes (x.combs_below p k).writes);
+        writes = same_writes p.writes t.writes r.writes (x.combs_below p k).writes;
         assigns = λ v at q q' o w.
-            (λ i. r.assigns i (lifted m v) q')
+            r.assigns (lifted m v) q'
             ∙ (sound.honest p k).by_reads (lifted m v) v (λ c h. lifted_below v c ((x.combs_below p k).reads c h)) q'
             ∙ ap (p.assigns v) (same_place q q' o);
         wakes = λ v at. ap (λ qs. differs qs (lifted m v) e.initial) r.target_waits ∙ sym (ap (λ qs. differs qs v d.initial) r.source_waits);
       }
 
-      edge_twin : (p : EdgeProcess) → Member d.edges p → EdgeTwin m d e p p
-      edge_twin p k = record {
-        writes = same_writes p.writes (x.edges_below p k).writes;
-        first = λ w at. (x.edges_below p k).runs e.initial d.initial (lifted m w) w x.initial (lifted_below w);
-        later = λ v w at atw. (x.edges_below p k).runs (lifted m v) v (lifted m w) w (lifted_below v) (lifted_below w);
-        updates = λ w at q q' o h. (x.edges_below p k).updates (lifted m w) w (lifted_below w) q' ∙ ap (p.updates w) (same_place q q' o);
+      edge_twin : (p t : EdgeProcess) → Member d.edges p → SameEdges p t → EdgeTwin m d e p t
+      edge_twin p t k r = record {
+        writes = same_writes p.writes t.writes r.writes (x.edges_below p k).writes;
+        first = λ w at. r.runs e.initial (lifted m w) ∙ (x.edges_below p k).runs e.initial d.initial (lifted m w) w x.initial (lifted_below w);
+        later = λ v w at atw. r.runs (lifted m v) (lifted m w) ∙ (x.edges_below p k).runs (lifted m v) v (lifted m w) w (lifted_below v) (lifted_below w);
+        updates = λ w at q q' o h. r.updates (lifted m w) q' ∙ (x.edges_below p k).updates (lifted m w) w (lifted_below w) q' ∙ ap (p.updates w) (same_place q q' o);
       }
 
       simulates : Simulates m d e
       simulates = record {
-        inputs = subst (λ qs. SameWrites m d.inputs qs) (sym x.inputs) (same_writes d.inputs x.inputs_below);
-        start = λ q q' o i. inl (x.start q' (is_below q q' o) ∙ ap d.start (same_place q q' o));
+        inputs = same_writes d.inputs e.inputs x.inputs x.inputs_below;
+        start = λ q q' o i. inl (x.start q' (is_below q q' o) (ap (has d.inputs) (same_place q q' o) ∙ i) ∙ ap d.start (same_place q q' o));
         unwritten = λ q' o k v at. sym (x.beyond q' (is_beyond q' o));
         twin = λ p k. (let r = zip-there ReadsMore d.combs e.combs x.combs p k in (r.0, r.1, twin p r.0 k r.2));
         source = λ t k. (let r = zip-back ReadsMore d.combs e.combs x.combs t k in inl (r.0, r.1, twin r.0 t r.1 r.2));
-        edge_twin = λ p k. (p, subst (λ ps. Member ps p) (sym x.edges) k, edge_twin p k);
-        edge_source = λ t k. (let l = subst (λ ps. Member ps t) x.edges k in (t, l, edge_twin t l));
+        edge_twin = λ p k. (let r = zip-there SameEdges d.edges e.edges x.edges p k in (r.0, r.1, edge_twin p r.0 k r.2));
+        edge_source = λ t k. (let r = zip-back SameEdges d.edges e.edges x.edges t k in (r.0, r.1, edge_twin r.0 t r.1 r.2));
       }
 
       well_written : WellWritten e
       well_written = record {
         honest = λ t k. (let r = zip-back ReadsMore d.combs e.combs x.combs t k in honest r.0 t (sound.honest r.0 r.1) r.2);
         one_writer = one_writer d.combs e.combs x.combs sound.one_writer;
-        edges_within = λ p k. sound.edges_within p (subst (λ ps. Member ps p) x.edges k);
-        edges_one_writer = subst (λ ps. OneWriter (λ (p : EdgeProcess). p.writes) ps) (sym x.edges) sound.edges_one_writer;
+        edges_within = λ t k v q w. (let r = zip-back SameEdges d.edges e.edges x.edges t k in r.2.updates v q ∙ sound.edges_within r.0 r.1 v q (sym (r.2.writes q) ∙ w));
+        edges_one_writer = edges_one_writer d.edges e.edges x.edges sound.edges_one_writer;
       }
 
       adds : AddsNoDependence m d e
@@ -197,7 +212,7 @@ module _ (n : ℕ) where
               by_reads = λ b l f. (
                   let c = followed_bit t b f in
                   let s = zip-back ReadsMore d.combs e.combs x.combs b l in
-                  let low : IsBelow c.0 = (x.combs_below s.0 s.1).writes c.0 (ap (λ qs. has qs c.0) (sym s.2.writes) ∙ c.2) in
+                  let low : IsBelow c.0 = (x.combs_below s.0 s.1).writes c.0 (sym (s.2.writes c.0) ∙ c.2) in
                   writes_image c.0 c.0 (own_origin c.0 low) c.2 (r.2.no_more c.0 low c.1));
             },
           )

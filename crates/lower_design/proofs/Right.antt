@@ -6,22 +6,23 @@ use Rattle.row_machine.specs.Agreement.{lifted, TracesAgree as MachinesAgree}
 use Rattle.row_machine.specs.Translation.{Translates}
 use Rattle.sv_core.specs.declared.design.Design.{Design}
 use Rattle.sv_core.specs.Machine as Source
-use Rattle.sv_core.specs.Statements.{width_or_zero}
-use Rattle.v_core.specs.declared.tree.VDesign.{VDesign}
-use Rattle.v_core.specs.Signals.{number_of, width_named, held_named, signals}
-use Rattle.v_core.specs.Machine as Target
+use Rattle.sv_core.specs.Statements.{width_of, width_or_zero}
+use Rattle.v_tree.specs.declared.items.VDesign.{VDesign}
+use Rattle.v_meaning.specs.Scopes.{named}
+use Rattle.v_meaning.specs.Modules.{signals, numbered}
+use Rattle.v_meaning.specs.Machine as Target
 use Rattle.lower_design.specs.Translatable.{Translatable}
-use Rattle.lower_design.specs.Agreement.{Agree, TracesAgree}
+use Rattle.lower_design.specs.Agreement.{Agree, TracesAgree, held, of_top}
 use Rattle.lower_design.specs.Shape.{path_or_nothing}
 use Rattle.lower_design.specs.Lowering.{Lowers}
 use Rattle.lower_design.specs.Lowered.{lowered}
 use Rattle.lower_design.proofs.Places.{has-signal, vectors-same}
 use Rattle.lower_design.proofs.Refinement.{under_own, lifted_below, same_rows}
-use Rattle.lower_design.proofs.Items.{all-signals, top-items, ts, found-at}
-use Rattle.lower_design.proofs.Machines.{below-get}
+use Rattle.lower_design.proofs.Items.{all-signals, top-items, sc, found-at, below-get}
+use Rattle.lower_design.proofs.Meanings.{image}
 use Rattle.lower_design.proofs.Extension.{extra, translated}
 use Rattle.lower_design.proofs.Grammar.{of-grammar}
-use Rattle.lower_design.proofs.WellFormed.{well-formed, fits-top}
+use Rattle.lower_design.proofs.Keeping.{keeps, fits-top}
 use Rattle.lower_design.proofs.Shapes.{shape}
 
 module _ (d : Design) (t : Translatable d) where
@@ -34,11 +35,11 @@ module _ (d : Design) (t : Translatable d) where
 
   agrees : (v : Valuation) → Agree d (lowered d) v (shown v)
   agrees v n s is =
-      let f = found-at d t n s is in
-      let named : width_named (ts d t) s.path ≡ s.width = ap (width_named (ts d t)) (sym (ap path_or_nothing is)) ∙ f.width ∙ ap width_or_zero is in
-      let number : number_of (ts d t) s.path ≡ n = ap (number_of (ts d t)) (sym (ap path_or_nothing is)) ∙ f.number in
+      let top : of_top (lowered d) d.top s.path ≡ named (sc d t).names s.path = ap (λ us. named (numbered 0 us) s.path) (ap signals (top-items d) ∙ all-signals d.signals d.processes) in
+      let one : of_top (lowered d) d.top s.path ≡ image d.signals (sc d t) n = top ∙ ap (named (sc d t).names) (sym (ap path_or_nothing is)) ∙ found-at d t n s is in
+      let wide : width_of d.signals n ≡ s.width = ap width_or_zero is in
       vectors-same v (shown v) n 0 s.width (λ q h. sym (lifted_below (length d.signals) (extra d t) v q (low q h)))
-      ∙ sym (ap (λ us. held_named us (shown v) s.path) (ap signals (top-items d) ∙ all-signals d.signals d.processes) ∙ (λ i. vector_at (shown v) (number i) (named i)))
+      ∙ sym (ap (held (shown v)) one ∙ ap (vector_at (shown v) n) wide)
     where
       low : (q : Place) → has (places_of n s.width) q ≡ true → q.signal < length d.signals
       low q h = let e : q.signal ≡ n = has-signal n 0 s.width q h in omega (arith, e, below-get d.signals n s is)
@@ -53,7 +54,7 @@ module _ (d : Design) (t : Translatable d) where
   pub right : Lowers d (lowered d)
   right = record {
     of_grammar = of-grammar d t;
-    well_formed = well-formed d t;
+    keeps = keeps d t;
     fits_top = fits-top d t;
     shape = shape d t;
     source_trace = both.source_trace;

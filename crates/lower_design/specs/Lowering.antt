@@ -7,18 +7,18 @@ use Rattle.row_machine.specs.Trace.{HasTrace, OneTrace}
 use Rattle.row_machine.specs.Rounds.{Reaches}
 use Rattle.sv_core.specs.declared.design.Design.{Design}
 use Rattle.sv_core.specs.Machine as Source
-use Rattle.v_core.specs.declared.tree.VDesign.{VDesign}
-use Rattle.v_core.specs.Grammatical.{is_of_grammar}
-use Rattle.v_core.specs.Machine as Target
-use Rattle.v_core.specs.Reading.{WellFormed, FitsTop}
+use Rattle.v_tree.specs.declared.items.VDesign.{VDesign}
+use Rattle.v_tree.specs.Grammatical.{is_of_grammar}
+use Rattle.v_tree.specs.Rules.{Keeps, FitsTop}
+use Rattle.v_meaning.specs.Machine as Target
 use Rattle.lower_design.specs.Agreement.{TracesAgree}
 use Rattle.lower_design.specs.Shape.{Shape}
 
 -- The target design is right for the source design.
 pub record Lowers (d : Design) (e : VDesign) : Type 0 where
-  -- it is a tree of the target grammar within the rules, with the top or without
+  -- it is a tree of the target grammar, keeps the rules that need no top, and fits the top
   pub of_grammar : is_of_grammar e ≡ true
-  pub well_formed : WellFormed e
+  pub keeps : Keeps e
   pub fits_top : FitsTop e d.top
   -- it has the source's shape
   pub shape : Shape d e

@@ -19,8 +19,8 @@ use Rattle.sv_core.specs.declared.design.Stmt.{Stmt, Stmt-F, fold-Stmt}
 use Rattle.sv_core.specs.declared.design.Stmt.TheVariants.{Assign}
 use Rattle.sv_core.specs.declared.design.Design.{Design}
 use Rattle.sv_core.specs.Statements.{doing}
-use Rattle.v_core.specs.Names.{Name, distinct}
-use Rattle.v_core.specs.Tokens.{is_simple}
+use Rattle.v_tree.specs.Names.{Name, distinct}
+use Rattle.v_tree.specs.Tokens.{is_simple}
 
 -- names that begin so are kept for what the lowering adds
 abbrev pub is_helper_name : Name → Bool

@@ -1,10 +1,12 @@
 //! Declarations of signals.
 
-ghost use Rattle.std.specs.Prelude.{◌≡◌, ◌<◌, ◌||◌, ℕ, [], ◌∷◌, ◌++◌, map, filter, length, slice_index_or, replicate, false, IfOk};
+ghost use Rattle.std.specs.Prelude.{◌≡◌, ◌<◌, ◌||◌, ℕ, [], ◌∷◌, ◌++◌, map, filter, length, slice_index_or, replicate, false, None, IfOk};
 ghost use Rattle.std.specs.List.{list_any};
 ghost use Rattle.sv_core.specs.declared.design.Process.{Process as DesignProcess};
 ghost use Rattle.sv_core.specs.declared.design.Signal.{Signal as DesignSignal};
-ghost use Rattle.lower_design.specs.Shape.{is_port};
+ghost use Rattle.b4_core.specs.declared.bit.Bit4.TheVariants.{Zero};
+ghost use Rattle.v_tree.specs.declared.items.VSignal.TheVariants.{Reg};
+ghost use Rattle.lower_design.specs.Shape.{is_port, trigger};
 ghost use Rattle.lower_design.specs.Lowered.{declaration_of, declarations, drives, is_driven, is_triggered, range_of, trigger_items};
 ghost use Rattle.lower_design.specs.Translatable.{path_of};
 
@@ -12,7 +14,7 @@ use b4_core::{Bit4, Vec4};
 use std::alloc::{AllocError, Global};
 use sv_core::{Process, ProcessKind, Signal, SignalKind, Stmt};
 use sv_source::{Items, Text};
-use v_core::{Names, VItem, VItems};
+use v_tree::{Texts, VInitial, VItem, VItems, VSignal};
 
 /// Whether a signal of the kind is a port.
 fn is_port(kind: SignalKind) -> bool
@@ -26,7 +28,7 @@ fn is_port(kind: SignalKind) -> bool
 }
 
 /// The names of the ports.
-pub fn port_names(alloc: Global, signals: &[Signal]) -> Result<Names, AllocError>
+pub fn port_names(alloc: Global, signals: &[Signal]) -> Result<Texts, AllocError>
     ensures { IfOk result (λ names. names ≡ map path_of (filter (λ (s : DesignSignal). is_port s.kind) signals.now)) }
 {
     let mut names = Items::new(alloc);
@@ -84,17 +86,25 @@ fn range(width: u32) -> Option<u32>
 }
 
 /// The declaration of a signal: a net if a continuous assignment drives it, else a `reg`.
-fn declaration(alloc: Global, signal: &Signal, driven: bool) -> Result<VItem, AllocError>
-    ensures { IfOk result (λ item. item ≡ declaration_of driven signal.now) }
+fn declaration(alloc: Global, signal: &Signal, driven: bool) -> Result<VSignal, AllocError>
+    ensures { IfOk result (λ declared. declared ≡ declaration_of driven signal.now) }
 {
     let name = signal.path.copy(alloc)?;
     let range = range(signal.width);
     Ok(match signal.kind {
-        SignalKind::InputNet => VItem::Input { range, name },
-        SignalKind::OutputVar if driven => VItem::Output { range, name },
-        SignalKind::OutputVar => VItem::OutputReg { range, name },
-        SignalKind::Variable if driven => VItem::Wire { range, name },
-        SignalKind::Variable => VItem::Reg { range, name },
+        SignalKind::InputNet => VSignal::Input { range, name },
+        SignalKind::OutputVar if driven => VSignal::Output { range, name },
+        SignalKind::OutputVar => VSignal::OutputReg {
+            range,
+            name,
+            initial: None,
+        },
+        SignalKind::Variable if driven => VSignal::Wire { range, name },
+        SignalKind::Variable => VSignal::Reg {
+            range,
+            name,
+            rest: None,
+        },
     })
 }
 
@@ -110,7 +120,8 @@ pub fn declare(
     let driven = driven.as_slice();
     let mut items = Items::new(alloc);
     for (n, signal) in signals.iter().enumerate() {
-        items.push(declaration(alloc, signal, driven[n])?)?;
+        let declared = declaration(alloc, signal, driven[n])?;
+        items.push(VItem::Signal(declared))?;
     }
     Ok(items)
 }
@@ -138,20 +149,35 @@ fn needs_trigger(processes: &[Process]) -> bool
     false
 }
 
+/// `reg sv2v_t;`
+fn trigger_signal(alloc: Global) -> Result<VSignal, AllocError>
+    ensures { IfOk result (λ declared. declared ≡ Reg None trigger None) }
+{
+    let name = Text::from_bytes(alloc, b"sv2v_t")?;
+    Ok(VSignal::Reg {
+        range: None,
+        name,
+        rest: None,
+    })
+}
+
+/// `initial sv2v_t <= 1'b0;`
+fn trigger_value(alloc: Global) -> Result<VInitial, AllocError>
+    ensures { IfOk result (λ value. value ≡ record { name = trigger; value = Zero ∷ [] }) }
+{
+    let name = Text::from_bytes(alloc, b"sv2v_t")?;
+    let value = Vec4::from_slice(alloc, &[Bit4::Zero])?;
+    Ok(VInitial { name, value })
+}
+
 /// Where there is an `always_comb`: the `reg` that starts it at time zero, and the `initial` that changes it then.
 pub fn declare_trigger(alloc: Global, processes: &[Process]) -> Result<VItems, AllocError>
     ensures { IfOk result (λ items. items ≡ trigger_items (list_any (λ (p : DesignProcess). is_triggered p.kind) processes.now)) }
 {
     let mut items = Items::new(alloc);
     if needs_trigger(processes) {
-        items.push(VItem::Reg {
-            range: None,
-            name: Text::from_bytes(alloc, b"sv2v_t")?,
-        })?;
-        items.push(VItem::Initial {
-            name: Text::from_bytes(alloc, b"sv2v_t")?,
-            value: Vec4::from_slice(alloc, &[Bit4::Zero])?,
-        })?;
+        items.push(VItem::Signal(trigger_signal(alloc)?))?;
+        items.push(VItem::Initial(trigger_value(alloc)?))?;
     }
     Ok(items)
 }

@@ -1,7 +1,7 @@
 //! The target design of an elaborated design.
 
-ghost use Rattle.std.specs.Prelude.{◌≡◌, ◌++◌, map, IfOk};
-ghost use Rattle.lower_design.specs.Lowered.{AllFit, lowered, lowered_items, lowered_process};
+ghost use Rattle.std.specs.Prelude.{◌≡◌, ◌++◌, IfOk};
+ghost use Rattle.lower_design.specs.Lowered.{AllFit, lowered, lowered_items, process_items};
 ghost use Rattle.lower_design.specs.Lowering.{Lowers};
 ghost use Rattle.lower_design.specs.Translatable.{Translatable};
 
@@ -10,7 +10,7 @@ use crate::process::lower_process;
 use std::alloc::{AllocError, Global};
 use sv_core::{Design, Process, Signal};
 use sv_source::Items;
-use v_core::{VDesign, VItems, VModule};
+use v_tree::{VDesign, VItem, VItems, VModule};
 
 /// Processes in order.
 fn lower_processes(
@@ -19,11 +19,12 @@ fn lower_processes(
     processes: &[Process],
 ) -> Result<VItems, AllocError>
     requires { AllFit signals.now processes.now }
-    ensures { IfOk result (λ items. items ≡ map (lowered_process signals.now) processes.now) }
+    ensures { IfOk result (λ items. items ≡ process_items signals.now processes.now) }
 {
     let mut items = Items::new(alloc);
     for process in processes {
-        items.push(lower_process(alloc, signals, process)?)?;
+        let lowered = lower_process(alloc, signals, process)?;
+        items.push(VItem::Process(lowered))?;
     }
     Ok(items)
 }

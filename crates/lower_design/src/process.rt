@@ -1,17 +1,21 @@
 //! Processes and what they run.
 
-ghost use Rattle.std.specs.Prelude.{◌≡◌, [], ◌∷◌, map, IfOk};
+ghost use Rattle.std.specs.Prelude.{◌≡◌, [], ◌∷◌, map, None, IfOk};
 ghost use Rattle.std.specs.Option.{option_map};
 ghost use Rattle.sv_core.specs.declared.design.ProcessKind.TheVariants.{Continuous};
+ghost use Rattle.v_tree.specs.declared.statements.VStmt.TheVariants.{Block};
 ghost use Rattle.lower_design.specs.Shape.{name_of};
 ghost use Rattle.lower_design.specs.Translatable.{KindFits};
-ghost use Rattle.lower_design.specs.Lowered.{alone, branch, driver_of, lines, lowered_edge, lowered_expr, lowered_operand, lowered_primary, lowered_process, lowered_stmt, reads_trigger, triggered};
+ghost use Rattle.lower_design.specs.Lowered.{alone, branch, driver_of, lines, lowered_edge, lowered_expr, lowered_operand, lowered_primary, lowered_process, lowered_stmt, operator_of, reads_trigger, triggered, whole_name, whole_target};
 
-use b4_core::{UnOp, Vec4};
+use b4_core::{BinOp, Vec4};
 use std::alloc::{AllocError, Global};
 use sv_core::{EdgeOn, Expr, Operand, Primary, Process, ProcessKind, Signal, Stmt};
 use sv_source::{Boxed, Items, Text};
-use v_core::{VBranch, VEdge, VEdges, VExpr, VItem, VPrim, VSensitivity, VStmt, VStmts};
+use v_tree::{
+    VBinaryOp, VBranch, VEdge, VEdges, VExpr, VLval, VPrim, VProcess, VSensitivity, VStmt, VStmts,
+    VUnaryOp,
+};
 
 /// The printed name of a signal, and no bytes where there is no such signal.
 fn name(alloc: Global, signals: &[Signal], number: u32) -> Result<Text, AllocError>
@@ -23,12 +27,28 @@ fn name(alloc: Global, signals: &[Signal], number: u32) -> Result<Text, AllocErr
     }
 }
 
+/// A whole name.
+fn whole_name(alloc: Global, name: Text) -> VPrim
+    ensures { result ≡ whole_name name }
+{
+    let sels = Items::new(alloc);
+    VPrim::Name { name, sels }
+}
+
+/// A whole name as a target.
+fn whole_target(alloc: Global, name: Text) -> VLval
+    ensures { result ≡ whole_target name }
+{
+    let sels = Items::new(alloc);
+    VLval::Name { name, sels }
+}
+
 /// A primary.
 fn lower_primary(alloc: Global, signals: &[Signal], primary: &Primary) -> Result<VPrim, AllocError>
     ensures { IfOk result (λ p. p ≡ lowered_primary signals.now primary.now) }
 {
     Ok(match primary {
-        Primary::Signal(number) => VPrim::Name(name(alloc, signals, *number)?),
+        Primary::Signal(number) => whole_name(alloc, name(alloc, signals, *number)?),
         Primary::Literal(bits) => VPrim::Number(Vec4::from_slice(alloc, bits.as_slice())?),
     })
 }
@@ -41,8 +61,28 @@ fn lower_operand(alloc: Global, signals: &[Signal], operand: &Operand) -> Result
     if !operand.inverted {
         return Ok(of);
     }
-    let negated = VExpr::Unary { op: UnOp::Not, of };
+    let negated = VExpr::Unary {
+        op: VUnaryOp::Not,
+        of,
+    };
     Ok(VPrim::Paren(Boxed::new(alloc, negated)?))
+}
+
+/// The operator between two operands.
+fn operator(op: BinOp) -> VBinaryOp
+    ensures { result ≡ operator_of op }
+{
+    match op {
+        BinOp::And => VBinaryOp::And,
+        BinOp::Or => VBinaryOp::Or,
+        BinOp::Xor => VBinaryOp::Xor,
+        BinOp::Xnor => VBinaryOp::Xnor,
+        BinOp::Add => VBinaryOp::Add,
+        BinOp::Sub => VBinaryOp::Sub,
+        BinOp::Mul => VBinaryOp::Mul,
+        BinOp::Div => VBinaryOp::Div,
+        BinOp::Rem => VBinaryOp::Rem,
+    }
 }
 
 /// An expression.
@@ -53,7 +93,10 @@ fn lower_expr(alloc: Global, signals: &[Signal], expr: &Expr) -> Result<VExpr, A
         Expr::Single(operand) => {
             let of = lower_primary(alloc, signals, &operand.primary)?;
             if operand.inverted {
-                Ok(VExpr::Unary { op: UnOp::Not, of })
+                Ok(VExpr::Unary {
+                    op: VUnaryOp::Not,
+                    of,
+                })
             } else {
                 Ok(VExpr::Prim(of))
             }
@@ -62,7 +105,7 @@ fn lower_expr(alloc: Global, signals: &[Signal], expr: &Expr) -> Result<VExpr, A
             let left = lower_operand(alloc, signals, left)?;
             let right = lower_operand(alloc, signals, right)?;
             Ok(VExpr::Binary {
-                op: *op,
+                op: operator(*op),
                 left,
                 right,
             })
@@ -70,12 +113,19 @@ fn lower_expr(alloc: Global, signals: &[Signal], expr: &Expr) -> Result<VExpr, A
     }
 }
 
-/// The statements of a block, or a statement alone.
+/// A block without a name.
+fn block(stmts: VStmts) -> VStmt
+    ensures { result ≡ Block None stmts }
+{
+    VStmt::Block { label: None, stmts }
+}
+
+/// The statements of a block without a name, or a statement alone.
 fn lines(alloc: Global, stmt: VStmt) -> Result<VStmts, AllocError>
     ensures { IfOk result (λ ss. ss ≡ lines stmt) }
 {
     match stmt {
-        VStmt::Block(stmts) => Ok(stmts),
+        VStmt::Block { label: None, stmts } => Ok(stmts),
         other => {
             let mut stmts = Items::new(alloc);
             stmts.push(other)?;
@@ -88,7 +138,7 @@ fn lines(alloc: Global, stmt: VStmt) -> Result<VStmts, AllocError>
 fn block_of(alloc: Global, stmt: VStmt) -> Result<VBranch, AllocError>
     ensures { IfOk result (λ b. b ≡ branch stmt) }
 {
-    let block = VStmt::Block(lines(alloc, stmt)?);
+    let block = block(lines(alloc, stmt)?);
     Ok(VBranch::Statement(Boxed::new(alloc, block)?))
 }
 
@@ -98,7 +148,7 @@ fn lower_stmt(alloc: Global, signals: &[Signal], stmt: &Stmt) -> Result<VStmt, A
     ensures { IfOk result (λ s. s ≡ lowered_stmt signals.now stmt.now) }
 {
     match stmt {
-        Stmt::Block(stmts) => Ok(VStmt::Block(lower_each(alloc, signals, stmts.as_slice())?)),
+        Stmt::Block(stmts) => Ok(block(lower_each(alloc, signals, stmts.as_slice())?)),
         Stmt::If { on, body, other } => {
             let on = lower_expr(alloc, signals, on)?;
             let then = lower_branch(alloc, signals, body.get())?;
@@ -109,7 +159,7 @@ fn lower_stmt(alloc: Global, signals: &[Signal], stmt: &Stmt) -> Result<VStmt, A
             Ok(VStmt::If { on, then, other })
         }
         Stmt::Assign { to, value, later } => {
-            let target = name(alloc, signals, *to)?;
+            let target = whole_target(alloc, name(alloc, signals, *to)?);
             let value = lower_expr(alloc, signals, value)?;
             Ok(VStmt::Assign {
                 target,
@@ -145,7 +195,7 @@ fn lower_branch(alloc: Global, signals: &[Signal], stmt: &Stmt) -> Result<VBranc
 fn trigger_line(alloc: Global) -> Result<VStmt, AllocError>
     ensures { IfOk result (λ s. s ≡ reads_trigger) }
 {
-    let name = VPrim::Name(Text::from_bytes(alloc, b"sv2v_t")?);
+    let name = whole_name(alloc, Text::from_bytes(alloc, b"sv2v_t")?);
     Ok(VStmt::If {
         on: VExpr::Prim(name),
         then: VBranch::Empty,
@@ -160,7 +210,7 @@ fn with_trigger(alloc: Global, stmt: VStmt) -> Result<VBranch, AllocError>
     let mut stmts = Items::new(alloc);
     stmts.push(trigger_line(alloc)?)?;
     stmts.append(lines(alloc, stmt)?)?;
-    Ok(VBranch::Statement(Boxed::new(alloc, VStmt::Block(stmts))?))
+    Ok(VBranch::Statement(Boxed::new(alloc, block(stmts))?))
 }
 
 /// The edges of an `always`.
@@ -183,22 +233,22 @@ pub fn lower_process(
     alloc: Global,
     signals: &[Signal],
     process: &Process,
-) -> Result<VItem, AllocError>
+) -> Result<VProcess, AllocError>
     requires { KindFits signals.now process.now.kind process.now.body }
-    ensures { IfOk result (λ item. item ≡ lowered_process signals.now process.now) }
+    ensures { IfOk result (λ lowered. lowered ≡ lowered_process signals.now process.now) }
 {
     match &process.kind {
         ProcessKind::Continuous => lower_driver(alloc, signals, &process.body),
         ProcessKind::Comb => {
             let stmt = lower_stmt(alloc, signals, &process.body)?;
-            Ok(VItem::Always {
+            Ok(VProcess::Always {
                 on: VSensitivity::Star,
                 body: with_trigger(alloc, stmt)?,
             })
         }
         ProcessKind::Edges(edges) => {
             let edges = lower_edges(alloc, signals, edges.as_slice())?;
-            Ok(VItem::Always {
+            Ok(VProcess::Always {
                 on: VSensitivity::Edges(edges),
                 body: lower_branch(alloc, signals, &process.body)?,
             })
@@ -207,13 +257,13 @@ pub fn lower_process(
 }
 
 /// A continuous assignment.
-fn lower_driver(alloc: Global, signals: &[Signal], body: &Stmt) -> Result<VItem, AllocError>
+fn lower_driver(alloc: Global, signals: &[Signal], body: &Stmt) -> Result<VProcess, AllocError>
     requires { KindFits signals.now Continuous body.now }
-    ensures { IfOk result (λ item. item ≡ driver_of signals.now body.now) }
+    ensures { IfOk result (λ lowered. lowered ≡ driver_of signals.now body.now) }
 {
     match body {
-        Stmt::Assign { to, value, .. } => Ok(VItem::Assign {
-            target: name(alloc, signals, *to)?,
+        Stmt::Assign { to, value, .. } => Ok(VProcess::Assign {
+            target: whole_target(alloc, name(alloc, signals, *to)?),
             value: lower_expr(alloc, signals, value)?,
         }),
         Stmt::Block(_) | Stmt::If { .. } => unreachable!(),

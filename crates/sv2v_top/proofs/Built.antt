@@ -16,8 +16,8 @@ use Rattle.sv_core.specs.declared.design.Process.{Process}
 use Rattle.sv_core.specs.declared.design.Expr.{Expr as TypedExpr}
 use Rattle.sv_core.specs.Statements.{doing}
 use Rattle.lower_design.specs.Translatable.{is_helper_name, path_of, is_input, IsVariable, IsSignal, PrimaryFits, ExprFits, inside, targets_of, KindFits, is_comb, Translatable}
-use Rattle.v_core.specs.Names.{among, distinct, position}
-use Rattle.v_core.specs.Tokens.{is_simple}
+use Rattle.v_tree.specs.Names.{among, distinct, position}
+use Rattle.v_tree.specs.Tokens.{is_simple}
 use Rattle.sv2v_top.specs.declared.uses.Use.{Use}
 use Rattle.sv2v_top.specs.declared.uses.Literal.{Literal}
 use Rattle.built_forms.specs.declared.forms.Direction.{Direction}

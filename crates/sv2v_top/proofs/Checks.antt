@@ -11,7 +11,7 @@ use Rattle.sv_core.specs.declared.design.SignalKind.{SignalKind}
 use Rattle.sv_core.specs.declared.design.SignalKind.TheVariants.{InputNet, OutputVar, Variable}
 use Rattle.sv_core.specs.declared.design.Signal.{Signal}
 use Rattle.lower_design.specs.Translatable.{is_helper_name}
-use Rattle.v_core.specs.Names.{among}
+use Rattle.v_tree.specs.Names.{among}
 use Rattle.sv2v_top.specs.declared.uses.Use.{Use}
 use Rattle.sv2v_top.specs.declared.uses.Role.{Role}
 use Rattle.sv2v_top.specs.declared.uses.Role.TheVariants.{Target, Read, Clock}

@@ -7,7 +7,7 @@ use Rattle.sv_source.specs.declared.refusal.Fail.TheVariants.{Memory, Refused}
 use Rattle.sv_source.specs.declared.refusal.Refusal.{Refusal}
 use Rattle.sv_macro.specs.Tokens.{is_name_kind}
 use Rattle.lower_design.specs.Translatable.{Translatable}
-use Rattle.v_core.specs.Tokens.{is_simple}
+use Rattle.v_tree.specs.Tokens.{is_simple}
 use Rattle.sv_core.specs.declared.design.Design.{Design}
 use Rattle.sv_tree.specs.declared.units.SourceTree.{SourceTree}
 use Rattle.sv_build.specs.Reading.{Reads, ReadingGives}

@@ -6,6 +6,7 @@ pub mod Checks
 pub mod Parts
 pub mod Processes
 pub mod Readable
+pub mod Reserved
 pub mod SimpleNames
 pub mod SourceNames
 pub mod Built

@@ -6,8 +6,8 @@ use Rattle.std.specs.Str.{bytes_eq}
 use Rattle.std.proofs.lemmas.Bool.{or_cases, or_left, or_right, false≢true}
 use Rattle.std.proofs.lemmas.Bool.Decides.{same_from_decides}
 use Rattle.std.proofs.lemmas.Slice.Eq.{bytes_eq-Decides}
-use Rattle.v_core.specs.Names.{among, position}
-use Rattle.v_core.specs.Names.{distinct}
+use Rattle.v_tree.specs.Names.{among, position}
+use Rattle.v_tree.specs.Names.{distinct}
 use Rattle.sv2v_top.specs.source.Lookup.{first_number}
 use Rattle.sv2v_top.proofs.Names.{pick_true, pick_false, true_or_false, bytes_same}
 

@@ -20,7 +20,7 @@ use Rattle.built_forms.specs.declared.forms.Stmt.{Stmt, Stmt-F, ind-Stmt, roll-S
 use Rattle.built_forms.specs.declared.forms.Stmt.TheVariants.{Block, If, rolls-Block, rolls-If, rolls-Assign}
 use Rattle.built_forms.specs.declared.forms.Stmt.TheVariants as T
 use Rattle.sv2v_top.specs.source.Statements.{primary_uses, expr_uses, expr_literals, Parts, none, sequence, choice, assignment, parts, if_target, targets_in, if_read, reads_in}
-use Rattle.v_core.specs.Names.{position}
+use Rattle.v_tree.specs.Names.{position}
 use Rattle.sv2v_top.specs.source.Elaboration.{primary_of, expr_of, assign_of, stmt_of}
 use Rattle.sv2v_top.proofs.Names.{append-nil, member-unmap}
 use Rattle.sv2v_top.proofs.Checks.{map-append}

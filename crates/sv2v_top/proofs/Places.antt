@@ -11,7 +11,7 @@ use Rattle.built_forms.specs.declared.forms.Module.{Module}
 use Rattle.sv2v_top.specs.declared.uses.Use.{Use}
 use Rattle.sv2v_top.specs.declared.uses.Role.{Role}
 use Rattle.sv2v_top.specs.declared.uses.Role.TheVariants.{Target, Read, Clock}
-use Rattle.v_core.specs.Names.{among}
+use Rattle.v_tree.specs.Names.{among}
 use Rattle.sv2v_top.specs.source.Statements.{if_target, targets_in, targets, item_parts}
 use Rattle.sv2v_top.specs.source.Names.{undeclared, undeclared_in, first_undeclared, name_of, declared_by, port_names}
 use Rattle.sv2v_top.specs.source.Rules.{refused_at, write_break, writes_break, always_written, target_words, processes_break, first_process_break, is_top, elaborates, is_built}

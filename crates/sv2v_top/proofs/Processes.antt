@@ -14,7 +14,7 @@ use Rattle.sv_core.specs.declared.design.EdgeOn.{EdgeOn}
 use Rattle.sv_core.specs.declared.design.Process.{Process}
 use Rattle.sv_core.specs.Statements.{doing}
 use Rattle.lower_design.specs.Translatable.{inside, targets_of, OneDriver, EdgeFits, KindFits, is_comb}
-use Rattle.v_core.specs.Names.{among, position}
+use Rattle.v_tree.specs.Names.{among, position}
 use Rattle.sv2v_top.specs.declared.uses.Use.{Use}
 use Rattle.sv2v_top.specs.declared.uses.Role.{Role}
 use Rattle.sv2v_top.specs.declared.uses.Role.TheVariants.{Target, Read, Clock}

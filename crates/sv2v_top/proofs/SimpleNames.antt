@@ -1,7 +1,6 @@
 -- A name token of a source text is a simple name of a target text.
 use Rattle.std.proofs.Common.{◌≡◌, ℕ, zero, suc, ◌+◌, ◌-◌, ◌<◌, inl, inr, Bool, true, false, not, cond, ◌&&◌, nat_lt, Option, Some, None, List, [], ◌∷◌, length, take, fold, refl, sym, ap, subst, ◌∙◌, add-one, arith}
-use Rattle.std.specs.List.{list_all, list_any, take_while}
-use Rattle.std.specs.Str.{bytes_eq}
+use Rattle.std.specs.List.{list_all, take_while}
 use Rattle.std.proofs.lemmas.List.Sums.{take_while-cons}
 use Rattle.row_machine.specs.Valuation.{Member}
 use Rattle.sv_source.specs.declared.token.Kind.{Kind}
@@ -11,19 +10,12 @@ use Rattle.sv_source.specs.declared.token.Token.{Token}
 use Rattle.sv_lexer.specs.declared.piece.Piece.{Piece}
 use Rattle.sv_lexer.specs.Spans.{white_span, name_span, run}
 use Rattle.sv_lexer.specs.Pieces.{gap, longer, pieces, longest}
-use Rattle.sv_lexer.specs.Tables.{reserved_words as source_words, is_reserved as is_source_reserved}
+use Rattle.sv_lexer.specs.Tables.{is_reserved as is_source_reserved}
 use Rattle.sv_lexer.specs.Lexing.{behind_byte, kind_of, token_of, tokens_from, tokens_of}
-use Rattle.v_core.specs.Reserved.{reserved_words as target_words, is_reserved}
-use Rattle.v_core.specs.Tokens.{is_letter, is_word, is_simple}
+use Rattle.v_tree.specs.Reserved.{is_reserved}
+use Rattle.v_tree.specs.Tokens.{is_letter, is_word, is_simple}
 use Rattle.sv2v_top.proofs.Names.{member-split}
-
--- source and target have the same reserved words
-words-agree : source_words ≡ target_words
-unfolding source_words target_words
-words-agree = refl
-
-reserved-agree : (name : List ℕ) → is_source_reserved name ≡ is_reserved name
-reserved-agree name = ap (λ words. list_any (λ word. bytes_eq word name) words) words-agree
+use Rattle.sv2v_top.proofs.Reserved.{unreserved}
 
 -- a piece of the kind of a name has this length
 abbrev NamesBy : ℕ → Piece → Type 0
@@ -97,7 +89,7 @@ piece-simple (Some kind) n c cs place t names (inl same) some e =
     let front : t.text ≡ take n (c ∷ cs) = ap (λ (u : Token). u.text) same in
     let parts = kind-name kind (take n (c ∷ cs)) (sym (ap (λ (u : Token). u.kind) same) ∙ e) in
     simple-front c cs t.text (front ∙ ap (λ k. take k (c ∷ cs)) (names (ap Some parts.0))) some
-    (ap is_reserved front ∙ sym (reserved-agree (take n (c ∷ cs))) ∙ parts.1)
+    (ap is_reserved front ∙ unreserved (take n (c ∷ cs)) parts.1)
 piece-simple (Some kind) n c cs place t names (inr m) some e = elim m [ ]
 
 from-simple : (inside : ℕ) (place : Place) (bytes : List ℕ) (t : Token) → Member (tokens_from inside place bytes) t → 0 < length t.text → t.kind ≡ Name → is_simple t.text ≡ true

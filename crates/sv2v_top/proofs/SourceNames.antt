@@ -18,7 +18,7 @@ use Rattle.sv_preproc.proofs.Kept.{kept}
 use Rattle.command_line.specs.declared.part.Part.{Part}
 use Rattle.command_line.specs.declared.words.Asked.{Asked}
 use Rattle.command_line.specs.Words.{name_before, body_behind, is_simple_name, is_body, define_of, each, prepended, only_top, with_parts, asked_by, asked, are_few, part_of, joined, macro_in, directory_in, file_in, top_in, isnt_empty}
-use Rattle.v_core.specs.Tokens.{is_simple}
+use Rattle.v_tree.specs.Tokens.{is_simple}
 use Rattle.sv2v_top.specs.Tokens.{is_simply_named, NamesAreSimple, BodiesAreSimple}
 use Rattle.sv2v_top.proofs.SimpleNames.{name-is-simple}
 

@@ -4,7 +4,7 @@ use Rattle.std.specs.List.{All}
 use Rattle.sv_source.specs.declared.token.Token.{Token}
 use Rattle.sv_macro.specs.Tokens.{is_name}
 use Rattle.sv_preproc.specs.declared.settings.Define.{Define}
-use Rattle.v_core.specs.Tokens.{is_simple}
+use Rattle.v_tree.specs.Tokens.{is_simple}
 
 -- the text of a name is a simple name of the target language
 abbrev pub is_simply_named : Token → Bool

@@ -7,11 +7,11 @@ use Rattle.sv_source.specs.declared.refusal.Refusal.{Refusal}
 use Rattle.sv_source.specs.declared.refusal.Fail.{Fail}
 use Rattle.sv_source.specs.declared.refusal.Fail.TheVariants.{Memory, Refused}
 use Rattle.sv_core.specs.declared.design.Design.{Design}
-use Rattle.v_core.specs.declared.tree.VDesign.{VDesign}
+use Rattle.v_tree.specs.declared.items.VDesign.{VDesign}
 use Rattle.sv_tree.specs.declared.units.SourceTree.{SourceTree}
 use Rattle.sv_build.specs.Reading.{Reads, SyntaxBreak}
 use Rattle.sv2v_top.specs.source.Answers.{tree_refusal, Elaborated}
-use Rattle.v_core.specs.Reading.{VReads}
+use Rattle.v_tree.specs.Reading.{VReads}
 use Rattle.lower_design.specs.Lowering.{Lowers}
 
 -- the tokens are accepted, and elaborate to this design

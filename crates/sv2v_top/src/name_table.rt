@@ -2,7 +2,7 @@
 
 ghost use Rattle.std.specs.Prelude.{◌≡◌, ◌^◌, ◌-◌, ◌<◌, ◌++◌, ◌∷◌, [], List, ℕ, OnOk};
 ghost use Rattle.sv2v_top.specs.source.Lookup.{Numbers, number_in};
-ghost use Rattle.v_core.specs.Names.{position};
+ghost use Rattle.v_tree.specs.Names.{position};
 
 use indexmap::IndexMap;
 use std::alloc::{AllocError, Global};

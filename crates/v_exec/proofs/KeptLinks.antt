@@ -1,12 +1,10 @@
 -- What is connected to the inputs of children does no arithmetic on over 128 bits.
 use Rattle.std.proofs.Common.{◌≡◌, ℕ, suc, ◌+◌, ◌≤◌, max, Bool, true, false, cond, List, [], ◌∷◌, ◌++◌, Option, Some, None, refl, ap, sym, ◌∙◌, subst}
-use Rattle.std.specs.Prelude.{nat_le, if◌then◌else◌}
+use Rattle.std.specs.Prelude.{if◌then◌else◌}
 use Rattle.std.specs.List.{list_all}
 use Rattle.std.specs.Str.{bytes_eq}
 use Rattle.v_tree.specs.Names.{Name, among}
-use Rattle.v_tree.specs.Grammatical.{fit, is_perhaps, is_expr, is_connection}
-use Rattle.v_tree.specs.Tokens.{is_name}
-use Rattle.v_tree.specs.Reading.{nesting_limit}
+use Rattle.v_tree.specs.Grammatical.{is_perhaps}
 use Rattle.v_tree.specs.ExprRules.{Around, only_if, alone, rules_of}
 use Rattle.v_tree.specs.Rules.{Port, ports_by, ports_of, port_named, signal_size, item_size, value_size, connected, connections_broken}
 use Rattle.v_tree.specs.declared.expressions.VExpr.{VExpr}
@@ -20,6 +18,7 @@ use Rattle.v_meaning.specs.Scopes as M
 use Rattle.v_meaning.specs.Scopes.{all_bits}
 use Rattle.v_meaning.specs.Modules.{Kind, input_net, net, variable, Signal, signal, signals, numbered, kind_of}
 use Rattle.v_eval.specs.Limits.{limits, most_given}
+use Rattle.v_selects.specs.Few.{few_of_expr, few_of_connection}
 use Rattle.v_exec.specs.Agreeing.{Agrees}
 use Rattle.v_exec.specs.Keeping.{LinkNarrow, LinksNarrow}
 use Rattle.v_exec.proofs.KeptExprs.{left-none, right-none, both-yes}
@@ -77,7 +76,7 @@ then-none : (b : Bool) (xs ys : List ℕ) → b ≡ true → (if b then xs else 
 then-none true xs ys h none = none
 then-none false xs ys h none = absurd (cc)
 
-given-narrow : (around : Around) (sc : M.Scope) (o : Option Port) (n : M.Named) (x : VExpr) (at : ℕ) → Agrees around sc → (fit x).fits ≡ true → IsInputPort o n → connected around o (Some x) at ≡ [] → most_given (all_bits n) (limits x) sc ≤ 128
+given-narrow : (around : Around) (sc : M.Scope) (o : Option Port) (n : M.Named) (x : VExpr) (at : ℕ) → Agrees around sc → few_of_expr x ≡ true → IsInputPort o n → connected around o (Some x) at ≡ [] → most_given (all_bits n) (limits x) sc ≤ 128
 given-narrow around sc None n x at agree fits h none = absurd h
 given-narrow around sc (Some p) n x at agree fits h none =
     let r = rules_of x in
@@ -86,19 +85,19 @@ given-narrow around sc (Some p) n x at agree fits h none =
     let same : max (all_bits n) ((limits x).wide sc) ≡ max p.width (r.width around) = ap (λ w. max w ((limits x).wide sc)) h.1 ∙ ap (max p.width) k.0 in
     subst (λ w. (limits x).most w sc ≤ 128) (sym same) k.1
 
-link-narrow : (around : Around) (sc : M.Scope) (js : List VItem) (v : Option VExpr) (port : Name) (at : ℕ) → Agrees around sc → is_perhaps is_expr v ≡ true → connected around (port_named (ports_of js 0) port) v at ≡ [] → LinkNarrow sc js v port
+link-narrow : (around : Around) (sc : M.Scope) (js : List VItem) (v : Option VExpr) (port : Name) (at : ℕ) → Agrees around sc → is_perhaps few_of_expr v ≡ true → connected around (port_named (ports_of js 0) port) v at ≡ [] → LinkNarrow sc js v port
 link-narrow around sc js None port at agree fits none = tt
 link-narrow around sc js (Some x) port at agree fits none =
-    λ n e. given-narrow around sc (port_named (ports_of js 0) port) (M.named (numbered n (signals js)) port) x at agree (both-yes (fit x).fits (nat_le (fit x).depth nesting_limit) fits).0 (input-port js 0 n port e) none
+    λ n e. given-narrow around sc (port_named (ports_of js 0) port) (M.named (numbered n (signals js)) port) x at agree fits (input-port js 0 n port e) none
 
-pub links-narrow : (around : Around) (sc : M.Scope) (js : List VItem) (seen : List Name) (cs : List VConnection) (at : ℕ) → Agrees around sc → list_all is_connection cs ≡ true → connections_broken around (ports_of js 0) seen cs at ≡ [] → LinksNarrow sc js cs
+pub links-narrow : (around : Around) (sc : M.Scope) (js : List VItem) (seen : List Name) (cs : List VConnection) (at : ℕ) → Agrees around sc → list_all few_of_connection cs ≡ true → connections_broken around (ports_of js 0) seen cs at ≡ [] → LinksNarrow sc js cs
 links-narrow around sc js seen [] at agree fits none = tt
 links-narrow around sc js seen (c ∷ cs) at agree fits none =
-    let b = both-yes (is_connection c) (list_all is_connection cs) fits in
+    let b = both-yes (few_of_connection c) (list_all few_of_connection cs) fits in
     let first = only_if (among seen c.port) (suc at) in
     let second = connected around (port_named (ports_of js 0) c.port) c.value at in
     let third = connections_broken around (ports_of js 0) (c.port ∷ seen) cs (at + (5 + value_size c.value)) in
     let rest = right-none first (second ++ third) none in (
-      link-narrow around sc js c.value c.port at agree (both-yes (is_name c.port) (is_perhaps is_expr c.value) b.0).1 (left-none second third rest),
+      link-narrow around sc js c.value c.port at agree b.0 (left-none second third rest),
       links-narrow around sc js (c.port ∷ seen) cs (at + (5 + value_size c.value)) agree b.1 (right-none second third rest),
     )

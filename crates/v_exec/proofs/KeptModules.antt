@@ -1,12 +1,10 @@
 -- The functions and processes of a module that breaks no rule of the grammar do no arithmetic on over 128 bits.
-use Rattle.std.proofs.Common.{◌≡◌, ℕ, zero, suc, ◌+◌, ◌≤◌, max, Bool, true, false, ◌&&◌, cond, List, [], ◌∷◌, ◌++◌, append_assoc, length, map, Option, Some, None, refl, arith, ap, sym, ◌∙◌, subst}
-use Rattle.std.specs.Prelude.{nat_le, if◌then◌else◌}
+use Rattle.std.proofs.Common.{◌≡◌, ℕ, zero, suc, ◌+◌, ◌≤◌, max, Bool, true, false, cond, List, [], ◌∷◌, ◌++◌, append_assoc, length, map, Option, Some, None, refl, arith, ap, sym, ◌∙◌, subst}
+use Rattle.std.specs.Prelude.{if◌then◌else◌}
 use Rattle.std.specs.List.{list_all}
 use Rattle.std.specs.Str.{bytes_eq}
 use Rattle.std.proofs.lemmas.Slice.Eq.{bytes_eq-Decides}
 use Rattle.v_tree.specs.Names.{Name}
-use Rattle.v_tree.specs.Grammatical.{is_connection, is_module, is_of_grammar, fit, fit_of_lval, form_of_stmt, form_of_branch, is_item, is_expr, is_lval, is_stmt, is_branch, is_function, is_sensitivity, has_some, is_declared as has_names, is_local}
-use Rattle.v_tree.specs.Reading.{nesting_limit}
 use Rattle.v_tree.specs.Scopes as D
 use Rattle.v_tree.specs.Scopes.{input, net, variable, Thing, value, memory, function, result, part, Declared, bits_of, has_range, repeated, is_declared}
 use Rattle.v_tree.specs.ExprRules.{Around, only_if, rules_of}
@@ -45,7 +43,9 @@ use Rattle.v_exec.specs.Modules as N
 use Rattle.v_exec.specs.Modules.{signals_in, FunctionsNarrow}
 use Rattle.v_eval.specs.declared.modules.Module.{Module}
 use Rattle.v_tree.specs.declared.items.VDesign.{VDesign}
-use Rattle.v_tree.specs.Tokens.{is_name}
+use Rattle.v_selects.specs.Few.{few_of_expr, few_of_lval, few_of_stmt, few_of_branch, few_of_connection, few_of_item, few_of_module, few_of_design}
+use Rattle.v_tree.specs.Reading.{VReads}
+use Rattle.v_selects.proofs.Derivations.{spelled-few}
 use Rattle.v_exec.proofs.KeptExprs.{left-none, right-none, both-yes}
 use Rattle.v_exec.proofs.KeptLinks.{links-narrow}
 use Rattle.v_exec.proofs.KeptStmts.{expr-kept, target-kept}
@@ -204,37 +204,35 @@ finds-behind all f d before is named finds name fresh =
     finds name h.1 ∙ ap (λ b. cond b (Some f) (find (functions is) name)) (ap (λ (k : Name). bytes_eq k name) (sym named) ∙ h.0)
 
 -- the functions
-function-kept : (around : Around) (sc : M.Scope) (links : List R.Link) (f : VFunction) (at : ℕ) → Agrees around sc → ((name : Name) → bytes_eq f.name name ≡ true → IsFunction (bits_of f.range) (input_bits f) (sc.callee name)) → is_function f ≡ true
+function-kept : (around : Around) (sc : M.Scope) (links : List R.Link) (f : VFunction) (at : ℕ) → Agrees around sc → ((name : Name) → bytes_eq f.name name ≡ true → IsFunction (bits_of f.range) (input_bits f) (sc.callee name)) → few_of_stmt f.body ≡ true
     → function_broken around.scope links f at ≡ [] → stmt_most f.body (scope_in f sc) ≤ 128
 function-kept around sc links f at agree own fits none =
     let leads_back : Name → Bool = λ g. leads (length links) links g f.name in
     let names = function_names f at in
     let inner : Around = record { scope = D.inside names around.scope; leads_back = leads_back } in
     let from = at + (3 + (range_size f.range + (locals_size f.inputs + locals_size f.locals))) in
-    let body = both-yes (has_names f.range f.name && has_some f.inputs && list_all is_local f.inputs && list_all is_local f.locals) (is_stmt f.body) fits in
-    let form = both-yes (form_of_stmt f.body).fits (nat_le (form_of_stmt f.body).depth nesting_limit) body.1 in
-    (stmt-good f.body).1 form.0 inner (scope_in f sc) in_function from (function-agrees f at around leads_back sc agree own) (right-none (repeated [] names) ((rules_of_stmt f.body).broken in_function inner from) none)
+    (stmt-good f.body).1 fits inner (scope_in f sc) in_function from (function-agrees f at around leads_back sc agree own) (right-none (repeated [] names) ((rules_of_stmt f.body).broken in_function inner from) none)
 
 functions-kept : (ms : List VModule) (m : VModule) (around : Around) (sc : M.Scope) (all : List VFunction) (is : List VItem) (at : ℕ) (before : List Declared) → Agrees around sc
-    → ((name : Name) (f : VFunction) → find all name ≡ Some f → IsFunction (bits_of f.range) (input_bits f) (sc.callee name)) → Finds all before is → repeated before (declared_in is at) ≡ [] → list_all is_item is ≡ true
+    → ((name : Name) (f : VFunction) → find all name ≡ Some f → IsFunction (bits_of f.range) (input_bits f) (sc.callee name)) → Finds all before is → repeated before (declared_in is at) ≡ [] → list_all few_of_item is ≡ true
     → items_broken ms m around is at ≡ [] → functions_most is sc ≤ 128
 functions-kept ms m around sc all [] at before agree calls finds once fits none = omega arith
 functions-kept ms m around sc all (I.Signal s ∷ is) at before agree calls finds once fits none =
     functions-kept ms m around sc all is (at + item_size (I.Signal s)) (added (declared_by (I.Signal s) at) before) agree calls (λ name fresh. finds name (declared-before (declared_by (I.Signal s) at) before name fresh))
-    (repeated-behind (declared_by (I.Signal s) at) (declared_in is (at + item_size (I.Signal s))) before once) (both-yes (is_item (I.Signal s)) (list_all is_item is) fits).1
+    (repeated-behind (declared_by (I.Signal s) at) (declared_in is (at + item_size (I.Signal s))) before once) (both-yes (few_of_item (I.Signal s)) (list_all few_of_item is) fits).1
     (right-none (item_broken ms m around (I.Signal s) at) (items_broken ms m around is (at + item_size (I.Signal s))) none)
 functions-kept ms m around sc all (I.Initial s ∷ is) at before agree calls finds once fits none =
-    functions-kept ms m around sc all is (at + item_size (I.Initial s)) before agree calls finds once (both-yes (is_item (I.Initial s)) (list_all is_item is) fits).1
+    functions-kept ms m around sc all is (at + item_size (I.Initial s)) before agree calls finds once (both-yes (few_of_item (I.Initial s)) (list_all few_of_item is) fits).1
     (right-none (item_broken ms m around (I.Initial s) at) (items_broken ms m around is (at + item_size (I.Initial s))) none)
 functions-kept ms m around sc all (I.Process p ∷ is) at before agree calls finds once fits none =
     functions-kept ms m around sc all is (at + item_size (I.Process p)) (added (declared_by (I.Process p) at) before) agree calls (λ name fresh. finds name (declared-before (declared_by (I.Process p) at) before name fresh))
-    (repeated-behind (declared_by (I.Process p) at) (declared_in is (at + item_size (I.Process p))) before once) (both-yes (is_item (I.Process p)) (list_all is_item is) fits).1
+    (repeated-behind (declared_by (I.Process p) at) (declared_in is (at + item_size (I.Process p))) before once) (both-yes (few_of_item (I.Process p)) (list_all few_of_item is) fits).1
     (right-none (item_broken ms m around (I.Process p) at) (items_broken ms m around is (at + item_size (I.Process p))) none)
 functions-kept ms m around sc all (I.Function f ∷ is) at before agree calls finds once fits none =
     let d : Declared = record { name = f.name; token = function_token f at; thing = function (bits_of f.range) (input_bits f) } in
     let rest = declared_in is (at + item_size (I.Function f)) in
     let fresh = if-none (is_declared before f.name) d.token (repeated (d ∷ before) rest) (repeated (d ∷ before) rest) once in
-    let item = both-yes (is_item (I.Function f)) (list_all is_item is) fits in
+    let item = both-yes (few_of_item (I.Function f)) (list_all few_of_item is) fits in
     let own = function-kept around sc (function_links around.scope m.items) f at agree (λ name same. calls name f (found-here all f before is name finds fresh.0 same)) item.0
     (left-none (item_broken ms m around (I.Function f) at) (items_broken ms m around is (at + item_size (I.Function f))) none) in
     let others = functions-kept ms m around sc all is (at + item_size (I.Function f)) (d ∷ before) agree calls (finds-behind all f d before is refl finds) fresh.1 item.1
@@ -242,11 +240,11 @@ functions-kept ms m around sc all (I.Function f ∷ is) at before agree calls fi
     omega (arith, own, others)
 functions-kept ms m around sc all (I.Instance s ∷ is) at before agree calls finds once fits none =
     functions-kept ms m around sc all is (at + item_size (I.Instance s)) (added (declared_by (I.Instance s) at) before) agree calls (λ name fresh. finds name (declared-before (declared_by (I.Instance s) at) before name fresh))
-    (repeated-behind (declared_by (I.Instance s) at) (declared_in is (at + item_size (I.Instance s))) before once) (both-yes (is_item (I.Instance s)) (list_all is_item is) fits).1
+    (repeated-behind (declared_by (I.Instance s) at) (declared_in is (at + item_size (I.Instance s))) before once) (both-yes (few_of_item (I.Instance s)) (list_all few_of_item is) fits).1
     (right-none (item_broken ms m around (I.Instance s) at) (items_broken ms m around is (at + item_size (I.Instance s))) none)
 
 -- the processes
-assign-narrow : (around : Around) (sc : M.Scope) (to : VLval) (x : VExpr) (at : ℕ) → Agrees around sc → is_lval to ≡ true → is_expr x ≡ true → process_broken around (Assign to x) at ≡ []
+assign-narrow : (around : Around) (sc : M.Scope) (to : VLval) (x : VExpr) (at : ℕ) → Agrees around sc → few_of_lval to ≡ true → few_of_expr x ≡ true → process_broken around (Assign to x) at ≡ []
     → (target_most to sc ≤ 128) × (most_given ((target to).width sc) (limits x) sc ≤ 128)
 assign-narrow around sc to x at agree fits good none =
     let t = target_of to in
@@ -254,17 +252,17 @@ assign-narrow around sc to x at agree fits good none =
     let first = t.broken around (suc at) in
     let second = t.by_assign around (suc at) in
     let third = r.broken around (max (t.width around) (r.width around)) (at + (2 + t.size)) in
-    let a = target-kept around sc agree to (both-yes (fit_of_lval to).fits (nat_le (fit_of_lval to).depth nesting_limit) fits).0 (suc at) (left-none first (second ++ third) none) in
-    let b = expr-kept around sc agree x (both-yes (fit x).fits (nat_le (fit x).depth nesting_limit) good).0 (max (t.width around) (r.width around)) (at + (2 + t.size)) (right-none second third (right-none first (second ++ third) none)) in
+    let a = target-kept around sc agree to fits (suc at) (left-none first (second ++ third) none) in
+    let b = expr-kept around sc agree x good (max (t.width around) (r.width around)) (at + (2 + t.size)) (right-none second third (right-none first (second ++ third) none)) in
     let same : max ((target to).width sc) ((limits x).wide sc) ≡ max (t.width around) (r.width around) = ap (λ n. max n ((limits x).wide sc)) a.0 ∙ ap (max (t.width around)) b.0 in
     (a.1, subst (λ n. (limits x).most n sc ≤ 128) (sym same) b.1)
 
-always-narrow : (around : Around) (sc : M.Scope) (on : VSensitivity) (body : VBranch) (at : ℕ) → Agrees around sc → is_branch body ≡ true → process_broken around (Always on body) at ≡ [] → branch_most body sc ≤ 128
+always-narrow : (around : Around) (sc : M.Scope) (on : VSensitivity) (body : VBranch) (at : ℕ) → Agrees around sc → few_of_branch body ≡ true → process_broken around (Always on body) at ≡ [] → branch_most body sc ≤ 128
 always-narrow around sc Star body at agree fits none =
-    (branch-good body).1 (both-yes (form_of_branch body).fits (nat_le (form_of_branch body).depth nesting_limit) fits).0 around sc at_star (at + 3) agree none
+    (branch-good body).1 fits around sc at_star (at + 3) agree none
 always-narrow around sc (Edges es) body at agree fits none =
     let from = at + (2 + event_size (Edges es)) in
-    (branch-good body).1 (both-yes (form_of_branch body).fits (nat_le (form_of_branch body).depth nesting_limit) fits).0 around sc at_edges from agree
+    (branch-good body).1 fits around sc at_edges from agree
     (right-none (edges_broken around.scope es (at + 4)) ((rules_of_branch body).broken at_edges around from) none)
 
 named-here : (b : Bool) (m k : VModule) (o : Option VModule) (is : List VItem) → (if b then Some m else o) ≡ Some k → (o ≡ Some k → is ≡ k.items) → cond b m.items is ≡ k.items
@@ -275,26 +273,26 @@ items-named : (ms : List VModule) (name : Name) (k : VModule) → module_named m
 items-named [] name k e = absurd (cc)
 items-named (m ∷ ms) name k e = named-here (bytes_eq m.name name) m k (module_named ms name) (P.items_of ms name) e (items-named ms name k)
 
-child-narrow : (ms : List VModule) (around : Around) (sc : M.Scope) (i : VInstance) (o : Option VModule) (at : ℕ) → Agrees around sc → list_all is_connection i.connections ≡ true → module_named ms i.of ≡ o → child_broken around o i at ≡ []
+child-narrow : (ms : List VModule) (around : Around) (sc : M.Scope) (i : VInstance) (o : Option VModule) (at : ℕ) → Agrees around sc → list_all few_of_connection i.connections ≡ true → module_named ms i.of ≡ o → child_broken around o i at ≡ []
     → LinksNarrow sc (P.items_of ms i.of) i.connections
 child-narrow ms around sc i None at agree fits is none = absurd (cc)
 child-narrow ms around sc i (Some k) at agree fits is none =
     subst (λ js. LinksNarrow sc js i.connections) (sym (items-named ms i.of k is)) (links-narrow around sc k.items [] i.connections (at + 3) agree fits none)
 
-item-narrow : (ms : List VModule) (m : VModule) (around : Around) (sc : M.Scope) (i : VItem) (at : ℕ) → Agrees around sc → is_item i ≡ true → item_broken ms m around i at ≡ [] → ItemNarrow ms sc i
+item-narrow : (ms : List VModule) (m : VModule) (around : Around) (sc : M.Scope) (i : VItem) (at : ℕ) → Agrees around sc → few_of_item i ≡ true → item_broken ms m around i at ≡ [] → ItemNarrow ms sc i
 item-narrow ms m around sc (I.Signal s) at agree fits none = tt
 item-narrow ms m around sc (I.Initial s) at agree fits none = tt
 item-narrow ms m around sc (I.Process (Assign to x)) at agree fits none =
-    let b = both-yes (is_lval to) (is_expr x) fits in assign-narrow around sc to x at agree b.0 b.1 none
-item-narrow ms m around sc (I.Process (Always on body)) at agree fits none = always-narrow around sc on body at agree (both-yes (is_sensitivity on) (is_branch body) fits).1 none
+    let b = both-yes (few_of_lval to) (few_of_expr x) fits in assign-narrow around sc to x at agree b.0 b.1 none
+item-narrow ms m around sc (I.Process (Always on body)) at agree fits none = always-narrow around sc on body at agree fits none
 item-narrow ms m around sc (I.Function f) at agree fits none = tt
 item-narrow ms m around sc (I.Instance s) at agree fits none =
-    child-narrow ms around sc s (module_named ms s.of) at agree (both-yes (is_name s.of && is_name s.name) (list_all is_connection s.connections) fits).1 refl (right-none (only_if (leads (length ms) (module_links ms) s.of m.name) at) (child_broken around (module_named ms s.of) s at) none)
+    child-narrow ms around sc s (module_named ms s.of) at agree fits refl (right-none (only_if (leads (length ms) (module_links ms) s.of m.name) at) (child_broken around (module_named ms s.of) s at) none)
 
-items-narrow : (ms : List VModule) (m : VModule) (around : Around) (sc : M.Scope) (is : List VItem) (at : ℕ) → Agrees around sc → list_all is_item is ≡ true → items_broken ms m around is at ≡ [] → ItemsNarrow ms sc is
+items-narrow : (ms : List VModule) (m : VModule) (around : Around) (sc : M.Scope) (is : List VItem) (at : ℕ) → Agrees around sc → list_all few_of_item is ≡ true → items_broken ms m around is at ≡ [] → ItemsNarrow ms sc is
 items-narrow ms m around sc [] at agree fits none = tt
 items-narrow ms m around sc (i ∷ is) at agree fits none =
-    let b = both-yes (is_item i) (list_all is_item is) fits in (
+    let b = both-yes (few_of_item i) (list_all few_of_item is) fits in (
       item-narrow ms m around sc i at agree b.0 (left-none (item_broken ms m around i at) (items_broken ms m around is (at + item_size i)) none),
       items-narrow ms m around sc is (at + item_size i) agree b.1 (right-none (item_broken ms m around i at) (items_broken ms m around is (at + item_size i)) none),
     )
@@ -315,8 +313,8 @@ module-parts ms m at none =
     let rest = right-none third last (right-none second (third ++ last) (right-none (repeated [] list) (second ++ (third ++ last)) none)) in
     (left-none (repeated [] own) (items_broken ms m around m.items first) rest, right-none (repeated [] own) (items_broken ms m around m.items first) rest)
 
--- The functions and processes of a module that is of the grammar and breaks no rule.
-pub module-narrow : (ms : List VModule) (m : VModule) (at n d : ℕ) → list_all is_item m.items ≡ true → module_broken ms m at ≡ [] → ModuleNarrow ms n d m.items
+-- The functions and processes of a module that breaks no rule, with at most two selects behind each name.
+pub module-narrow : (ms : List VModule) (m : VModule) (at n d : ℕ) → list_all few_of_item m.items ≡ true → module_broken ms m at ≡ [] → ModuleNarrow ms n d m.items
 module-narrow ms m at n d fits none =
     let first = at + (3 + ports_size m.ports) in
     let around : Around = record { scope = D.inside (declared_in m.items first) D.nowhere; leads_back = λ f. false } in
@@ -335,19 +333,22 @@ narrow-if : (ms : List VModule) (b : Bool) (n d : ℕ) (is js : List VItem) → 
 narrow-if ms true n d is js h g = h
 narrow-if ms false n d is js h g = g
 
-modules-narrow : (all ms : List VModule) (at n d : ℕ) (name : Name) → list_all is_module ms ≡ true → modules_broken all ms at ≡ [] → ModuleNarrow all n d (P.items_of ms name)
+modules-narrow : (all ms : List VModule) (at n d : ℕ) (name : Name) → list_all few_of_module ms ≡ true → modules_broken all ms at ≡ [] → ModuleNarrow all n d (P.items_of ms name)
 modules-narrow all [] at n d name fits none = none-narrow all n d
 modules-narrow all (m ∷ ms) at n d name fits none =
-    let b = both-yes (is_module m) (list_all is_module ms) fits in
-    let items = both-yes (is_name m.name && list_all is_name m.ports) (list_all is_item m.items) b.0 in
-    narrow-if all (bytes_eq m.name name) n d m.items (P.items_of ms name) (module-narrow all m at n d items.1 (left-none (module_broken all m at) (modules_broken all ms (at + module_size m)) none))
+    let b = both-yes (few_of_module m) (list_all few_of_module ms) fits in
+    narrow-if all (bytes_eq m.name name) n d m.items (P.items_of ms name) (module-narrow all m at n d b.0 (left-none (module_broken all m at) (modules_broken all ms (at + module_size m)) none))
     (modules-narrow all ms (at + module_size m) n d name b.1 (right-none (module_broken all m at) (modules_broken all ms (at + module_size m)) none))
 
--- The modules of a design that is of the grammar and keeps the rules, in any instance and however deep calls go.
-pub design-narrow : (e : VDesign) (n d : ℕ) (name : Name) → is_of_grammar e ≡ true → Keeps e → ModuleNarrow e.modules n d (P.items_of e.modules name)
+-- The modules of a design that keeps the rules, with at most two selects behind each name, in any instance and however deep calls go.
+pub design-narrow : (e : VDesign) (n d : ℕ) (name : Name) → few_of_design e ≡ true → Keeps e → ModuleNarrow e.modules n d (P.items_of e.modules name)
 design-narrow e n d name fits keeps = modules-narrow e.modules e.modules 0 n d name fits (right-none (repeated [] (module_names e.modules 0)) (modules_broken e.modules e.modules 0) keeps)
 
--- the same where signals are looked up in a table
+-- The modules of a design that a text reads as.
+pub read-narrow : (bytes : List ℕ) (e : VDesign) (n d : ℕ) (name : Name) → VReads bytes e → ModuleNarrow e.modules n d (P.items_of e.modules name)
+read-narrow bytes e n d name h = design-narrow e n d name (spelled-few bytes e h.spells) h.keeps
+
+-- functions where signals are looked up in a table
 pub scope-is : (first d : ℕ) (m : Module) → signals_in first m ≡ numbered first (signals m.items.now) → N.scope_in first d m ≡ scope_at first d m.items.now
 scope-is first d m is =
     ap (λ (ns : List M.Named). record { names = ns; next = 0; callee = callees_within d ns (functions m.items.now) }) is

@@ -3,7 +3,7 @@ use Rattle.std.proofs.Common.{◌≡◌, ℕ, suc, ◌+◌, ◌≤◌, max, Bool
 use Rattle.std.specs.Prelude.{if◌then◌else◌}
 use Rattle.std.specs.Str.{bytes_eq}
 use Rattle.v_tree.specs.Names.{Name}
-use Rattle.v_tree.specs.Grammatical.{Form, all_fit, has_some, is_perhaps, is_label, one_default, all_of_form, fit, fit_of_lval, branch_form, item_form, stmt_form, form_of_stmt, form_of_branch}
+use Rattle.std.specs.List.{list_all}
 use Rattle.v_tree.specs.Scopes as D
 use Rattle.v_tree.specs.Scopes.{local, Thing, value, part, Declared, bits_of, has_range, repeated}
 use Rattle.v_tree.specs.ExprRules.{Around, Rules, only_if, alone, listed_size, rules_of}
@@ -29,6 +29,8 @@ use Rattle.v_exec.specs.Agreeing.{ThingAgrees, Agrees}
 use Rattle.v_exec.specs.Limits.{ItemLimits, branch_limits, item_limits, stmt_limits, stmt_most, branch_most, limits_of_item, widest_of, most_at, most_compared, most_in_turn, values_in, bodies_in}
 use Rattle.v_exec.proofs.Choosing.{widest-both, most-both}
 use Rattle.v_exec.proofs.Forms as F
+use Rattle.v_selects.specs.Few.{few_of_expr, few_of_lval, few_of_stmt, few_of_branch, few_of_case_item}
+use Rattle.v_selects.proofs.Levels as Few
 use Rattle.v_exec.proofs.KeptExprs.{AllKept, left-none, right-none, both-yes}
 use Rattle.v_exec.proofs.KeptStmts.{three-yes, expr-kept, target-kept}
 
@@ -112,12 +114,12 @@ block-kept (Some l) rs ms parts h around sc p at agree none =
     let outer : Around = record around { scope = D.inside own around.scope } in
     stmts-kept rs ms outer (inside l.locals sc) p first h (block-agrees l.locals (at + 3) (blocks_in rs first) around sc (blocks-in rs first parts) agree) (right-none (repeated [] own) (stmts_broken rs p outer first) none)
 
-expr-alone : (around : Around) (sc : M.Scope) (x : VExpr) (at : ℕ) → Agrees around sc → (fit x).fits ≡ true → alone (rules_of x) around at ≡ [] → most_alone (limits x) sc ≤ 128
+expr-alone : (around : Around) (sc : M.Scope) (x : VExpr) (at : ℕ) → Agrees around sc → few_of_expr x ≡ true → alone (rules_of x) around at ≡ [] → most_alone (limits x) sc ≤ 128
 expr-alone around sc x at agree fits none =
     let k = expr-kept around sc agree x fits ((rules_of x).width around) at none in
     subst (λ n. (limits x).most n sc ≤ 128) (sym k.0) k.1
 
-if-kept : (on : VExpr) (r : StmtRules) (m : M.Scope → ℕ) → (fit on).fits ≡ true → StmtKept r m → StmtKept (stmt_rules (VStmt-F.If on r None)) (stmt_limits (VStmt-F.If on m None))
+if-kept : (on : VExpr) (r : StmtRules) (m : M.Scope → ℕ) → few_of_expr on ≡ true → StmtKept r m → StmtKept (stmt_rules (VStmt-F.If on r None)) (stmt_limits (VStmt-F.If on m None))
 if-kept on r m fits h around sc p at agree none =
     let test = rules_of on in
     let first = alone test around (at + 2) in
@@ -127,7 +129,7 @@ if-kept on r m fits h around sc p at agree none =
     let b = h around sc p (at + (3 + test.size)) agree (left-none second [] (right-none first rest none)) in
     omega (arith, a, b)
 
-else-kept : (on : VExpr) (r s : StmtRules) (m k : M.Scope → ℕ) → (fit on).fits ≡ true → StmtKept r m → StmtKept s k → StmtKept (stmt_rules (VStmt-F.If on r (Some s))) (stmt_limits (VStmt-F.If on m (Some k)))
+else-kept : (on : VExpr) (r s : StmtRules) (m k : M.Scope → ℕ) → few_of_expr on ≡ true → StmtKept r m → StmtKept s k → StmtKept (stmt_rules (VStmt-F.If on r (Some s))) (stmt_limits (VStmt-F.If on m (Some k)))
 else-kept on r s m k fits h g around sc p at agree none =
     let test = rules_of on in
     let first = alone test around (at + 2) in
@@ -183,7 +185,7 @@ bodies-kept [] (l ∷ ls) h = absurd h
 bodies-kept (r ∷ rs) [] h = absurd h
 bodies-kept (r ∷ rs) (l ∷ ls) h = (h.0.0, bodies-kept rs ls h.1)
 
-case-kept : (kind : VCaseKind) (on : VExpr) (rs : List ItemRules) (ls : List ItemLimits) → (fit on).fits ≡ true → AllItems rs ls → StmtKept (stmt_rules (VStmt-F.Case kind on rs)) (stmt_limits (VStmt-F.Case kind on ls))
+case-kept : (kind : VCaseKind) (on : VExpr) (rs : List ItemRules) (ls : List ItemLimits) → few_of_expr on ≡ true → AllItems rs ls → StmtKept (stmt_rules (VStmt-F.Case kind on rs)) (stmt_limits (VStmt-F.Case kind on ls))
 case-kept kind on rs ls fits h around sc p at agree none =
     let test = rules_of on in
     let w = max (test.width around) (widest_item rs around) in
@@ -200,7 +202,7 @@ case-kept kind on rs ls fits h around sc p at agree none =
     omega (arith, compared, c)
 
 -- assignments
-assign-kept : (to : VLval) (x : VExpr) (later : Bool) → (fit_of_lval to).fits ≡ true → (fit x).fits ≡ true → StmtKept (stmt_rules (VStmt-F.Assign to x later)) (stmt_limits (VStmt-F.Assign to x later))
+assign-kept : (to : VLval) (x : VExpr) (later : Bool) → few_of_lval to ≡ true → few_of_expr x ≡ true → StmtKept (stmt_rules (VStmt-F.Assign to x later)) (stmt_limits (VStmt-F.Assign to x later))
 assign-kept to x later fits good around sc p at agree none =
     let t = target_of to in
     let r = rules_of x in
@@ -221,47 +223,44 @@ assign-kept to x later fits good around sc p at agree none =
 abbrev pub item_rules_of : VCaseItem → ItemRules
 item_rules_of = fold-VCaseItem StmtRules ItemRules StmtRules branch_rules item_rules stmt_rules
 
-abbrev pub form_of_item : VCaseItem → Form
-form_of_item = fold-VCaseItem Form Form Form branch_form item_form stmt_form
-
 abbrev pub BranchGood : VBranch → Type 0
-BranchGood b = BlocksAre (rules_of_branch b) × ((form_of_branch b).fits ≡ true → StmtKept (rules_of_branch b) (branch_most b))
+BranchGood b = BlocksAre (rules_of_branch b) × (few_of_branch b ≡ true → StmtKept (rules_of_branch b) (branch_most b))
 
 abbrev pub ItemGood : VCaseItem → Type 0
-ItemGood i = BlocksAre (item_rules_of i).stmt × ((form_of_item i).fits ≡ true → ItemKept (item_rules_of i) (limits_of_item i))
+ItemGood i = BlocksAre (item_rules_of i).stmt × (few_of_case_item i ≡ true → ItemKept (item_rules_of i) (limits_of_item i))
 
 abbrev pub StmtGood : VStmt → Type 0
-StmtGood s = BlocksAre (rules_of_stmt s) × ((form_of_stmt s).fits ≡ true → StmtKept (rules_of_stmt s) (stmt_most s))
+StmtGood s = BlocksAre (rules_of_stmt s) × (few_of_stmt s ≡ true → StmtKept (rules_of_stmt s) (stmt_most s))
 
-good-as : (r q : StmtRules) (m k : M.Scope → ℕ) (f g : Form) → r ≡ q → m ≡ k → f ≡ g → BlocksAre q × (g.fits ≡ true → StmtKept q k) → BlocksAre r × (f.fits ≡ true → StmtKept r m)
+good-as : (r q : StmtRules) (m k : M.Scope → ℕ) (f g : Bool) → r ≡ q → m ≡ k → f ≡ g → BlocksAre q × (g ≡ true → StmtKept q k) → BlocksAre r × (f ≡ true → StmtKept r m)
 good-as r q m k f g e d c h =
-    (subst BlocksAre (sym e) h.0, λ fits. subst (λ x. StmtKept x m) (sym e) (subst (StmtKept q) (sym d) (h.1 (subst (λ (x : Form). x.fits ≡ true) c fits))))
+    (subst BlocksAre (sym e) h.0, λ fits. subst (λ x. StmtKept x m) (sym e) (subst (StmtKept q) (sym d) (h.1 (sym c ∙ fits))))
 
-item-as : (r q : ItemRules) (m k : ItemLimits) (f g : Form) → r ≡ q → m ≡ k → f ≡ g → BlocksAre q.stmt × (g.fits ≡ true → ItemKept q k) → BlocksAre r.stmt × (f.fits ≡ true → ItemKept r m)
+item-as : (r q : ItemRules) (m k : ItemLimits) (f g : Bool) → r ≡ q → m ≡ k → f ≡ g → BlocksAre q.stmt × (g ≡ true → ItemKept q k) → BlocksAre r.stmt × (f ≡ true → ItemKept r m)
 item-as r q m k f g e d c h =
-    (subst (λ (x : ItemRules). BlocksAre x.stmt) (sym e) h.0, λ fits. subst (λ x. ItemKept x m) (sym e) (subst (ItemKept q) (sym d) (h.1 (subst (λ (x : Form). x.fits ≡ true) c fits))))
+    (subst (λ (x : ItemRules). BlocksAre x.stmt) (sym e) h.0, λ fits. subst (λ x. ItemKept x m) (sym e) (subst (ItemKept q) (sym d) (h.1 (sym c ∙ fits))))
 
-values-good : (xs : List VExpr) → all_fit (map fit xs) ≡ true → ValuesKept (map rules_of xs) (map limits xs)
+values-good : (xs : List VExpr) → list_all few_of_expr xs ≡ true → ValuesKept (map rules_of xs) (map limits xs)
 values-good [] f around sc agree = tt
 values-good (x ∷ xs) f around sc agree =
-    let b = both-yes (fit x).fits (all_fit (map fit xs)) f in
+    let b = both-yes (few_of_expr x) (list_all few_of_expr xs) f in
     (expr-kept around sc agree x b.0, values-good xs b.1 around sc agree)
 
 all-blocks : (ss : List VStmt) → Each StmtGood ss → AllBlocks (map rules_of_stmt ss)
 all-blocks [] h = tt
 all-blocks (s ∷ ss) h = (h.0.0, all-blocks ss h.1)
 
-all-stmts : (ss : List VStmt) → Each StmtGood ss → all_of_form (map form_of_stmt ss) ≡ true → AllStmts (map rules_of_stmt ss) (map stmt_most ss)
+all-stmts : (ss : List VStmt) → Each StmtGood ss → list_all few_of_stmt ss ≡ true → AllStmts (map rules_of_stmt ss) (map stmt_most ss)
 all-stmts [] h f = tt
-all-stmts (s ∷ ss) h f = let b = both-yes (form_of_stmt s).fits (all_of_form (map form_of_stmt ss)) f in (h.0.1 b.0, all-stmts ss h.1 b.1)
+all-stmts (s ∷ ss) h f = let b = both-yes (few_of_stmt s) (list_all few_of_stmt ss) f in (h.0.1 b.0, all-stmts ss h.1 b.1)
 
 item-blocks : (is : List VCaseItem) → Each ItemGood is → AllBlocks (bodies (map item_rules_of is))
 item-blocks [] h = tt
 item-blocks (i ∷ is) h = (h.0.0, item-blocks is h.1)
 
-all-items : (is : List VCaseItem) → Each ItemGood is → all_of_form (map form_of_item is) ≡ true → AllItems (map item_rules_of is) (map limits_of_item is)
+all-items : (is : List VCaseItem) → Each ItemGood is → list_all few_of_case_item is ≡ true → AllItems (map item_rules_of is) (map limits_of_item is)
 all-items [] h f = tt
-all-items (i ∷ is) h f = let b = both-yes (form_of_item i).fits (all_of_form (map form_of_item is)) f in (h.0.1 b.0, all-items is h.1 b.1)
+all-items (i ∷ is) h f = let b = both-yes (few_of_case_item i) (list_all few_of_case_item is) f in (h.0.1 b.0, all-items is h.1 b.1)
 
 block-parts : (label : Option VLabel) (rs : List StmtRules) → AllBlocks rs → BlocksAre (block_rules label rs)
 block-parts None rs h at = blocks-in rs (suc at) h
@@ -269,63 +268,61 @@ block-parts (Some l) rs h at = (refl, tt)
 
 if-good : (on : VExpr) (b : VBranch) (o : Option VBranch) → BranchGood b → Perhaps BranchGood o → StmtGood (T.If on b o)
 if-good on b None h g =
-    good-as (rules_of_stmt (T.If on b None)) (stmt_rules (VStmt-F.If on (rules_of_branch b) None)) (stmt_most (T.If on b None)) (stmt_limits (VStmt-F.If on (branch_most b) None)) (form_of_stmt (T.If on b None))
-    (stmt_form (VStmt-F.If on (form_of_branch b) None)) (F.at-if branch_rules item_rules stmt_rules on b) (F.at-if branch_limits item_limits stmt_limits on b) (F.at-if branch_form item_form stmt_form on b) (
+    good-as (rules_of_stmt (T.If on b None)) (stmt_rules (VStmt-F.If on (rules_of_branch b) None)) (stmt_most (T.If on b None)) (stmt_limits (VStmt-F.If on (branch_most b) None)) (few_of_stmt (T.If on b None))
+    (few_of_expr on && few_of_branch b && true) (F.at-if branch_rules item_rules stmt_rules on b) (F.at-if branch_limits item_limits stmt_limits on b) (Few.at-if on b None) (
       (λ at. parts-both ((rules_of_branch b).blocks (at + (3 + (rules_of on).size))) [] (h.0 (at + (3 + (rules_of on).size))) tt),
-      λ f. (let x = both-yes (fit on).fits (form_of_branch b).fits f in if-kept on (rules_of_branch b) (branch_most b) x.0 (h.1 x.1)),
+      λ f. (let x = three-yes (few_of_expr on) (few_of_branch b) true f in if-kept on (rules_of_branch b) (branch_most b) x.0 (h.1 x.1.0)),
     )
 if-good on b (Some c) h g =
     good-as (rules_of_stmt (T.If on b (Some c))) (stmt_rules (VStmt-F.If on (rules_of_branch b) (Some (rules_of_branch c)))) (stmt_most (T.If on b (Some c))) (stmt_limits (VStmt-F.If on (branch_most b) (Some (branch_most c))))
-    (form_of_stmt (T.If on b (Some c))) (stmt_form (VStmt-F.If on (form_of_branch b) (Some (form_of_branch c)))) (F.at-else branch_rules item_rules stmt_rules on b c) (F.at-else branch_limits item_limits stmt_limits on b c)
-    (F.at-else branch_form item_form stmt_form on b c) (
+    (few_of_stmt (T.If on b (Some c))) (few_of_expr on && few_of_branch b && few_of_branch c) (F.at-else branch_rules item_rules stmt_rules on b c) (F.at-else branch_limits item_limits stmt_limits on b c)
+    (Few.at-if on b (Some c)) (
       (λ at. parts-both ((rules_of_branch b).blocks (at + (3 + (rules_of on).size))) ((rules_of_branch c).blocks (suc (at + (3 + ((rules_of on).size + (rules_of_branch b).size))))) (h.0 (at + (3 + (rules_of on).size)))
           (g.0 (suc (at + (3 + ((rules_of on).size + (rules_of_branch b).size)))))),
       λ f.
           (
-          let all = both-yes ((fit on).fits && (form_of_branch b).fits && (form_of_branch b).closed) (form_of_branch c).fits f in
-          let x = three-yes (fit on).fits (form_of_branch b).fits (form_of_branch b).closed all.0 in
-          else-kept on (rules_of_branch b) (rules_of_branch c) (branch_most b) (branch_most c) x.0 (h.1 x.1.0) (g.1 all.1)
+          let x = three-yes (few_of_expr on) (few_of_branch b) (few_of_branch c) f in
+          else-kept on (rules_of_branch b) (rules_of_branch c) (branch_most b) (branch_most c) x.0 (h.1 x.1.0) (g.1 x.1.1)
           ),
     )
 
 stmt-steps : I.StmtSteps BranchGood ItemGood StmtGood
 stmt-steps = record {
-  branch-statement = λ s h. good-as (rules_of_branch (G.Statement s)) (rules_of_stmt s) (branch_most (G.Statement s)) (stmt_most s) (form_of_branch (G.Statement s)) (form_of_stmt s) (F.at-statement branch_rules item_rules stmt_rules s)
-      (F.at-statement branch_limits item_limits stmt_limits s) (F.at-statement branch_form item_form stmt_form s) h;
-  branch-empty = good-as (rules_of_branch G.Empty) (branch_rules VBranch-F.Empty) (branch_most G.Empty) (λ sc. 0) (form_of_branch G.Empty) (branch_form VBranch-F.Empty) (F.at-empty branch_rules item_rules stmt_rules)
-      (F.at-empty branch_limits item_limits stmt_limits) (F.at-empty branch_form item_form stmt_form) ((λ at. tt), λ f around sc p at agree none. omega arith);
-  case-item = λ vs b h. item-as (item_rules_of (C.Item vs b)) (item_rules (VCaseItem-F.Item vs (rules_of_branch b))) (limits_of_item (C.Item vs b)) (item_limits (VCaseItem-F.Item vs (branch_most b))) (form_of_item (C.Item vs b))
-      (item_form (VCaseItem-F.Item vs (form_of_branch b))) (F.at-item branch_rules item_rules stmt_rules vs b) (F.at-item branch_limits item_limits stmt_limits vs b) (F.at-item branch_form item_form stmt_form vs b) (
+  branch-statement = λ s h. good-as (rules_of_branch (G.Statement s)) (rules_of_stmt s) (branch_most (G.Statement s)) (stmt_most s) (few_of_branch (G.Statement s)) (few_of_stmt s) (F.at-statement branch_rules item_rules stmt_rules s)
+      (F.at-statement branch_limits item_limits stmt_limits s) (Few.at-statement s) h;
+  branch-empty = good-as (rules_of_branch G.Empty) (branch_rules VBranch-F.Empty) (branch_most G.Empty) (λ sc. 0) (few_of_branch G.Empty) true (F.at-empty branch_rules item_rules stmt_rules)
+      (F.at-empty branch_limits item_limits stmt_limits) Few.at-empty ((λ at. tt), λ f around sc p at agree none. omega arith);
+  case-item = λ vs b h. item-as (item_rules_of (C.Item vs b)) (item_rules (VCaseItem-F.Item vs (rules_of_branch b))) (limits_of_item (C.Item vs b)) (item_limits (VCaseItem-F.Item vs (branch_most b))) (few_of_case_item (C.Item vs b))
+      (list_all few_of_expr vs && few_of_branch b) (F.at-item branch_rules item_rules stmt_rules vs b) (F.at-item branch_limits item_limits stmt_limits vs b) (Few.at-item vs b) (
         (λ at. h.0 (at + suc (listed_size (map rules_of vs)))),
         λ f.
             (
-            let x = three-yes (has_some vs) (all_fit (map fit vs)) (form_of_branch b).fits f in
-            ((λ around sc p at agree none. h.1 x.1.1 around sc p (at + suc (listed_size (map rules_of vs))) agree none), values-good vs x.1.0)
+            let x = both-yes (list_all few_of_expr vs) (few_of_branch b) f in
+            ((λ around sc p at agree none. h.1 x.1 around sc p (at + suc (listed_size (map rules_of vs))) agree none), values-good vs x.0)
             ),
       );
-  case-default = λ b h. item-as (item_rules_of (C.Default b)) (item_rules (VCaseItem-F.Default (rules_of_branch b))) (limits_of_item (C.Default b)) (item_limits (VCaseItem-F.Default (branch_most b))) (form_of_item (C.Default b))
-      (item_form (VCaseItem-F.Default (form_of_branch b))) (F.at-default branch_rules item_rules stmt_rules b) (F.at-default branch_limits item_limits stmt_limits b) (F.at-default branch_form item_form stmt_form b)
+  case-default = λ b h. item-as (item_rules_of (C.Default b)) (item_rules (VCaseItem-F.Default (rules_of_branch b))) (limits_of_item (C.Default b)) (item_limits (VCaseItem-F.Default (branch_most b))) (few_of_case_item (C.Default b))
+      (few_of_branch b) (F.at-default branch_rules item_rules stmt_rules b) (F.at-default branch_limits item_limits stmt_limits b) (Few.at-default b)
       ((λ at. h.0 (at + 2)), λ f. ((λ around sc p at agree none. h.1 f around sc p (at + 2) agree none), λ around sc agree. tt));
-  stmt-block = λ label ss h. good-as (rules_of_stmt (T.Block label ss)) (block_rules label (map rules_of_stmt ss)) (stmt_most (T.Block label ss)) (stmt_limits (VStmt-F.Block label (map stmt_most ss))) (form_of_stmt (T.Block label ss))
-      (stmt_form (VStmt-F.Block label (map form_of_stmt ss))) (F.at-block branch_rules item_rules stmt_rules label ss) (F.at-block branch_limits item_limits stmt_limits label ss) (F.at-block branch_form item_form stmt_form label ss) (
+  stmt-block = λ label ss h. good-as (rules_of_stmt (T.Block label ss)) (block_rules label (map rules_of_stmt ss)) (stmt_most (T.Block label ss)) (stmt_limits (VStmt-F.Block label (map stmt_most ss))) (few_of_stmt (T.Block label ss))
+      (list_all few_of_stmt ss) (F.at-block branch_rules item_rules stmt_rules label ss) (F.at-block branch_limits item_limits stmt_limits label ss) (Few.at-block label ss) (
         block-parts label (map rules_of_stmt ss) (all-blocks ss h),
-        λ f. (let x = both-yes (is_perhaps is_label label) (all_of_form (map form_of_stmt ss)) f in block-kept label (map rules_of_stmt ss) (map stmt_most ss) (all-blocks ss h) (all-stmts ss h x.1)),
+        λ f. block-kept label (map rules_of_stmt ss) (map stmt_most ss) (all-blocks ss h) (all-stmts ss h f),
       );
   stmt-if = λ on b o h g. if-good on b o h g;
   stmt-case = λ kind on is h. good-as (rules_of_stmt (T.Case kind on is)) (stmt_rules (VStmt-F.Case kind on (map item_rules_of is))) (stmt_most (T.Case kind on is)) (stmt_limits (VStmt-F.Case kind on (map limits_of_item is)))
-      (form_of_stmt (T.Case kind on is)) (stmt_form (VStmt-F.Case kind on (map form_of_item is))) (F.at-case branch_rules item_rules stmt_rules kind on is) (F.at-case branch_limits item_limits stmt_limits kind on is)
-      (F.at-case branch_form item_form stmt_form kind on is) (
+      (few_of_stmt (T.Case kind on is)) (few_of_expr on && list_all few_of_case_item is) (F.at-case branch_rules item_rules stmt_rules kind on is) (F.at-case branch_limits item_limits stmt_limits kind on is)
+      (Few.at-case kind on is) (
         (λ at. blocks-in (bodies (map item_rules_of is)) (at + (3 + (rules_of on).size)) (item-blocks is h)),
         λ f.
             (
-            let all = both-yes ((fit on).fits && has_some (map form_of_item is) && one_default (map form_of_item is)) (all_of_form (map form_of_item is)) f in
-            let x = three-yes (fit on).fits (has_some (map form_of_item is)) (one_default (map form_of_item is)) all.0 in
-            case-kept kind on (map item_rules_of is) (map limits_of_item is) x.0 (all-items is h all.1)
+            let x = both-yes (few_of_expr on) (list_all few_of_case_item is) f in
+            case-kept kind on (map item_rules_of is) (map limits_of_item is) x.0 (all-items is h x.1)
             ),
       );
-  stmt-assign = λ to x later. good-as (rules_of_stmt (T.Assign to x later)) (stmt_rules (VStmt-F.Assign to x later)) (stmt_most (T.Assign to x later)) (stmt_limits (VStmt-F.Assign to x later)) (form_of_stmt (T.Assign to x later))
-      (stmt_form (VStmt-F.Assign to x later)) (F.at-assign branch_rules item_rules stmt_rules to x later) (F.at-assign branch_limits item_limits stmt_limits to x later) (F.at-assign branch_form item_form stmt_form to x later)
-      ((λ at. tt), λ f. (let y = both-yes (fit_of_lval to).fits (fit x).fits f in assign-kept to x later y.0 y.1));
+  stmt-assign = λ to x later. good-as (rules_of_stmt (T.Assign to x later)) (stmt_rules (VStmt-F.Assign to x later)) (stmt_most (T.Assign to x later)) (stmt_limits (VStmt-F.Assign to x later)) (few_of_stmt (T.Assign to x later))
+      (few_of_lval to && few_of_expr x) (F.at-assign branch_rules item_rules stmt_rules to x later) (F.at-assign branch_limits item_limits stmt_limits to x later) (Few.at-store to x later)
+      ((λ at. tt), λ f. (let y = both-yes (few_of_lval to) (few_of_expr x) f in assign-kept to x later y.0 y.1));
 }
 
 pub branch-good : (b : VBranch) → BranchGood b

@@ -6,7 +6,7 @@ use Rattle.sv_source.specs.declared.refusal.Refusal.{Refusal}
 use Rattle.sv_source.specs.declared.refusal.Fail.{Fail}
 use Rattle.sv_source.specs.declared.refusal.Fail.TheVariants.{Memory, Refused}
 use Rattle.sv2v_top.specs.declared.uses.Use.{Use}
-use Rattle.v_core.specs.Names.{among}
+use Rattle.v_tree.specs.Names.{among}
 use Rattle.sv2v_top.specs.source.Statements.{targets}
 use Rattle.sv_tree.specs.declared.units.SourceTree.{SourceTree}
 use Rattle.built_forms.specs.Built.{built}

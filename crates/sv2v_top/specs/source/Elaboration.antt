@@ -24,7 +24,7 @@ use Rattle.sv_core.specs.declared.design.Process.{Process}
 use Rattle.sv_core.specs.declared.design.Design.{Design}
 use Rattle.sv2v_top.specs.source.Literals.{literal_bits}
 use Rattle.sv2v_top.specs.source.Names.{declared, signal_names}
-use Rattle.v_core.specs.Names.{position}
+use Rattle.v_tree.specs.Names.{position}
 use Rattle.sv2v_top.specs.source.Rules.{signal_of}
 
 -- a name stands for the signal of that name, by its number

@@ -4,7 +4,7 @@ use Rattle.std.specs.Option.{is_some}
 use Rattle.std.specs.Str.{bytes_eq}
 use Rattle.indexmap.specs.IndexMap as table
 use Rattle.sv2v_top.specs.declared.name_table.Names.{Names}
-use Rattle.v_core.specs.Names.{among, position, distinct}
+use Rattle.v_tree.specs.Names.{among, position, distinct}
 
 -- what the table has for a name
 abbrev pub number_in : Names → List ℕ → Option ℕ

@@ -16,7 +16,7 @@ use Rattle.built_forms.specs.declared.forms.Item.TheVariants as I
 use Rattle.built_forms.specs.declared.forms.Module.{Module}
 use Rattle.sv2v_top.specs.declared.uses.Use.{Use}
 use Rattle.sv2v_top.specs.source.Statements.{item_parts}
-use Rattle.v_core.specs.Names.{among}
+use Rattle.v_tree.specs.Names.{among}
 
 -- a declared signal, with the kind and the dimension that it has
 pub record Declared : Type 0 where

@@ -18,7 +18,7 @@ use Rattle.sv2v_top.specs.source.Names.{Declared, declared, signal_names}
 use Rattle.sv2v_top.specs.declared.uses.Use.{Use}
 use Rattle.sv2v_top.specs.declared.uses.Literal.{Literal}
 use Rattle.sv2v_top.specs.source.Statements.{word_of, item_parts, targets, reads}
-use Rattle.v_core.specs.Names.{among, distinct, position}
+use Rattle.v_tree.specs.Names.{among, distinct, position}
 use Rattle.lower_design.specs.Translatable.{is_helper_name}
 
 -- Names. The module is the top, or not. No name is declared twice, and none is a helper's.

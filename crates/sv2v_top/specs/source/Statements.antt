@@ -14,7 +14,7 @@ use Rattle.built_forms.specs.declared.forms.Assign.{Assign}
 use Rattle.built_forms.specs.declared.forms.Stmt.{Stmt, Stmt-F, fold-Stmt}
 use Rattle.built_forms.specs.declared.forms.Item.{Item}
 use Rattle.built_forms.specs.declared.forms.Item.TheVariants as I
-use Rattle.v_core.specs.Names.{among}
+use Rattle.v_tree.specs.Names.{among}
 
 abbrev pub word_of : Spot → List ℕ
 word_of s = s.word

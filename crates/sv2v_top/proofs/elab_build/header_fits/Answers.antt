@@ -2,7 +2,7 @@ use Rattle.std.proofs.Common.{◌≡◌, ◌&&◌, not, ap, ◌∙◌}
 use Rattle.std.specs.List.{list_all}
 use Rattle.sv_core.specs.declared.design.Signal.{Signal}
 use Rattle.lower_design.specs.Translatable.{is_helper_name}
-use Rattle.v_core.specs.Names.{distinct}
+use Rattle.v_tree.specs.Names.{distinct}
 use Rattle.sv2v_top.specs.source.Names.{signal_names, declared}
 use Rattle.sv2v_top.proofs.Checks.{helpers-named}
 use Rattle.sv2v_top.proofs.elab_build.header_fits.Goals as goal

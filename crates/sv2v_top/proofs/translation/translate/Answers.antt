@@ -1,8 +1,7 @@
-use Rattle.std.proofs.Common.{◌≡◌, ◌++◌, List, ℕ, Err, sym, ap, subst, ◌∙◌}
+use Rattle.std.proofs.Common.{◌≡◌, Err, sym, ap, subst, ◌∙◌}
 use Rattle.std.proofs.lemmas.Result.{err_from_is_err_and}
-use Rattle.lower_design.specs.Lowering.{Lowers}
-use Rattle.v_core.specs.Reading.{VReads}
-use Rattle.v_core.proofs.OneReading.{one_design}
+use Rattle.v_tree.specs.Reading.{VReads}
+use Rattle.v_tree.proofs.OneReading.{one_design}
 use Rattle.sv2v_top.specs.Translation.{TranslationGives}
 use Rattle.sv2v_top.proofs.Correct.{correct, unread-breaks, refused-breaks}
 use Rattle.sv2v_top.proofs.translation.translate.Goals as goal
@@ -27,17 +26,17 @@ lower-requires c =
 
 pub returns : goal.returns
 returns c =
-    let lowers : Lowers c.in_ok-design.design c.in_ok-target.target = c.in_ok-target.ensures in
-    let written = c.in_ok-write_text.ensures in
-    let text : c.write_text.new.to ≡ written.text = written.is_added ∙ ap (λ (t : List ℕ). t ++ written.text) c.new-text.ensures in
-    let read_back : VReads c.write_text.new.to c.in_ok-target.target = subst (λ t. VReads t c.in_ok-target.target) (sym text) (written.reads lowers.of_grammar lowers.well_formed) in
+    let target = c.in_ok-target.target in
+    let text = c.in_ok-text.text in
+    let written = c.in_ok-text.ensures in
+    let read_back : VReads text target = subst (λ t. VReads t target) (sym written.is_added) written.reads in
     record {
       source = c.in_ok-design.design;
       accepted = record { tree = c.in_ok-tree.tree; reads = c.in_ok-tree.ensures; elaborated = c.in_ok-design.ensures };
-      target = c.in_ok-target.target;
+      target = target;
       right = record {
         reads = read_back;
-        only = λ f other. one_design c.write_text.new.to f c.in_ok-target.target other read_back;
-        lowers = lowers;
+        only = λ f other. one_design text f target other read_back;
+        lowers = c.in_ok-target.ensures;
       };
     }

@@ -1,6 +1,6 @@
 use Rattle.std.proofs.Common.{◌≡◌, ◌++◌, ◌+◌, Some, None, [], drop, refl, sym, ap, ◌∙◌}
 use Rattle.std.specs.Option.{option_or}
-use Rattle.v_core.specs.Names.{among}
+use Rattle.v_tree.specs.Names.{among}
 use Rattle.sv2v_top.specs.source.Statements.{targets}
 use Rattle.sv2v_top.specs.source.Rules.{writes_break, always_written, target_words, processes_break}
 use Rattle.sv2v_top.proofs.Checks.{drop-here}

@@ -3,7 +3,7 @@ use Rattle.std.specs.Option.{is_some}
 use Rattle.std.specs.Str.{bytes_eq}
 use Rattle.indexmap.specs.IndexMap as table
 use Rattle.sv2v_top.specs.declared.name_table.Names.{Names}
-use Rattle.v_core.specs.Names.{among}
+use Rattle.v_tree.specs.Names.{among}
 use Rattle.sv2v_top.proofs.Lookup.{number-new, number-old, some-among, is_some-copied, distinct-new, distinct-old, length-more}
 use Rattle.sv2v_top.proofs.name_table.Names.add.Goals as goal
 use Rattle.sv2v_top.proofs.name_table.Names.add.Goals.{then-is_none+in_ok-copy+in_ok-insert, else-is_none}

@@ -1,6 +1,6 @@
 use Rattle.std.proofs.Common.{◌≡◌, ◌∙◌, arith}
 use Rattle.std.specs.Option.{unwrap_or}
-use Rattle.v_core.specs.Names.{position}
+use Rattle.v_tree.specs.Names.{position}
 use Rattle.sv2v_top.proofs.Lookup.{position-or, position-within}
 use Rattle.sv2v_top.proofs.name_table.Names.position.Goals as goal
 

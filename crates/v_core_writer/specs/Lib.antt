@@ -1,3 +1,0 @@
-pub mod Layout
-pub mod Writing
-pub mod Margins
