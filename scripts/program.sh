@@ -1,5 +1,5 @@
-# Where the proved program of sv2v is, and whether it is current. Sourced with `root` set to the repository's folder.
-program=$root/crates/sv2v/out/sv2v
+# Where the proved program `name` is, and whether it is current. Sourced with `root` set to the repository's folder.
+program=$root/crates/$name/out/$name
 
 # Whether the program is there and no older than what it is made from.
 is_current() {

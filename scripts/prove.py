@@ -1,12 +1,12 @@
 #!/usr/bin/env python3
-"""Proves sv2v and what it stands on, as many crates side by side as there are cores, and builds the program.
+"""Proves a program and what it stands on, as many crates side by side as there are cores, and builds the program.
 
 A crate is proved once those below it are, each in a copy of its own beside the logs, since two checks in one copy wait for
 each other. Each has a log, NAME.log, in the folder that is given, and behind its proof a file NAME.done. What is proved is
 kept, so a run that was interrupted goes on where it was.
 
-Usage: scripts/prove.py LOGS     proves and builds
-       scripts/prove.py --list   prints the crates, lowest first
+Usage: scripts/prove.py NAME LOGS     proves and builds
+       scripts/prove.py NAME --list   prints the crates, lowest first
 """
 import os
 import shutil
@@ -85,17 +85,26 @@ def prove(crates, needs, logs):
     return True
 
 
+def stored_words(name):
+    """The words of the program's stored run, with the paths of its files."""
+    crate = f"{ROOT}/crates/{name}"
+    with open(f"{crate}/args", encoding="utf-8") as file:
+        words = file.read().splitlines()
+    return [f"data/{word}" if os.path.exists(f"{crate}/data/{word}") else word for word in words]
+
+
 def main():
+    name, folder = sys.argv[1:]
     needs = below()
-    crates = in_order(needs, "sv2v")
-    if sys.argv[1:] == ["--list"]:
+    crates = in_order(needs, name)
+    if folder == "--list":
         print("\n".join(crates))
         return 0
-    logs = os.path.abspath(sys.argv[1])
+    logs = os.path.abspath(folder)
     if not prove(crates[:-1], needs, logs):
         return 1
-    with open(f"{logs}/sv2v.log", "w", encoding="utf-8") as log:
-        status = subprocess.call(["rt", "run", "--", "--top=m", "data/and.sv"], cwd=f"{ROOT}/crates/sv2v", stdout=log, stderr=log)
+    with open(f"{logs}/{name}.log", "w", encoding="utf-8") as log:
+        status = subprocess.call(["rt", "run", "--", *stored_words(name)], cwd=f"{ROOT}/crates/{name}", stdout=log, stderr=log)
     if status == 0:
         shutil.rmtree(copies_of(logs), ignore_errors=True)
     return status

@@ -1,0 +1,13 @@
+//! The top call of the evaluator, for target texts.
+#![tactic(auto)]
+
+mod asking;
+mod loading;
+mod main_call;
+mod run;
+mod runner;
+mod running;
+
+pub use endings::Status;
+pub use main_call::run_main;
+pub use runner::{RunFail, Runner};
