@@ -1,3 +1,4 @@
 pub mod Linking
 pub mod Stepping
 pub mod Instances
+pub mod Standing
