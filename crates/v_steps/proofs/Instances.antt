@@ -1,13 +1,16 @@
 -- The instances of a design that a text reads as, and the tables of their modules.
-use Rattle.std.proofs.Common.{◌≡◌, ℕ, zero, suc, ◌+◌, true, List, [], ◌∷◌, ◌++◌, map, Option, Some, None, slice_get, arith, ap, sym, subst}
+use Rattle.std.proofs.Common.{◌≡◌, ℕ, zero, suc, ◌+◌, true, List, [], ◌∷◌, map, Some, slice_get, arith, ap, sym, subst}
 use Rattle.std.specs.List.{list_all}
 use Rattle.v_tree.specs.Reading.{VReads}
 use Rattle.v_tree.specs.Rules.{module_broken, modules_broken, module_size, module_names}
 use Rattle.v_tree.specs.Scopes.{repeated}
+use Rattle.v_tree.specs.declared.items.VConnection.{VConnection}
 use Rattle.v_tree.specs.declared.items.VDesign.{VDesign}
+use Rattle.v_tree.specs.declared.items.VItem.{VItem}
 use Rattle.v_tree.specs.declared.items.VModule.{VModule}
+use Rattle.v_meaning.specs.Scopes.{Scope}
 use Rattle.v_meaning.specs.Modules.{scope_of}
-use Rattle.v_exec.specs.Keeping.{ModuleNarrow}
+use Rattle.v_exec.specs.Keeping.{LinkNarrow, LinksNarrow, ItemNarrow, ItemsNarrow, ModuleNarrow}
 use Rattle.v_exec.specs.Modules.{FunctionsNarrow}
 use Rattle.v_exec.proofs.KeptExprs.{left-none, right-none, both-yes}
 use Rattle.v_exec.proofs.KeptModules.{module-narrow, functions-narrow}
@@ -43,3 +46,14 @@ read-functions bytes e ts k t first h tabled there =
 -- A process by the table of its module is the process of its instance.
 pub process-by-table : (ts : List Table) (ms : List VModule) (p : Proc) (t : Table) → map items_of ts ≡ map items_in ms → slice_get ts p.of ≡ Some t → does_in p.does (scope_of p.first (items_of t)) ≡ process_at ms p
 process-by-table ts ms p t tabled there = ap (λ is. does_in p.does (scope_of p.first is)) (table-items ts ms p.of t tabled there)
+
+-- items and connections by their places
+pub item-narrow : (ms : List VModule) (sc : Scope) (is : List VItem) (k : ℕ) (x : VItem) → ItemsNarrow ms sc is → slice_get is k ≡ Some x → ItemNarrow ms sc x
+item-narrow ms sc [] k x h there = absurd (cc)
+item-narrow ms sc (i ∷ is) zero x h there = subst (ItemNarrow ms sc) (let e : i ≡ x = cc in e) h.0
+item-narrow ms sc (i ∷ is) (suc k) x h there = item-narrow ms sc is k x h.1 there
+
+pub link-narrow : (sc : Scope) (is : List VItem) (cs : List VConnection) (k : ℕ) (c : VConnection) → LinksNarrow sc is cs → slice_get cs k ≡ Some c → LinkNarrow sc is c.value c.port
+link-narrow sc is [] k c h there = absurd (cc)
+link-narrow sc is (d ∷ cs) zero c h there = subst (λ (x : VConnection). LinkNarrow sc is x.value x.port) (let e : d ≡ c = cc in e) h.0
+link-narrow sc is (d ∷ cs) (suc k) c h there = link-narrow sc is cs k c h.1 there

@@ -1,5 +1,5 @@
 -- What connections of ports write.
-use Rattle.std.proofs.Common.{◌≡◌, ℕ, max, take, false, List, [], ◌∷◌, ◌++◌, ap, sym, ◌∙◌}
+use Rattle.std.proofs.Common.{◌≡◌, ℕ, max, take, false, List, [], ◌∷◌, ◌++◌, ap, ◌∙◌}
 use Rattle.b4_core.specs.declared.bit.Bit4.{Bit4}
 use Rattle.b4_core.specs.Vectors.{ext}
 use Rattle.row_machine.specs.Valuation.{Valuation}
@@ -8,15 +8,15 @@ use Rattle.picks.specs.Windows.{whole, written}
 use Rattle.row_machine.specs.Steps.{then_changes}
 use Rattle.v_tree.specs.declared.expressions.VExpr.{VExpr}
 use Rattle.v_meaning.specs.Scopes.{Scope}
-use Rattle.v_meaning.specs.Values.{Meaning, meaning, given}
+use Rattle.v_meaning.specs.Values.{meaning, given}
 use Rattle.v_meaning.specs.Statements.{Target, changes_of as assigned_changes}
 use Rattle.v_meaning.specs.Modules.{port_target, port_value}
 use Rattle.v_eval.specs.Windows.{window_of}
 use Rattle.v_eval.proofs.Reading.{tabulated-more}
 use Rattle.v_exec.proofs.Copying.{read-result}
 use Rattle.v_run.specs.declared.pieces.Piece.{Piece}
-use Rattle.v_run.specs.Changes.{change_of, changes_of}
-use Rattle.v_run.proofs.Changed.{none-first, changes-more}
+use Rattle.v_run.specs.Changes.{changes_of}
+use Rattle.v_run.proofs.Changed.{none-first}
 use Rattle.v_run.proofs.Targeted.{near-next}
 use Rattle.v_processes.specs.declared.process.Port.{Port}
 use Rattle.v_processes.specs.Processes.{port_named}

@@ -13,13 +13,13 @@ use Rattle.v_tree.proofs.Induction.{Each}
 use Rattle.v_meaning.specs.Scopes.{Named, Scope, named}
 use Rattle.v_meaning.specs.Statements.{Target}
 use Rattle.v_meaning.specs.Machine.{size}
-use Rattle.v_meaning.specs.Modules.{Signal, Kind, input_net, net, variable, Process, Parts, Child, signals, items_of, numbered, scope_of, children, signal_count, kind_of, connect, connections, from_output, as_target, process_of, processes, own_parts, joined_parts, parts_from, parts}
+use Rattle.v_meaning.specs.Modules.{Signal, Kind, input_net, net, variable, Process, Parts, Child, signals, items_of, numbered, scope_of, children, signal_count, kind_of, connect, connections, from_output, as_target, process_of, processes, joined_parts, parts_from, parts}
 use Rattle.v_instances.proofs.Counting.{signals-are, count-is}
 use Rattle.v_exec.specs.Inside.{NamesFit}
 use Rattle.v_processes.specs.declared.process.Does.{Does}
 use Rattle.v_processes.specs.declared.process.Does.TheVariants as D
 use Rattle.v_processes.specs.declared.process.Proc.{Proc}
-use Rattle.v_processes.specs.Processes.{does_in, items_at, process_at, processes_at}
+use Rattle.v_processes.specs.Processes.{does_in, items_at, processes_at}
 
 -- signals that stand from a number on
 size-at : (all : List Signal) (n : ℕ) (s : Signal) (rest : List Signal) → drop n all ≡ s ∷ rest → size s ≤ get_or (map size all) n 0

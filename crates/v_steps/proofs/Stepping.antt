@@ -1,5 +1,5 @@
 -- Runs of processes, and what they put over stores.
-use Rattle.std.proofs.Common.{◌≡◌, ℕ, zero, suc, ◌-◌, ◌^◌, ◌≤◌, Bool, true, false, cond, List, [], ◌∷◌, length, map, get_or, refl, arith, ap, sym, ◌∙◌, subst}
+use Rattle.std.proofs.Common.{◌≡◌, ℕ, zero, suc, ◌-◌, ◌^◌, ◌≤◌, Bool, true, false, cond, List, [], ◌∷◌, length, get_or, refl, arith, ap, sym, ◌∙◌, subst}
 use Rattle.std.proofs.Math.Path.{fun_ext}
 use Rattle.std.proofs.lemmas.Bool.Decides.{nat_tests}
 use Rattle.std.proofs.lemmas.List.{length-map}
@@ -17,7 +17,7 @@ use Rattle.v_meaning.specs.Scopes as S
 use Rattle.v_meaning.specs.Scopes.{Named, is_signal}
 use Rattle.v_meaning.specs.Values.{Meaning, meaning, given}
 use Rattle.v_meaning.specs.Runs.{State, begun}
-use Rattle.v_meaning.specs.Statements.{Target, Doing, assignment, target, doing_of, changes_of as assigned_changes}
+use Rattle.v_meaning.specs.Statements.{Target, assignment, target, doing_of, changes_of as assigned_changes}
 use Rattle.v_meaning.specs.Machine.{to_signals}
 use Rattle.v_meaning.specs.Functions.{callees_within}
 use Rattle.v_meaning.specs.Modules.{scope_of, functions, signals, numbered, port_target, port_value}
