@@ -1,0 +1,4 @@
+pub mod Linking
+pub mod Stepping
+pub mod Instances
+pub mod Standing
