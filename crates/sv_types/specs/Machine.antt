@@ -80,6 +80,10 @@ undriven false = Z
 abbrev pub to_signals : Changes → Changes
 to_signals c q = cond (is_signal q.signal) (c q) None
 
+-- what a run starts on: nothing has been written to a local
+abbrev pub unwritten : Valuation → Valuation
+unwritten v q = cond (is_signal q.signal) (v q) X
+
 abbrev pub has_edge : Valuation → Valuation → EdgeOn → Bool
 has_edge v w e =
     let q : Place = record { signal = e.signal; bit = 0 } in
@@ -116,7 +120,7 @@ module _ (d : Parts) where
   -- a run on a valuation, from the start
   abbrev pub ran : Doing → Valuation → State
   ran p v =
-      p.run (record { now = v; holds = λ n. true; callee = d.callee })
+      p.run (record { now = unwritten v; holds = λ n. true; callee = d.callee })
       (record { written = unchanged; pending = unchanged; outcome = Normal })
 
   abbrev pub comb : Bool → List Place → Doing → M.Process

@@ -1,4 +1,4 @@
--- What the names in a module, a function or a block stand for (IEEE 1364-2005 clause 12.5).
+-- What the names in a module, a function or a block stand for (IEEE 1364-2005 clause 12.7).
 use Rattle.std.specs.Prelude.{ℕ, ◌+◌, ◌*◌, ◌^◌, nat_lt, Bool, List, [], ◌∷◌, Option, Some, None, cond}
 use Rattle.std.specs.Str.{bytes_eq}
 use Rattle.b4_core.specs.declared.bit.Bit4.{Bit4}

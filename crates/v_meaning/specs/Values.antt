@@ -128,7 +128,7 @@ reference name sels = record {
   reads = λ sc. use_of (named sc.names name) sels sc ∷ sel_reads sels sc;
 }
 
--- each input of a function gets its argument as by an assignment (clause 10.4.4)
+-- each input of a function gets its argument as by an assignment (clause 10.4.3)
 abbrev pub arguments : List ℕ → List Meaning → Scope → Valuation → List (List Bit4)
 arguments [] ms sc v = []
 arguments (n ∷ ns) [] sc v = []
