@@ -19,8 +19,9 @@ pub fn expressions_are_places()
     ensures { ExpressionsArePlaces }
 {}
 
-/// A statement without loops, where what is sure isn't written: each run ends as one of its paths does, writes no bit but those
-/// that it may write, and each that no path leaves out which ends so; and what it writes hangs on its early reads alone.
+/// A statement whose loops have known bounds and leave their variables alone, where what is sure isn't written: each run ends
+/// as one of its paths does, writes no bit but those that it may write, and each that no path leaves out which ends so; and what
+/// it writes hangs on its early reads alone. A loop that would make more turns than are allowed ends after as many as are.
 pub fn statements_conform()
     ensures { StatementsConform }
 {}
