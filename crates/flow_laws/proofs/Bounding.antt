@@ -1,36 +1,19 @@
 -- On what it hangs whether the loops of a statement are bounded: on which bits are sure, and not on what they hold.
-use Rattle.std.proofs.Common.{◌≡◌, ℕ, zero, suc, ◌==◌, Bool, true, false, ◌&&◌, ◌||◌, not, List, [], ◌∷◌, ◌++◌, map, flat_map, length, Option, Some, None, refl, ap, sym, ◌∙◌, subst}
-use Rattle.std.specs.Prelude.{nat_le, nat_lt, is_some}
+use Rattle.std.proofs.Common.{◌≡◌, ℕ, ◌==◌, ◌&&◌, ◌||◌, not, List, [], ◌∷◌, ◌++◌, map, Option, Some, None, refl, ap, sym, subst}
 use Rattle.std.specs.List.{list_any, list_all}
-use Rattle.std.proofs.lemmas.Bool.{true≢false, or_parts, and_parts, eqb-true}
-use Rattle.row_machine.specs.Valuation.{Place}
-use Rattle.sv_source.specs.declared.token.Spot.{Spot}
 use Rattle.sv_types.specs.declared.expression.Expr.{Expr}
-use Rattle.sv_types.specs.declared.statement.CaseKind.{CaseKind}
 use Rattle.sv_types.specs.declared.statement.Local.{Local}
-use Rattle.sv_types.specs.declared.statement.Way.{Way}
-use Rattle.sv_types.specs.declared.statement.Way.TheVariants as Y
-use Rattle.sv_types.specs.declared.statement.Outcome.TheVariants as O
 use Rattle.sv_types.specs.declared.statement.Stmt.{Stmt}
-use Rattle.sv_types.specs.declared.statement.Stmt.TheVariants as V
 use Rattle.sv_types.specs.declared.statement.CaseItem.{CaseItem}
-use Rattle.sv_types.specs.Surroundings.{Sight, Parameter, Callee, Write, local_number}
-use Rattle.sv_types.specs.Meanings.{Meaning, wide}
-use Rattle.sv_types.specs.Operators.{assigned_to}
+use Rattle.sv_types.specs.Surroundings.{Sight, Callee, local_number}
+use Rattle.sv_types.specs.Meanings.{Meaning}
 use Rattle.sv_types.specs.Expressions.{meaning}
-use Rattle.sv_types.specs.Runs.{is_true, most_turns}
-use Rattle.sv_types.specs.Flows as F
-use Rattle.sv_types.specs.Flows.{Flow, Flows, covers, covered, uses_of, whole_local, knowing}
+use Rattle.sv_types.specs.Flows.{covers, whole_local}
 use Rattle.sv_types.specs.Statements as S
 use Rattle.sv_types.specs.Statements.{Doing, Item, doing, scope, scope_flow, flows, marks_of, initial_of, flow_or_nothing, none_or, in_loop, is_bounded, actual_roots, roots_by_way}
 use Rattle.sv_types.proofs.DoingLevels as D
 use Rattle.sv_types.proofs.DoingLevels.{item_of, perhaps}
-use Rattle.flow_laws.specs.Runs.{Variables}
-use Rattle.flow_laws.specs.Statements.{has_variables, is_plain}
-use Rattle.flow_laws.proofs.Naming as N
-use Rattle.flow_laws.proofs.Naming.{SameSure, AllTell, tells, all-tell, any-parts, and-same}
-use Rattle.flow_laws.proofs.Placing.{covered-writes, same-number}
-use Rattle.flow_laws.proofs.Levels as H
+use Rattle.flow_laws.proofs.Naming.{SameSure, tells, and-same}
 use Rattle.flow_laws.proofs.Terms.{Each, OrNone, Steps, by-stmt}
 
 -- the same bits are sure, and the functions are the same

@@ -1,11 +1,10 @@
 -- What is known of statements holds in each run.
-use Rattle.std.proofs.Common.{◌≡◌, ◌⊎◌, inl, inr, ℕ, suc, ◌==◌, Bool, true, false, ◌&&◌, ◌||◌, not, List, [], ◌∷◌, ◌++◌, map, flat_map, length, Option, Some, None, refl, ap, sym, ◌∙◌, subst, rules}
+use Rattle.std.proofs.Common.{◌≡◌, ◌⊎◌, inl, inr, ℕ, suc, ◌==◌, Bool, true, false, ◌&&◌, not, List, [], ◌∷◌, ◌++◌, map, flat_map, length, Option, Some, None, refl, ap, sym, ◌∙◌, subst}
 use Rattle.std.specs.Prelude.{nat_le, nat_lt, is_some}
 use Rattle.std.specs.List.{list_any, list_all}
 use Rattle.std.proofs.lemmas.Bool.{false≢true, and_parts, or_cases, or_left, or_right, eqb-true}
 use Rattle.b4_core.specs.declared.bit.Bit4.{Bit4}
 use Rattle.row_machine.specs.Valuation.{Place}
-use Rattle.sv_source.specs.declared.token.Spot.{Spot}
 use Rattle.sv_types.specs.declared.expression.Expr.{Expr}
 use Rattle.sv_types.specs.declared.statement.CaseKind.{CaseKind}
 use Rattle.sv_types.specs.declared.statement.Local.{Local}

@@ -5,13 +5,11 @@ use Rattle.std.specs.List.{list_any, list_all}
 use Rattle.std.proofs.lemmas.Bool.{true≢false, or_parts, and_parts, eqb-true}
 use Rattle.row_machine.specs.Valuation.{Place}
 use Rattle.sv_types.specs.declared.expression.Expr.{Expr}
-use Rattle.sv_types.specs.declared.statement.CaseKind.{CaseKind}
 use Rattle.sv_types.specs.declared.statement.Local.{Local}
 use Rattle.sv_types.specs.declared.statement.Way.{Way}
 use Rattle.sv_types.specs.declared.statement.Way.TheVariants as Y
 use Rattle.sv_types.specs.declared.statement.Outcome.TheVariants as O
 use Rattle.sv_types.specs.declared.statement.Stmt.{Stmt}
-use Rattle.sv_types.specs.declared.statement.Stmt.TheVariants as V
 use Rattle.sv_types.specs.declared.statement.CaseItem.{CaseItem}
 use Rattle.sv_types.specs.Surroundings.{Sight, Parameter, Write, local_number}
 use Rattle.sv_types.specs.Meanings.{Meaning}

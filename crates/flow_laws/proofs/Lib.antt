@@ -13,4 +13,6 @@ pub mod Levels
 pub mod Bounding
 pub mod Leaving
 pub mod Loops
+pub mod Early
 pub mod Conforming
+pub mod Machines

@@ -16,8 +16,8 @@ use Rattle.sv_types.specs.Runs as R
 use Rattle.sv_types.specs.Runs.{Run, State, current, is_normal, one_of, idle, is_true, set_local, set_variable, after_turn, most_turns}
 use Rattle.sv_types.specs.Flows as F
 use Rattle.sv_types.specs.Flows.{Flow, Flows, covers, covered, uses_of, same_outcome, whole_local, knowing}
-use Rattle.flow_laws.specs.Hangs.{Seen, Hangs}
-use Rattle.flow_laws.specs.Runs.{Variables, is_above, is_beyond, Starts, Alike, Conforms, Apart}
+use Rattle.flow_laws.specs.Hangs.{Hangs}
+use Rattle.flow_laws.specs.Runs.{Variables, is_above, Starts, Conforms, Apart}
 use Rattle.flow_laws.proofs.Agreeing as A
 use Rattle.flow_laws.proofs.Selects.{sees-itself}
 use Rattle.flow_laws.proofs.Placing.{same-number}

@@ -1,6 +1,6 @@
 -- What of an expression hangs on which bits are sure, and not on what they hold; and the signals and locals that a write
 -- through it changes.
-use Rattle.std.proofs.Common.{◌≡◌, ℕ, ◌==◌, max, Bool, true, false, ◌&&◌, ◌||◌, cond, ℤ, List, [], ◌∷◌, ◌++◌, map, flat_map, zip, length, Option, Some, None, refl, ap, sym, ◌∙◌, subst}
+use Rattle.std.proofs.Common.{◌≡◌, ℕ, ◌==◌, Bool, true, false, ◌&&◌, ◌||◌, cond, ℤ, List, [], ◌∷◌, ◌++◌, map, flat_map, Option, Some, None, refl, ap, sym, ◌∙◌, subst}
 use Rattle.std.specs.Prelude.{nat_le, nat_lt, slice_get}
 use Rattle.std.specs.List.{list_any, list_all}
 use Rattle.std.proofs.lemmas.Bool.{or_parts}
@@ -19,7 +19,7 @@ use Rattle.sv_types.specs.Operators as O
 use Rattle.sv_types.specs.Operators.{Alternative, four_state, one_bit, compared, parts_of}
 use Rattle.sv_types.specs.Paths as P
 use Rattle.sv_types.specs.Paths.{root_path, fixed_step, indexed_step, known_base, narrowed, index_of}
-use Rattle.sv_types.specs.Flows.{covers, covered, uses_of}
+use Rattle.sv_types.specs.Flows.{covered, uses_of}
 use Rattle.sv_types.specs.Expressions.{meaning}
 use Rattle.sv_types.proofs.Levels as L
 use Rattle.sv_types.proofs.Levels.{form_meaning, meaning-form}

@@ -10,7 +10,7 @@ use Rattle.sv_types.specs.Surroundings.{Around, Sight, Use}
 use Rattle.sv_types.specs.Runs.{Run, State, current, is_normal, one_of, idle}
 use Rattle.sv_types.specs.Flows as F
 use Rattle.sv_types.specs.Flows.{Flow, covers, covered, uses_of, same_outcome}
-use Rattle.flow_laws.specs.Hangs.{Seen, Agree}
+use Rattle.flow_laws.specs.Hangs.{Agree}
 use Rattle.flow_laws.specs.Runs.{Variables, is_beyond, Starts, Alike, some_token, AlikeEarly, ConformsBy, Conforms, Apart}
 use Rattle.flow_laws.proofs.Placing.{covered-writes}
 
