@@ -1,7 +1,7 @@
 -- Runs of processes, and the machine of a design.
 use Rattle.std.proofs.Common.{◌≡◌, ◌⊎◌, inl, inr, ℕ, zero, suc, Bool, true, false, ◌&&◌, ◌||◌, not, cond, List, [], ◌∷◌, ◌++◌, map, flat_map, filter, length, Option, Some, None, refl, ap, sym, ◌∙◌, subst}
 use Rattle.std.specs.Prelude.{slice_get}
-use Rattle.std.proofs.lemmas.Bool.{false≢true, and_parts, or_cases}
+use Rattle.std.proofs.lemmas.Bool.{not-true, false≢true, and_parts, or_cases}
 use Rattle.b4_core.specs.declared.bit.Bit4.{Bit4}
 use Rattle.b4_core.specs.declared.bit.Bit4.TheVariants.{X}
 use Rattle.row_machine.specs.Valuation.{Place, Valuation, Changes, Member, is_place, has, OneWriter}
@@ -27,10 +27,6 @@ use Rattle.flow_laws.specs.Statements.{GivesFinals}
 use Rattle.flow_laws.specs.Processes.{waits_for_edges, flow_of, Unrolls, RunsWithin, Ordered}
 use Rattle.flow_laws.proofs.Conforming.{conforms}
 use Rattle.flow_laws.proofs.Early.{early-read}
-
-not-true : (b : Bool) → not b ≡ true → b ≡ false
-not-true false h = refl
-not-true true h = absurd (false≢true h)
 
 and-false : (b : Bool) → (b && false) ≡ false
 and-false true = refl
