@@ -2,7 +2,7 @@
 use Rattle.std.proofs.Common.{◌≡◌, ◌⊎◌, inl, inr, ℕ, suc, ◌==◌, Bool, true, false, ◌&&◌, not, List, [], ◌∷◌, ◌++◌, map, flat_map, length, Option, Some, None, refl, ap, sym, ◌∙◌, subst}
 use Rattle.std.specs.Prelude.{nat_le, nat_lt, is_some}
 use Rattle.std.specs.List.{list_any, list_all}
-use Rattle.std.proofs.lemmas.Bool.{false≢true, and_parts, or_cases, or_left, or_right, eqb-true}
+use Rattle.std.proofs.lemmas.Bool.{not-true, false≢true, and_parts, or_cases, or_left, or_right, eqb-true}
 use Rattle.b4_core.specs.declared.bit.Bit4.{Bit4}
 use Rattle.row_machine.specs.Valuation.{Place}
 use Rattle.sv_types.specs.declared.expression.Expr.{Expr}
@@ -76,10 +76,6 @@ bounded-parts k (d ∷ ds) es h =
     let two = and_parts (d.bounded k) (all_bounded k (ds ++ es)) h in
     let rest = bounded-parts k ds es two.1 in
     (ap (λ b. b && all_bounded k ds) two.0 ∙ rest.0, rest.1)
-
-not-true : (b : Bool) → not b ≡ true → b ≡ false
-not-true false h = refl
-not-true true h = absurd (false≢true h)
 
 module _ (vars : Variables) where
   -- what is to be shown of a statement, and of what one does

@@ -1,13 +1,15 @@
 -- Runs of processes, and the machine of a design.
 use Rattle.std.proofs.Common.{◌≡◌, ◌⊎◌, inl, inr, ℕ, zero, suc, Bool, true, false, ◌&&◌, ◌||◌, not, cond, List, [], ◌∷◌, ◌++◌, map, flat_map, filter, length, Option, Some, None, refl, ap, sym, ◌∙◌, subst}
 use Rattle.std.specs.Prelude.{slice_get}
-use Rattle.std.proofs.lemmas.Bool.{false≢true, and_parts, or_cases}
+use Rattle.std.proofs.lemmas.Bool.{not-true, false≢true, and_parts, or_cases}
 use Rattle.b4_core.specs.declared.bit.Bit4.{Bit4}
 use Rattle.b4_core.specs.declared.bit.Bit4.TheVariants.{X}
 use Rattle.row_machine.specs.Valuation.{Place, Valuation, Changes, Member, is_place, has, OneWriter}
 use Rattle.row_machine.specs.Machine as M
 use Rattle.row_machine.specs.Steps.{unchanged}
-use Rattle.row_machine.specs.Order.{Honest, WellWritten}
+use Rattle.row_machine.specs.Order.{Honest, WellWritten, Free, Sound}
+use Rattle.row_machine.specs.Trace.{OneTrace}
+use Rattle.row_machine.proofs.Laws as Laws
 use Rattle.row_machine.proofs.Basics.{is_place-true}
 use Rattle.sv_types.specs.declared.design.ProcessKind.{ProcessKind}
 use Rattle.sv_types.specs.declared.design.ProcessKind.TheVariants.{Continuous, Link, Comb, Latch, Star, Edges}
@@ -27,10 +29,6 @@ use Rattle.flow_laws.specs.Statements.{GivesFinals}
 use Rattle.flow_laws.specs.Processes.{waits_for_edges, flow_of, Unrolls, RunsWithin, Ordered}
 use Rattle.flow_laws.proofs.Conforming.{conforms}
 use Rattle.flow_laws.proofs.Early.{early-read}
-
-not-true : (b : Bool) → not b ≡ true → b ≡ false
-not-true false h = refl
-not-true true h = absurd (false≢true h)
 
 and-false : (b : Bool) → (b && false) ≡ false
 and-false true = refl
@@ -209,3 +207,11 @@ well-written d ordered combs edges = record {
   where
     finals : GivesFinals (unseen (parts d))
     finals f vs = finals-within (length d.functions) d.functions f vs
+
+pub has-one-trace : (d : Design) → ((p : Process) → Member d.processes p → Ordered (parts d) p.kind p.body)
+    → OneWriter (λ (p : M.Process). p.writes) (machine d).combs → OneWriter (λ (p : M.EdgeProcess). p.writes) (machine d).edges
+    → ((p : M.Process) → Member (machine d).combs p → Free (machine d).combs p) → Sound (machine d) × ((rows : List Valuation) → OneTrace (machine d) rows)
+has-one-trace d ordered combs edges free = (sound, λ rows. Laws.one_trace (machine d) sound rows)
+  where
+    sound : Sound (machine d)
+    sound = record { well_written = well-written d ordered combs edges; all_free = free }

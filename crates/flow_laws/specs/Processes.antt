@@ -1,8 +1,9 @@
 -- What is known of a process before it runs holds in each run of it, whatever signals hold.
-use Rattle.std.specs.Prelude.{◌≡◌, Bool, true, false, None, is_some}
+use Rattle.std.specs.Prelude.{◌≡◌, Bool, true, false, List, None, is_some}
 use Rattle.row_machine.specs.Valuation.{Place, Valuation, Member, has, OneWriter}
 use Rattle.row_machine.specs.Machine as M
-use Rattle.row_machine.specs.Order.{Honest, WellWritten}
+use Rattle.row_machine.specs.Order.{Honest, WellWritten, Free, Sound}
+use Rattle.row_machine.specs.Trace.{OneTrace}
 use Rattle.sv_types.specs.declared.design.ProcessKind.{ProcessKind}
 use Rattle.sv_types.specs.declared.design.ProcessKind.TheVariants.{Continuous, Link, Comb, Latch, Star, Edges}
 use Rattle.sv_types.specs.declared.design.Process.{Process}
@@ -65,3 +66,10 @@ ProcessesAreHonest = (d : Parts) → GivesFinals (unseen d) → (kind : ProcessK
 abbrev pub MachinesAreWellWritten : Type 0
 MachinesAreWellWritten = (d : Design) → ((p : Process) → Member d.processes p → Ordered (parts d) p.kind p.body)
     → OneWriter (λ (p : M.Process). p.writes) (machine d).combs → OneWriter (λ (p : M.EdgeProcess). p.writes) (machine d).edges → WellWritten (machine d)
+
+-- and where no combinational process is stuck it has exactly one trace for any rows
+abbrev pub DesignsHaveOneTrace : Type 0
+DesignsHaveOneTrace = (d : Design) → ((p : Process) → Member d.processes p → Ordered (parts d) p.kind p.body)
+    → OneWriter (λ (p : M.Process). p.writes) (machine d).combs → OneWriter (λ (p : M.EdgeProcess). p.writes) (machine d).edges
+    → ((p : M.Process) → Member (machine d).combs p → Free (machine d).combs p)
+    → Sound (machine d) × ((rows : List Valuation) → OneTrace (machine d) rows)

@@ -1,11 +1,11 @@
-//! What is known of expressions and statements before a run holds in each run. The functions are laws, and do nothing; their
-//! proofs, to be cited by crates above, are in `proofs/`.
+//! What is known of expressions, statements and processes before a run holds in each run. The functions are laws, and do nothing;
+//! their proofs, to be cited by crates above, are in `proofs/`.
 #![tactic(auto)]
 
 ghost use Rattle.flow_laws.specs.Hangs.{ExpressionsHang};
 ghost use Rattle.flow_laws.specs.Places.{ExpressionsArePlaces};
 ghost use Rattle.flow_laws.specs.Statements.{StatementsConform};
-ghost use Rattle.flow_laws.specs.Processes.{ProcessesRunWithin, ProcessesAreHonest, MachinesAreWellWritten};
+ghost use Rattle.flow_laws.specs.Processes.{ProcessesRunWithin, ProcessesAreHonest, MachinesAreWellWritten, DesignsHaveOneTrace};
 
 /// In surroundings that a sight knows of, an expression's value hangs on its reads alone, and what it selects from and which
 /// bits it selects on the reads of its indices; these bits lie in its prefix, and are all of it where the prefix is exact; what is
@@ -43,4 +43,9 @@ pub fn processes_are_honest()
 /// The machine of a design of such processes is well written where no bit has two writers.
 pub fn machines_are_well_written()
     ensures { MachinesAreWellWritten }
+{}
+
+/// So where besides no combinational process is stuck, the machine is sound, and any rows have exactly one trace.
+pub fn designs_have_one_trace()
+    ensures { DesignsHaveOneTrace }
 {}
