@@ -1,5 +1,5 @@
 -- What a text reads hangs on what the functions read alone, as sets.
-use Rattle.std.proofs.Common.{◌≡◌, ℕ, ◌+◌, ◌==◌, Bool, ◌||◌, List, [], ◌∷◌, ◌++◌, length, map, Option, Some, None, refl, sym, ap, ◌∙◌, subst}
+use Rattle.std.proofs.Common.{◌≡◌, ℕ, ◌+◌, ◌==◌, ◌||◌, List, [], ◌∷◌, ◌++◌, length, map, Option, Some, None, refl, sym, ap, ◌∙◌, subst}
 use Rattle.std.specs.Prelude.{flat_map}
 use Rattle.v_tree.specs.Names.{Name}
 use Rattle.v_tree.specs.declared.expressions.VExpr.{VExpr}
@@ -7,15 +7,11 @@ use Rattle.v_tree.specs.declared.expressions.VExpr.TheVariants as X
 use Rattle.v_tree.specs.declared.expressions.VPrim.{VPrim}
 use Rattle.v_tree.specs.declared.expressions.VPrim.TheVariants as P
 use Rattle.v_tree.specs.declared.expressions.VSel.{VSel}
-use Rattle.v_tree.specs.declared.expressions.VSel.TheVariants as Z
 use Rattle.v_tree.specs.declared.items.VLocal.{VLocal}
 use Rattle.v_tree.specs.declared.statements.VBranch.{VBranch}
-use Rattle.v_tree.specs.declared.statements.VBranch.TheVariants as G
 use Rattle.v_tree.specs.declared.statements.VCaseItem.{VCaseItem}
-use Rattle.v_tree.specs.declared.statements.VCaseItem.TheVariants as C
 use Rattle.v_tree.specs.declared.statements.VLval.{VLval}
 use Rattle.v_tree.specs.declared.statements.VStmt.{VStmt}
-use Rattle.v_tree.specs.declared.statements.VStmt.TheVariants as S
 use Rattle.v_tree.proofs.Induction.{Each, Perhaps, ExprSteps, ind-expr, ind-sel, LvalSteps, ind-lval, StmtSteps, ind-stmt}
 use Rattle.v_expr_rules.proofs.Levels as L
 use Rattle.v_footprints.specs.Footprints.{uses}
@@ -24,7 +20,6 @@ use Rattle.v_footprints.proofs.Uses.{uses-both}
 use Rattle.v_meaning.specs.Scopes.{Named, Scope, Callee, Use, named}
 use Rattle.v_meaning.specs.Selects.{SelMeaning}
 use Rattle.v_meaning.specs.Values.{Meaning, meaning, sel_meaning, expr_step, prim_step, sel_step, all_reads, sel_reads, use_of}
-use Rattle.v_meaning.specs.Statements as M
 use Rattle.v_meaning.specs.Statements.{Doing, Item, Target, target, lval_step, doing, doing_of, sequence, otherwise, declared, inside, locals_of, branch_step, item_step, stmt_step}
 use Rattle.v_eval.specs.Scopes.{prim_meaning}
 use Rattle.v_eval.proofs.Levels.{is-prim, is-unary, is-binary, is-choose, is-number, is-paren, is-name, is-call, is-repeat, is-concat, is-sign}

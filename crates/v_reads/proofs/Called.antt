@@ -1,9 +1,9 @@
 -- What functions read, as they are called.
-use Rattle.std.proofs.Common.{◌≡◌, ℕ, ◌||◌, List, [], ◌++◌, Option, Some, None, sym, ap, ◌∙◌}
+use Rattle.std.proofs.Common.{◌≡◌, ℕ, ◌||◌, List, ◌++◌, Option, Some, None, sym, ap, ◌∙◌}
 use Rattle.std.specs.Prelude.{slice_get}
 use Rattle.v_eval.specs.declared.scopes.Scope.{Scope}
 use Rattle.v_eval.specs.Scopes.{callee_at}
-use Rattle.v_reads.specs.Reads.{is_among, Adds, AreOf, or_none, FunctionsRead}
+use Rattle.v_reads.specs.Reads.{is_among, Adds, or_none, FunctionsRead}
 use Rattle.v_reads.proofs.Sets.{or-none, adds-none, adds-list}
 
 pub called-nowhere : (s : Scope) (old : List ℕ) (o : Option ℕ) → None ≡ o → Adds old old (callee_at s o).reads

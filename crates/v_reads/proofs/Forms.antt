@@ -3,9 +3,7 @@ use Rattle.std.proofs.Common.{◌≡◌, ℕ, Bool, true, false, ◌||◌, List,
 use Rattle.v_tree.specs.declared.expressions.VExpr.{VExpr}
 use Rattle.v_tree.specs.declared.items.VLocal.{VLocal}
 use Rattle.v_tree.specs.declared.statements.VBranch.{VBranch}
-use Rattle.v_tree.specs.declared.statements.VBranch.TheVariants as G
 use Rattle.v_tree.specs.declared.statements.VCaseItem.{VCaseItem}
-use Rattle.v_tree.specs.declared.statements.VCaseItem.TheVariants as C
 use Rattle.v_tree.specs.declared.statements.VCaseKind.{VCaseKind}
 use Rattle.v_tree.specs.declared.statements.VLabel.{VLabel}
 use Rattle.v_tree.specs.declared.statements.VLval.{VLval}
@@ -19,7 +17,7 @@ use Rattle.v_meaning.specs.Values.{Meaning, meaning, all_reads}
 use Rattle.v_meaning.specs.Runs.{Run, first_match, selector, current}
 use Rattle.v_meaning.specs.Statements as M
 use Rattle.v_meaning.specs.Statements.{Doing, Item, Target, target, doing, doing_of, sequence, assignment, conditional, cases, block_with, inside, locals_of, nothing, otherwise, any_item, item_values, branch_step, item_step, stmt_step}
-use Rattle.v_reads.specs.Reads.{item_of, item_read, items_read, else_doing}
+use Rattle.v_reads.specs.Reads.{item_of, items_read, else_doing}
 use Rattle.v_reads.proofs.Sets.{or-assoc, or-none}
 
 pub block-with-reads : (ls : List VLocal) (d : Doing) (sc : Scope) → (block_with ls d).reads sc ≡ d.reads (inside ls sc)

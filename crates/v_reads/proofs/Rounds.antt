@@ -16,7 +16,7 @@ use Rattle.v_eval.specs.declared.modules.Local.{Local}
 use Rattle.v_eval.specs.declared.scopes.Scope.{Scope}
 use Rattle.v_eval.specs.Functions.{function_in, function_at, place_of}
 use Rattle.v_eval.specs.Names.{local_named}
-use Rattle.v_eval.specs.Scopes.{scope_of, signals_of, callee_within, callee_at}
+use Rattle.v_eval.specs.Scopes.{signals_of, callee_within, callee_at}
 use Rattle.v_eval.proofs.Calls.{called}
 use Rattle.v_eval.proofs.Naming.{placed}
 use Rattle.v_reads.specs.Reads.{is_among, Adds, AreOf, or_none, FunctionsRead, at_depth, around}

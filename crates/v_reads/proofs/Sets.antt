@@ -1,6 +1,5 @@
 -- Numbers and uses as sets.
-use Rattle.std.proofs.Common.{◌≡◌, ℕ, ◌+◌, ◌<◌, ◌==◌, Bool, true, false, ◌||◌, List, [], ◌∷◌, ◌++◌, length, drop, get_or, Result, Ok, Err, IfOk, refl, sym, ap, ◌∙◌}
-use Rattle.std.proofs.lemmas.List.{drop_more}
+use Rattle.std.proofs.Common.{◌≡◌, ℕ, ◌==◌, Bool, true, false, ◌||◌, List, [], ◌∷◌, ◌++◌, Result, Ok, Err, IfOk, refl, sym, ap, ◌∙◌}
 use Rattle.v_meaning.specs.Scopes.{Use}
 use Rattle.v_footprints.specs.Footprints.{uses}
 use Rattle.v_footprints.proofs.Uses.{uses-both}
@@ -46,24 +45,6 @@ unit (u ∷ us) = ap (λ l. u ∷ l) (unit us)
 -- what is added so far, and what is left, are the whole
 pub record Left (old now : List ℕ) (rest whole : List Use) : Type 0 where
   pub same : (n : ℕ) → (is_among now n || uses rest n) ≡ (is_among old n || uses whole n)
-
-pub left-turn : (old now new : List ℕ) (one rest more whole : List Use) → Left old now more whole → Adds now new one → more ≡ one ++ rest → Left old new rest whole
-left-turn old now new one rest more whole h g e = record {
-  same = λ n. ap (λ b. b || uses rest n) (g.same n) ∙ or-assoc (is_among now n) (uses one n) (uses rest n)
-      ∙ ap (λ b. is_among now n || b) (sym (uses-both one rest n) ∙ ap (λ l. uses l n) (sym e)) ∙ h.same n;
-}
-
-pub left-same : (old now : List ℕ) (rest more whole : List Use) → Left old now more whole → more ≡ rest → Left old now rest whole
-left-same old now rest more whole h e = record { same = λ n. ap (λ l. is_among now n || uses l n) (sym e) ∙ h.same n }
-
-pub left-done : (old now : List ℕ) (rest whole : List Use) → Left old now rest whole → rest ≡ [] → Adds old now whole
-left-done old now rest whole h e = record { same = λ n. or-none (is_among now n) ∙ ap (λ l. is_among now n || uses l n) (sym e) ∙ h.same n }
-
-pub left-last : (old now new : List ℕ) (rest whole : List Use) → Left old now rest whole → Adds now new rest → Adds old new whole
-left-last old now new rest whole h g = record { same = λ n. g.same n ∙ h.same n }
-
-pub here : {A : Type 0} (xs : List A) (i : ℕ) (x : A) → i < length xs → x ≡ get_or xs i x → drop i xs ≡ x ∷ drop (i + 1) xs
-here xs i x h is = drop_more xs i x h ∙ ap (λ y. y ∷ drop (i + 1) xs) (sym is)
 
 pub if-ok : {A E : Type 0} {P Q : A → Type 0} → ((x : A) → P x → Q x) → (r : Result A E) → IfOk r P → IfOk r Q
 if-ok f (Ok x) h = f x h

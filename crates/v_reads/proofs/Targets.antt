@@ -1,5 +1,5 @@
 -- What the indices of targets read, form by form.
-use Rattle.std.proofs.Common.{◌≡◌, ℕ, List, ◌++◌, map, sym, ap, ◌∙◌, refl}
+use Rattle.std.proofs.Common.{◌≡◌, ℕ, List, map, sym, ap, ◌∙◌, refl}
 use Rattle.std.specs.Prelude.{flat_map}
 use Rattle.v_tree.specs.Names.{Name}
 use Rattle.v_tree.specs.declared.expressions.VSel.{VSel}

@@ -1,7 +1,6 @@
 use Rattle.std.proofs.Common.{map, drop}
 use Rattle.v_meaning.specs.Values.{meaning, sel_meaning, sel_reads, all_reads}
 use Rattle.v_eval.specs.Scopes.{scope_of}
-use Rattle.v_reads.specs.Reads.{FunctionsRead}
 use Rattle.v_reads.proofs.Sets.{Left}
 use Rattle.v_reads.proofs.expressions.+reads.Given as goal
 

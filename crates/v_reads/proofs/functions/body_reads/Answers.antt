@@ -1,4 +1,4 @@
-use Rattle.std.proofs.Common.{rules, ◌≡◌, ◌&&◌, List, length, map, ap, ◌∙◌}
+use Rattle.std.proofs.Common.{rules, ◌≡◌, ◌&&◌, length, map, ap, ◌∙◌}
 use Rattle.v_meaning.specs.Functions.{callees_within}
 use Rattle.v_meaning.specs.Modules.{functions as functions_in}
 use Rattle.v_meaning.specs.Scopes.{is_signal}

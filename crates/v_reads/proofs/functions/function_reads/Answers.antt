@@ -1,4 +1,4 @@
-use Rattle.std.proofs.Common.{rules, ◌≡◌, ◌<◌, suc, List, ap, sym, ◌∙◌, arith}
+use Rattle.std.proofs.Common.{rules, ◌≡◌, suc, ap, ◌∙◌, arith}
 use Rattle.std.specs.Prelude.{slice_get}
 use Rattle.v_reads.specs.Reads.{is_among, or_none, FunctionsRead, at_depth}
 use Rattle.v_reads.proofs.Rounds.{none-read, settled, one-more, all-rounds}

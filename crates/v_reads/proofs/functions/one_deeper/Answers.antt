@@ -1,4 +1,4 @@
-use Rattle.std.proofs.Common.{rules, ◌≡◌, ◌≤◌, suc, length, arith}
+use Rattle.std.proofs.Common.{rules, ◌≤◌, suc, length}
 use Rattle.v_reads.specs.Reads.{at_depth}
 use Rattle.v_reads.proofs.Rounds.{rows-none, row-pushed, count-pushed, rows-read}
 use Rattle.v_reads.proofs.functions.one_deeper.Goals as goal

@@ -1,4 +1,4 @@
-use Rattle.std.proofs.Common.{List, ap, ◌∙◌}
+use Rattle.std.proofs.Common.{ap, ◌∙◌}
 use Rattle.v_reads.specs.Reads.{is_among}
 use Rattle.v_reads.proofs.Rounds.{signals-among}
 use Rattle.v_reads.proofs.Once.{once}
