@@ -16,19 +16,8 @@ use Rattle.v_tree.specs.declared.items.VItem.TheVariants as I
 use Rattle.v_tree.specs.declared.items.VModule.{VModule}
 use Rattle.v_tree.proofs.Induction.{Each}
 use Rattle.v_meaning.specs.Modules.{items_of}
+use Rattle.v_exec.proofs.KeptExprs.{left-none, right-none, not-if}
 use Rattle.v_runs.specs.Depths.{Shallow, NeverDeeper}
-
-left-none : {A : Type 0} (xs ys : List A) → xs ++ ys ≡ [] → xs ≡ []
-left-none [] ys h = refl
-left-none (x ∷ xs) ys h = absurd (cc)
-
-right-none : {A : Type 0} (xs ys : List A) → xs ++ ys ≡ [] → ys ≡ []
-right-none [] ys h = h
-right-none (x ∷ xs) ys h = absurd (cc)
-
-not-if : (b : Bool) (t : ℕ) → only_if b t ≡ [] → b ≡ false
-not-if true t h = absurd (cc)
-not-if false t h = refl
 
 -- names
 equal : (a b : Name) → bytes_eq a b ≡ true → a ≡ b
