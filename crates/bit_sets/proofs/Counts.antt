@@ -13,11 +13,11 @@ abbrev pub total : List Span → ℕ
 total [] = 0
 total (s ∷ ss) = (s.high - s.low) + total ss
 
-count-zero : (f : ℕ → Bool) (k : ℕ) → count_from f k zero ≡ 0
+pub count-zero : (f : ℕ → Bool) (k : ℕ) → count_from f k zero ≡ 0
 unfolding count_from
 count-zero f k = refl
 
-count-more : (f : ℕ → Bool) (k w : ℕ) → count_from f k (suc w) ≡ cond (f k) (suc (count_from f (suc k) w)) (count_from f (suc k) w)
+pub count-more : (f : ℕ → Bool) (k w : ℕ) → count_from f k (suc w) ≡ cond (f k) (suc (count_from f (suc k) w)) (count_from f (suc k) w)
 unfolding count_from
 count-more f k w = refl
 
