@@ -3,3 +3,4 @@ pub mod Numbering
 pub mod Covering
 pub mod Tallies
 pub mod Together
+pub mod Counting

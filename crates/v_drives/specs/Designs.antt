@@ -1,8 +1,10 @@
 -- What the processes of a design may write.
-use Rattle.std.specs.Prelude.{◌≡◌, ℕ, Bool, List, map, flat_map, Some, slice_get, Result, IfOk}
+use Rattle.std.specs.Prelude.{◌≡◌, ℕ, Bool, true, false, List, map, flat_map, Some, slice_get, Result, IfOk}
 use Rattle.v_tree.specs.declared.items.VModule.{VModule}
 use Rattle.v_meaning.specs.Scopes.{Use}
-use Rattle.v_meaning.specs.Modules.{Process, scope_of}
+use Rattle.row_machine.specs.Rounds.{written_bits}
+use Rattle.v_meaning.specs.Machine.{comb_of}
+use Rattle.v_meaning.specs.Modules.{Parts, Process, Starts, always_on, on_change, on_edges, scope_of}
 use Rattle.v_exec.specs.Modules.{FunctionsNarrow}
 use Rattle.v_modules.specs.declared.table.Table.{Table}
 use Rattle.v_modules.specs.Tables.{items_of, items_in}
@@ -40,3 +42,13 @@ TellsQuiet {E} ts post = (of first : ℕ) (r : Result (List Bool) E) → post of
 -- what is so for the modules of these tables
 abbrev pub ForModules : List Table → (List VModule → Type 0) → Type 0
 ForModules ts P = (ms : List VModule) → map items_of ts ≡ map items_in ms → P ms
+
+-- whether a process runs at edges alone
+abbrev pub at_edges : Starts → Bool
+at_edges always_on = false
+at_edges on_change = false
+at_edges (on_edges es) = true
+
+-- how many bits the combinational ones of some processes may write
+abbrev pub bits_written : ℕ → Parts → List Process → ℕ
+bits_written own d ps = written_bits (flat_map (λ (p : Process). comb_of own d p.starts p) ps)

@@ -15,14 +15,14 @@ use v_writes::Writes;
 
 // Which functions of an instance read no signal.
 #[derive(Drop)]
-struct Quiet {
-    of: usize,
-    first: u32,
-    functions: Items<bool>,
+pub struct Quiet {
+    pub of: usize,
+    pub first: u32,
+    pub functions: Items<bool>,
 }
 
 // Which functions of the instance of a process read no signal.
-fn told_anew<Q: Fn(usize, u32) -> Result<Items<bool>, AllocError>>(
+pub fn told_anew<Q: Fn(usize, u32) -> Result<Items<bool>, AllocError>>(
     tables: &[Table<'_>],
     tell: &Q,
     process: &Proc<'_>,
@@ -40,7 +40,7 @@ fn told_anew<Q: Fn(usize, u32) -> Result<Items<bool>, AllocError>>(
 }
 
 // Which functions of the instance of a process read no signal, if that isn't known from the process before it.
-fn told<Q: Fn(usize, u32) -> Result<Items<bool>, AllocError>>(
+pub fn told<Q: Fn(usize, u32) -> Result<Items<bool>, AllocError>>(
     tables: &[Table<'_>],
     tell: &Q,
     known: Quiet,
@@ -59,7 +59,7 @@ fn told<Q: Fn(usize, u32) -> Result<Items<bool>, AllocError>>(
 }
 
 // Adds what a process may write.
-fn add_writes(
+pub fn add_writes(
     alloc: Global,
     tables: &[Table<'_>],
     quiet: &[bool],

@@ -2,12 +2,14 @@
 //! 12.3.9).
 #![tactic(auto)]
 
+mod counts;
 mod designs;
 mod processes;
 mod rows;
 mod sets;
 mod spans;
 
+pub use counts::comb_bits;
 pub use designs::all_writes;
 pub use processes::process_writes;
 pub use rows::{BitRow, row_of};
