@@ -1,19 +1,18 @@
 -- How many bits processes may write.
-use Rattle.std.proofs.Common.{◌≡◌, ◌<◌, ◌≤◌, ℕ, ◌+◌, ◌*◌, Bool, true, false, List, [], ◌∷◌, ◌++◌, map, length, drop, slice_index_or, refl, ap, sym, ◌∙◌, subst, true≢false, append-nil, arith}
+use Rattle.std.proofs.Common.{◌≡◌, ◌<◌, ◌≤◌, ℕ, ◌+◌, true, false, List, [], ◌∷◌, ◌++◌, length, drop, slice_index_or, refl, ap, sym, ◌∙◌, true≢false, append-nil, arith}
 use Rattle.std.specs.Prelude.{flat_map, filter}
 use Rattle.row_machine.specs.Machine as M
 use Rattle.row_machine.specs.Rounds.{written_bits}
 use Rattle.v_tree.specs.declared.items.VModule.{VModule}
-use Rattle.v_meaning.specs.Machine.{comb_of, machine_of, writes_of, size, places_from}
+use Rattle.v_meaning.specs.Machine.{comb_of, machine_of, writes_of, places_from}
 use Rattle.v_meaning.specs.Modules.{Parts, Process, Starts, always_on, on_change, on_edges}
 use Rattle.v_meaning.specs.Scopes.{Scope, Use}
 use Rattle.v_meaning.specs.Statements.{covered}
-use Rattle.v_modules.specs.declared.table.Table.{Table}
 use Rattle.v_processes.specs.declared.process.Does.{Does}
 use Rattle.v_processes.specs.declared.process.Does.TheVariants as D
 use Rattle.v_processes.specs.declared.process.Proc.{Proc}
 use Rattle.v_processes.specs.Processes.{does_in, process_at, processes_at}
-use Rattle.v_drives.specs.Designs.{at_edges, bits_written, process_made, ForModules}
+use Rattle.v_drives.specs.Designs.{at_edges, bits_written, process_made}
 use Rattle.v_drives.proofs.Numbering as N
 
 -- the bits of an `always` at edges don't count, those of any other process do

@@ -1,19 +1,14 @@
 -- What processes may write, form by form.
-use Rattle.std.proofs.Common.{◌≡◌, ◌≤◌, ℕ, Bool, true, false, List, [], ◌∷◌, ◌++◌, map, refl, ap, sym, ◌∙◌, subst, append-nil, Bor}
-use Rattle.v_tree.specs.declared.expressions.VExpr.{VExpr}
-use Rattle.v_tree.specs.declared.statements.VLval.{VLval}
+use Rattle.std.proofs.Common.{◌≡◌, ℕ, Bool, true, false, List, [], ◌++◌, refl, ap, sym, ◌∙◌, subst, append-nil}
 use Rattle.v_meaning.specs.Scopes.{Scope, Use}
-use Rattle.v_meaning.specs.Values.{Meaning, meaning}
-use Rattle.v_meaning.specs.Statements.{Target, target, assignment}
-use Rattle.v_meaning.specs.Modules.{scope_of, port_target, port_value}
+use Rattle.v_meaning.specs.Values.{Meaning}
+use Rattle.v_meaning.specs.Statements.{Target, assignment}
+use Rattle.v_meaning.specs.Modules.{scope_of}
 use Rattle.v_exec.specs.Modules.{scope_in}
 use Rattle.v_modules.specs.declared.table.Table.{Table}
 use Rattle.v_modules.specs.Tables.{items_of}
 use Rattle.v_processes.specs.declared.process.Does.{Does}
-use Rattle.v_processes.specs.declared.process.Does.TheVariants as D
-use Rattle.v_processes.specs.declared.process.Port.{Port}
-use Rattle.v_processes.specs.Processes.{does_in, port_named}
-use Rattle.v_steps.specs.Steps.{DoesNarrow}
+use Rattle.v_processes.specs.Processes.{does_in}
 use Rattle.v_steps.proofs.Stepping.{same-scope, narrow-here}
 use Rattle.v_writes.specs.Writes.{made}
 

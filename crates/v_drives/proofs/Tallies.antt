@@ -1,5 +1,5 @@
 -- How many bits uses cover.
-use Rattle.std.proofs.Common.{◌≡◌, ◌<◌, ◌≤◌, ℕ, zero, suc, ◌+◌, Bool, true, false, List, [], ◌∷◌, ◌++◌, map, length, slice_index_or, refl, ap, sym, ◌∙◌, subst, arith}
+use Rattle.std.proofs.Common.{◌≡◌, ◌<◌, ◌≤◌, ℕ, zero, suc, ◌+◌, Bool, true, false, List, [], ◌∷◌, map, length, slice_index_or, refl, ap, sym, ◌∙◌, subst, arith}
 use Rattle.std.specs.Prelude.{cond, filter, Some, slice_get}
 use Rattle.std.proofs.lemmas.List.{length-append, length-map}
 use Rattle.std.proofs.lemmas.List.Elements.{filter-append}
@@ -14,7 +14,7 @@ use Rattle.v_meaning.specs.Machine.{size, places_from}
 use Rattle.v_meaning.specs.Modules.{Signal}
 use Rattle.v_meaning.specs.Scopes.{Use}
 use Rattle.v_meaning.specs.Statements.{covered}
-use Rattle.v_drives.specs.Rows.{bits_before, all_bits, number_of, IsBit, AreCovered, AreMarks}
+use Rattle.v_drives.specs.Rows.{bits_before, all_bits, AreCovered, AreMarks}
 
 abbrev place : ℕ → ℕ → Place
 place n k = record { signal = n; bit = k }

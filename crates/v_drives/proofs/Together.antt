@@ -1,18 +1,17 @@
 -- What the processes of a design may write, one by one.
-use Rattle.std.proofs.Common.{◌≡◌, ◌<◌, ◌≤◌, ℕ, ◌+◌, Bool, true, false, List, [], ◌∷◌, ◌++◌, map, length, drop, slice_index_or, Some, None, slice_get, refl, ap, sym, ◌∙◌, subst, append_assoc, append-nil, arith}
-use Rattle.std.specs.Prelude.{flat_map}
+use Rattle.std.proofs.Common.{◌≡◌, ◌<◌, ◌≤◌, ℕ, ◌+◌, Bool, List, ◌++◌, length, drop, slice_index_or, Some, slice_get, refl, ap, sym, ◌∙◌, append_assoc, append-nil}
 use Rattle.v_tree.specs.declared.items.VModule.{VModule}
 use Rattle.v_meaning.specs.Scopes.{Scope, Use}
-use Rattle.v_meaning.specs.Modules.{Process, scope_of}
+use Rattle.v_meaning.specs.Modules.{scope_of}
 use Rattle.v_modules.specs.declared.table.Table.{Table}
-use Rattle.v_modules.specs.Tables.{items_of, items_in}
+use Rattle.v_modules.specs.Tables.{items_of}
 use Rattle.v_processes.specs.declared.process.Does.{Does}
 use Rattle.v_processes.specs.declared.process.Does.TheVariants as D
 use Rattle.v_processes.specs.declared.process.Proc.{Proc}
 use Rattle.v_processes.specs.Processes.{does_in, process_at, processes_at}
 use Rattle.v_steps.proofs.Instances.{process-by-table}
 use Rattle.v_writes.specs.Writes.{made}
-use Rattle.v_drives.specs.Designs.{process_made, all_made, AllByTable, ByTable, ForModules}
+use Rattle.v_drives.specs.Designs.{process_made, all_made, ForModules}
 use Rattle.v_drives.proofs.Numbering as N
 
 does-scope : (d : Does) (sc : Scope) → (does_in d sc).scope ≡ sc

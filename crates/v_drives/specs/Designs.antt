@@ -9,7 +9,6 @@ use Rattle.v_exec.specs.Modules.{FunctionsNarrow}
 use Rattle.v_modules.specs.declared.table.Table.{Table}
 use Rattle.v_modules.specs.Tables.{items_of, items_in}
 use Rattle.v_processes.specs.declared.process.Proc.{Proc}
-use Rattle.v_processes.specs.Processes.{processes_at}
 use Rattle.v_steps.specs.Steps.{DoesNarrow}
 use Rattle.v_writes.specs.Writes.{made}
 use Rattle.v_drives.specs.Quiet.{AreQuietIn}

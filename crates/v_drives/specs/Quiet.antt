@@ -1,5 +1,5 @@
 -- Which functions of an instance read no signal.
-use Rattle.std.specs.Prelude.{◌≡◌, ℕ, Bool, List, Some, slice_get}
+use Rattle.std.specs.Prelude.{◌≡◌, ℕ, Bool, List, slice_get}
 use Rattle.v_meaning.specs.Values.{is_empty}
 use Rattle.v_constants.specs.Constants.{or_true}
 use Rattle.v_exec.specs.Modules.{callee_in}

@@ -1,6 +1,6 @@
-use Rattle.std.proofs.Common.{rules, Fits, length, ◌≤◌, arith, ◌≡◌, ◌+◌, ◌++◌, [], ◌∷◌, drop, ap, sym, ◌∙◌, slice_index_or}
+use Rattle.std.proofs.Common.{rules, Fits, length, arith, ◌+◌, ◌++◌, [], ◌∷◌, drop, ap, ◌∙◌}
 use Rattle.std.specs.Int.{w64}
-use Rattle.v_drives.specs.Rows.{starts_from, bits_before}
+use Rattle.v_drives.specs.Rows.{starts_from}
 use Rattle.v_drives.proofs.Numbering as N
 use Rattle.v_drives.proofs.rows.starts_of.Goals as goal
 

@@ -1,4 +1,4 @@
-use Rattle.std.proofs.Common.{◌≡◌, ℕ, map, ap, sym, ◌∙◌, subst, List}
+use Rattle.std.proofs.Common.{map, sym, subst, List}
 use Rattle.bit_sets.specs.declared.span.Span.{Span}
 use Rattle.v_drives.specs.Rows.{AreCovered}
 use Rattle.v_writes.specs.Writes.{use_in}

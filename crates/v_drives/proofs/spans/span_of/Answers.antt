@@ -1,8 +1,6 @@
-use Rattle.std.proofs.Common.{rules, arith, ◌≡◌, ◌≤◌, ◌<◌, ◌+◌, [], ◌∷◌, min, ap, sym, ◌∙◌, subst, slice_index_or}
-use Rattle.bit_sets.specs.declared.span.Span.{Span}
+use Rattle.std.proofs.Common.{arith, ◌≡◌, ◌+◌, [], ◌∷◌, min, ap, sym, ◌∙◌, subst, slice_index_or}
 use Rattle.v_drives.specs.Rows.{bits_before, AreCovered}
 use Rattle.v_writes.specs.Writes.{use_in}
-use Rattle.v_drives.proofs.Numbering as N
 use Rattle.v_drives.proofs.Covering as C
 use Rattle.v_drives.proofs.spans.span_of.Goals as goal
 

@@ -1,4 +1,4 @@
-use Rattle.std.proofs.Common.{arith, ◌≡◌, ◌+◌, ◌||◌, ℕ, [], ◌∷◌, ◌++◌, false, map, drop, ap, sym, ◌∙◌, subst}
+use Rattle.std.proofs.Common.{◌+◌, ◌||◌, map, drop, ap, sym, ◌∙◌}
 use Rattle.bit_sets.specs.Sets.{in_spans}
 use Rattle.bit_sets.proofs.Laws as L
 use Rattle.v_meaning.specs.Statements.{covered}

@@ -1,4 +1,4 @@
-use Rattle.std.proofs.Common.{rules, arith, ◌≡◌, ◌<◌, length, ap, ◌∙◌, slice_index_or}
+use Rattle.std.proofs.Common.{rules, arith, ◌<◌, length, ap, ◌∙◌, slice_index_or}
 use Rattle.v_drives.proofs.Numbering as N
 use Rattle.v_drives.proofs.rows.BitRow.start_of.Goals as goal
 
