@@ -1,0 +1,5 @@
+pub mod Made
+pub mod Numbering
+pub mod Covering
+pub mod Tallies
+pub mod Together
