@@ -1,10 +1,9 @@
 -- Functions hang on no locals of a valuation, and neither do processes.
-use Rattle.std.proofs.Common.{◌≡◌, ℕ, zero, suc, ◌+◌, ◌<◌, ◌≤◌, ◌^◌, Bool, true, false, List, [], ◌∷◌, ◌++◌, Option, Some, None, refl, ap, ◌∙◌, arith}
+use Rattle.std.proofs.Common.{◌≡◌, ℕ, zero, suc, ◌+◌, ◌≤◌, ◌^◌, Bool, true, false, List, [], ◌∷◌, ◌++◌, Option, Some, None, refl, ap, ◌∙◌, arith}
 use Rattle.std.specs.Prelude.{length, cond}
 use Rattle.std.specs.Str.{bytes_eq}
 use Rattle.std.proofs.lemmas.Bool.{lt-ltb}
-use Rattle.b4_core.specs.declared.bit.Bit4.{Bit4}
-use Rattle.row_machine.specs.Valuation.{Place, Valuation, put}
+use Rattle.row_machine.specs.Valuation.{put}
 use Rattle.row_machine.specs.Places.{vector_at}
 use Rattle.row_machine.specs.Steps.{unchanged}
 use Rattle.v_tree.specs.Names.{Name}
@@ -16,7 +15,6 @@ use Rattle.v_meaning.specs.Statements.{doing, declared}
 use Rattle.v_meaning.specs.Functions.{locals_of, inputs_of, result_of, scope_in, bound, callee_of, not_run, find, callee_or_absent, callees_within}
 use Rattle.v_meaning.specs.Modules.{Signal, numbered, signals, functions, scope_of}
 use Rattle.v_stores.specs.Waits.{place}
-use Rattle.v_hangs.specs.Hangs.{SameSignals}
 use Rattle.v_hangs.proofs.Same.{Same, CalleeSame, FunctionsSame, vector-same, more-stays}
 use Rattle.v_hangs.proofs.Runs.{names-cleared, first-cleared, body-same}
 

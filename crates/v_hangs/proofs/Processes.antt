@@ -1,6 +1,6 @@
 -- On which signals processes hang, and which they write.
-use Rattle.std.proofs.Common.{◌≡◌, ℕ, suc, ◌+◌, ◌≤◌, ◌<◌, ◌==◌, ◌^◌, Bool, true, false, ◌&&◌, ◌||◌, not, ℤ, pos, ◌-ℤ◌, List, [], ◌∷◌, map, Option, Some, None, refl, sym, ap, ◌∙◌, subst, true≢false, arith}
-use Rattle.std.specs.Prelude.{length, cond, nat_le, nat_lt, slice_index_or}
+use Rattle.std.proofs.Common.{◌≡◌, ℕ, ◌+◌, ◌≤◌, ◌==◌, Bool, true, false, ◌&&◌, ◌||◌, not, pos, ◌-ℤ◌, List, [], ◌∷◌, Some, None, refl, sym, ap, ◌∙◌, true≢false, arith}
+use Rattle.std.specs.Prelude.{cond, nat_le, nat_lt, slice_index_or}
 use Rattle.std.specs.Str.{bytes_eq}
 use Rattle.b4_core.specs.declared.bit.Bit4.{Bit4}
 use Rattle.b4_core.specs.declared.bit.Bit4.TheVariants.{X}
@@ -9,13 +9,11 @@ use Rattle.row_machine.specs.Valuation.{Place, Valuation}
 use Rattle.std.proofs.lemmas.Bool.Decides.{nat_tests}
 use Rattle.picks.specs.Windows.{whole, within, at_least_0}
 use Rattle.v_tree.specs.Names.{Name}
-use Rattle.v_tree.specs.declared.items.VItem.{VItem}
 use Rattle.v_meaning.specs.Scopes.{Named, Scope, Use, named, all_bits, is_signal}
-use Rattle.v_meaning.specs.Values.{Meaning, meaning}
+use Rattle.v_meaning.specs.Values.{meaning}
 use Rattle.v_meaning.specs.Runs.{State, begun}
-use Rattle.v_meaning.specs.Statements.{Target, Doing, target, assignment, doing_of}
-use Rattle.v_meaning.specs.Machine.{to_signals}
-use Rattle.v_meaning.specs.Modules.{signals, scope_of, port_target, port_value}
+use Rattle.v_meaning.specs.Statements.{target}
+use Rattle.v_meaning.specs.Modules.{scope_of, port_target, port_value}
 use Rattle.v_footprints.specs.Footprints.{uses, reached, Alike, ValueHangs, TargetHangs, FunctionsHang, RunHangs, Sized, TargetWrites, RunWrites}
 use Rattle.v_footprints.proofs.Uses.{alike-at, vector-alike}
 use Rattle.v_footprints.proofs.Values.{expressions_hang}
@@ -24,13 +22,12 @@ use Rattle.v_footprints.proofs.Calls.{modules_hang}
 use Rattle.v_footprints.proofs.Writes.{targets_write, statements_write, assignment-writes}
 use Rattle.v_processes.specs.declared.process.Does.{Does}
 use Rattle.v_processes.specs.declared.process.Does.TheVariants as D
-use Rattle.v_processes.specs.declared.process.Port.{Port}
 use Rattle.v_processes.specs.Processes.{does_in, port_named}
 use Rattle.v_steps.specs.Steps.{ran}
 use Rattle.v_stores.specs.Waits.{is_named, place}
-use Rattle.v_hangs.specs.Hangs.{SameSignals, HangsOn, WritesIn, PortIsSignal}
+use Rattle.v_hangs.specs.Hangs.{SameSignals, PortIsSignal}
 use Rattle.v_hangs.specs.Laws.{LocalsDontCount, HangsOnReads, WritesOnlyUses}
-use Rattle.v_hangs.proofs.Same.{Same, ValueSame, TargetSame, RunSame, FunctionsSame, vector-same}
+use Rattle.v_hangs.proofs.Same.{ValueSame, TargetSame, RunSame, FunctionsSame, vector-same}
 use Rattle.v_hangs.proofs.Values.{expressions-same}
 use Rattle.v_hangs.proofs.Runs.{targets-same, assignment-same, branch-same}
 use Rattle.v_hangs.proofs.Calls.{module-low, module-functions}

@@ -1,11 +1,11 @@
 -- Valuations that hold the same in all signals, and in the bits of all names of a scope.
-use Rattle.std.proofs.Common.{◌≡◌, ℕ, zero, suc, ◌+◌, ◌<◌, Bool, true, false, List, [], ◌∷◌, Option, Some, None, refl, arith}
+use Rattle.std.proofs.Common.{◌≡◌, ℕ, zero, suc, ◌+◌, ◌<◌, Bool, true, false, List, ◌∷◌, Option, Some, None, refl, arith}
 use Rattle.b4_core.specs.declared.bit.Bit4.{Bit4}
 use Rattle.row_machine.specs.Valuation.{Place, Valuation, Changes, put, changed}
 use Rattle.row_machine.specs.Places.{bits_from, vector_at}
 use Rattle.row_machine.specs.Steps.{later_or, then_changes}
 use Rattle.v_tree.specs.Names.{Name}
-use Rattle.v_meaning.specs.Scopes.{Scope, Callee, named, all_bits, is_signal}
+use Rattle.v_meaning.specs.Scopes.{Scope, Callee, named, all_bits}
 use Rattle.v_meaning.specs.Selects.{SelMeaning}
 use Rattle.v_meaning.specs.Values.{Meaning}
 use Rattle.v_meaning.specs.Runs.{State, current, assign_as}
