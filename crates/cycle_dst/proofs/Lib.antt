@@ -1,0 +1,5 @@
+pub mod Listed
+pub mod Inputs
+pub mod Pairs
+pub mod Kept
+pub mod Running

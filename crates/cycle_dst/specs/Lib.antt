@@ -1,0 +1,5 @@
+pub mod Designs
+pub mod Inputs
+pub mod Pairs
+pub mod Circuits
+pub mod Props
