@@ -13,7 +13,7 @@ use Rattle.v_zero.specs.Zero.{given_over}
 use Rattle.v_zero.specs.Laws.{GivenHeld}
 
 -- one value more
-pub over-one : (i : InitialValue) (is : List InitialValue) (v : Valuation) → given_over (i ∷ is) v ≡ given_over is (given_over (i ∷ []) v)
+over-one : (i : InitialValue) (is : List InitialValue) (v : Valuation) → given_over (i ∷ is) v ≡ given_over is (given_over (i ∷ []) v)
 over-one i is v = fun_ext (λ (q : Place). by q (last_initial is q.signal) (cond (i.number == q.signal) (Some i.value) None))
   where
     by : (q : Place) (o p : Option (List Bit4))
@@ -51,7 +51,7 @@ values-at vs i q l = by (i.number == q.signal) refl
         let other : q.signal ≢ i.number = other-number i.number q.signal e in
         ap (λ (v : List Bit4). slice_index_or v q.bit X) (get_or-set_other vs i.number q.signal i.value [] other)
 
-pub values-set : (vs : List (List Bit4)) (i : InitialValue) → slice_get (widths vs) i.number ≡ Some (length i.value) → holding (slice_set vs i.number i.value) ≡ given_over (i ∷ []) (holding vs)
+values-set : (vs : List (List Bit4)) (i : InitialValue) → slice_get (widths vs) i.number ≡ Some (length i.value) → holding (slice_set vs i.number i.value) ≡ given_over (i ∷ []) (holding vs)
 values-set vs i h = fun_ext (λ (q : Place). values-at vs i q (there vs i.number (length i.value) h))
 
 pub given-held : GivenHeld

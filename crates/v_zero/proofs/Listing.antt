@@ -12,7 +12,6 @@ use Rattle.row_machine.specs.Valuation.{Place, Valuation}
 use Rattle.round_runner.specs.Stores.{holding, widths}
 use Rattle.v_meaning.specs.Machine.{size, places_from, given, initial, names_of}
 use Rattle.v_meaning.specs.Modules.{Signal}
-use Rattle.v_names.specs.Names.{Adds}
 use Rattle.v_stores.specs.Waits.{place, all_places, is_named, named_places}
 use Rattle.v_zero.specs.Zero.{Once, Listed}
 use Rattle.v_zero.specs.Laws.{NamesAreListed, TriggeredByListed}
@@ -81,12 +80,6 @@ same-number a b h = grind (arith, nat_tests)
 
 other-number : (a b : ℕ) → (a == b) ≡ false → b ≢ a
 other-number a b h = grind (arith, nat_tests)
-
-apart : (a b : ℕ) → b < a → (a == b) ≡ false
-apart a b h = grind (arith, nat_tests)
-
-itself : (a : ℕ) → (a == a) ≡ true
-itself a = grind (arith, nat_tests)
 
 or-right : (b c : Bool) → c ≡ true → (b || c) ≡ true
 or-right true c e = refl
@@ -163,52 +156,3 @@ listed-new mark n named marks listed l fresh old = record {
     there : (m : ℕ) → m < length marks → slice_index (slice_set marks n mark) m ≡ mark → (b : Bool) → (n == m) ≡ b → (is_named listed m || (n == m)) ≡ true
     there m h g true e = or-right (is_named listed m) (n == m) e
     there m h g false e = or-left (is_named listed m) (n == m) (old.is_listed m h (sym (set-other marks n mark m (other-number n m e)) ∙ g))
-
--- one that was listed before
-pub listed-old : (mark n : ℕ) (named marks listed : List ℕ) → n < length marks → slice_index marks n ≡ mark → Listed mark named marks listed → Listed mark (named ++ n ∷ []) marks listed
-listed-old mark n named marks listed l seen old = record {
-  same = λ m h. same m h (n == m) refl ∙ sym (named-more named n m);
-  there = old.there;
-  once = old.once;
-  newest = old.newest;
-  is_marked = old.is_marked;
-  is_listed = old.is_listed;
-}
-  where
-    same : (m : ℕ) → m < length marks → (b : Bool) → (n == m) ≡ b → is_named listed m ≡ (is_named named m || (n == m))
-    same m h true e =
-        let here : is_named listed m ≡ true = ap (is_named listed) (sym (same-number n m e)) ∙ old.is_listed n l seen in
-        here ∙ sym (or-right (is_named named m) (n == m) e)
-    same m h false e = old.same m h ∙ sym (ap (λ b. is_named named m || b) e ∙ or-none (is_named named m))
-
--- one that isn't there
-pub listed-not : (mark n : ℕ) (named marks listed : List ℕ) → length marks ≤ n → Listed mark named marks listed → Listed mark (named ++ n ∷ []) marks listed
-listed-not mark n named marks listed l old = record {
-  same = λ m h. old.same m h ∙ sym (named-more named n m ∙ (ap (λ b. is_named named m || b) (apart n m (omega (arith, l, h))) ∙ or-none (is_named named m)));
-  there = old.there;
-  once = old.once;
-  newest = old.newest;
-  is_marked = old.is_marked;
-  is_listed = old.is_listed;
-}
-
-pub listed-none : (mark : ℕ) (marks : List ℕ) → ((m : ℕ) → m < length marks → slice_index marks m < mark) → Listed mark [] marks []
-listed-none mark marks below = record {
-  same = λ m h. refl;
-  there = λ m h. absurd (cc);
-  once = tt;
-  newest = λ m h. let b = below m h in omega (arith, b);
-  is_marked = λ m h. absurd (cc);
-  is_listed = λ m h e. let b = below m h in absurd (omega (arith, b, e));
-}
-
--- the same names
-pub listed-adds : (mark : ℕ) (ns names marks listed : List ℕ) → Adds [] names ns → Listed mark names marks listed → Listed mark ns marks listed
-listed-adds mark ns names marks listed adds old = record {
-  same = λ m h. old.same m h ∙ adds.same m;
-  there = old.there;
-  once = old.once;
-  newest = old.newest;
-  is_marked = old.is_marked;
-  is_listed = old.is_listed;
-}

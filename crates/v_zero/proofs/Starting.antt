@@ -52,9 +52,6 @@ pub record StartedTo (ss : List Signal) (marks : List (List Bool)) (i : ℕ) (ol
   pub done : (n : ℕ) → n < i → (s : Signal) → slice_get ss n ≡ Some s → StartedOne s (slice_index_or marks n []) (vector_of old n) (vector_of new n)
   pub rest : (n : ℕ) → i ≤ n → vector_of new n ≡ vector_of old n
 
-pub none-started : (ss : List Signal) (marks : List (List Bool)) (old : List (List Bit4)) → StartedTo ss marks 0 old old
-none-started ss marks old = record { shape = refl; done = λ n h. absurd (omega (arith, h)); rest = λ n h. refl }
-
 shape-set : (vs : List (List Bit4)) (n : ℕ) (x : List Bit4) → length x ≡ length (vector_of vs n) → widths (slice_set vs n x) ≡ widths vs
 shape-set [] n x h = refl
 shape-set (v ∷ vs) zero x h = ap (λ w. w ∷ widths vs) h
@@ -63,7 +60,7 @@ shape-set (v ∷ vs) (suc n) x h = ap (λ ws. length v ∷ ws) (shape-set vs n x
 got : (ss : List Signal) (n : ℕ) (s t : Signal) → slice_get ss n ≡ Some s → slice_get ss n ≡ Some t → s ≡ t
 got ss n s t h g = cc
 
-pub one-started : (ss : List Signal) (marks : List (List Bool)) (i : ℕ) (old now : List (List Bit4)) (s : Signal) (x : List Bit4) → i < length now → slice_get ss i ≡ Some s
+one-started : (ss : List Signal) (marks : List (List Bool)) (i : ℕ) (old now : List (List Bit4)) (s : Signal) (x : List Bit4) → i < length now → slice_get ss i ≡ Some s
     → StartedOne s (slice_index_or marks i []) (vector_of now i) x → StartedTo ss marks i old now → StartedTo ss marks (suc i) old (slice_set now i x)
 one-started ss marks i old now s x l is one before = record {
   shape = shape-set now i x one.shape ∙ before.shape;
