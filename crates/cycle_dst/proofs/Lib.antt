@@ -3,3 +3,8 @@ pub mod Inputs
 pub mod Pairs
 pub mod Kept
 pub mod Running
+pub mod Collected
+pub mod TopPorts
+pub mod Covering
+pub mod Wholly
+pub mod Failing

@@ -1,7 +1,7 @@
 -- Processes of a circuit are run as those of its machine.
 use Rattle.std.proofs.Common.{◌≡◌, ℕ, ◌<◌, Bool, List, length, map, Some, slice_get, get_or, refl, sym, ap, ◌∙◌, subst, arith}
 use Rattle.std.specs.List.{list_any}
-use Rattle.std.specs.Prelude.{Result, Ok, Err, OnOk}
+use Rattle.std.specs.Prelude.{Result, Ok, Err, IfOk, OnOk}
 use Rattle.std.proofs.lemmas.Option.{slice_get_within, get_or_from_slice_get}
 use Rattle.b4_core.specs.declared.bit.Bit4.{Bit4}
 use Rattle.row_machine.specs.Machine as M
@@ -97,6 +97,10 @@ pub ruleset comes = (came-at)
 pub where-ok : {A E : Type 0} (r : Result A E) {P Q : Type 0} → (P → Q) → OnOk r P → OnOk r Q
 where-ok (Ok a) f h = f h
 where-ok (Err e) f h = tt
+
+pub where-if : {A E : Type 0} (r : Result A E) {P Q : A → Type 0} → ((x : A) → P x → Q x) → IfOk r P → IfOk r Q
+where-if (Ok a) f h = f a h
+where-if (Err e) f h = tt
 
 -- what is kept of a process is kept of it among others
 pub comb-of : (e : VDesign) (top : Name) (ws : List ℕ) (ts : List Table) (ps : List Proc) (p : Proc) (c : Comb) (m : M.Process) → map items_of ts ≡ map items_in e.modules → ws ≡ widths_of e top

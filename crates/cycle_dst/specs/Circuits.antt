@@ -1,5 +1,5 @@
 -- What is kept of the processes of a design is what its machine has.
-use Rattle.std.specs.Prelude.{◌≡◌, ℕ, ◌<◌, Bool, List, [], ◌∷◌, length, map, flat_map, Option, Some, None, slice_get}
+use Rattle.std.specs.Prelude.{◌≡◌, ℕ, ◌<◌, Bool, true, false, List, [], ◌∷◌, length, map, flat_map, Option, Some, None, slice_get}
 use Rattle.std.specs.List.{list_any}
 use Rattle.row_machine.specs.Valuation.{Valuation}
 use Rattle.row_machine.specs.Machine as M
@@ -51,6 +51,13 @@ edges_in (D.Star body) = []
 edges_in (D.Edges edges body) = edges
 edges_in (D.Into port value) = []
 edges_in (D.From to port) = []
+
+abbrev pub waits_for_edges : Does → Bool
+waits_for_edges (D.Assign to value) = false
+waits_for_edges (D.Star body) = false
+waits_for_edges (D.Edges edges body) = true
+waits_for_edges (D.Into port value) = false
+waits_for_edges (D.From to port) = false
 
 pub record EdgeIs (e : VDesign) (p : Proc) (m : M.EdgeProcess) : Type 0 where
   pub runs : (v w : Valuation) → m.runs v w ≡ list_any (has_edge v w) (map edge_of (edges_in p.does))
