@@ -1,0 +1,2 @@
+pub mod ActionLevels
+pub mod Bounds
