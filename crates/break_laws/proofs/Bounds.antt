@@ -19,21 +19,10 @@ use Rattle.design_breaks.specs.Mentions.{Mentions, mentions, all_mentions}
 use Rattle.design_breaks.specs.Actions as A
 use Rattle.design_breaks.specs.Actions.{Actions, Passed, actions, is_out, passed_out, roots_of, is_counted, together}
 use Rattle.break_laws.specs.Laws.{formals_of, LoopsAreBounded}
+use Rattle.break_laws.proofs.Lists.{is_none, none-append, none-is, append-none}
 use Rattle.break_laws.proofs.ActionLevels as L
 use Rattle.break_laws.proofs.ActionLevels.{item_actions, control_of}
 use Rattle.flow_laws.proofs.Terms.{Each, OrNone, Steps, by-stmt}
-
-abbrev pub is_none : {A : Type 0} → List A → Bool
-is_none [] = true
-is_none (x ∷ xs) = false
-
-pub none-append : {A : Type 0} (xs ys : List A) → is_none (xs ++ ys) ≡ (is_none xs && is_none ys)
-none-append [] ys = refl
-none-append (x ∷ xs) ys = refl
-
-pub none-is : {A : Type 0} (xs : List A) → is_none xs ≡ true → xs ≡ []
-none-is [] h = refl
-none-is (x ∷ xs) h = absurd (false≢true h)
 
 and-again : (a b c : Bool) → ((a && b) && c) ≡ (a && (b && c))
 and-again true b c = refl
@@ -94,10 +83,6 @@ stmts-agree (s ∷ ss) h = (h.0, stmts-agree ss h.1)
 other-agrees : (other : Option Stmt) → OrNone Claim other → AllAgree (A.none_or (L.perhaps other)) (S.none_or (D.perhaps other))
 other-agrees None h = tt
 other-agrees (Some s) h = (h, tt)
-
-append-none : {A : Type 0} (xs : List A) → xs ++ [] ≡ xs
-append-none [] = refl
-append-none (x ∷ xs) = ap (λ ys. x ∷ ys) (append-none xs)
 
 item-agrees : (i : CaseItem) → ItemClaim i → Agree (item_actions i) (item_of i).does
 item-agrees i h =
