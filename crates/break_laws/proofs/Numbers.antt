@@ -1,12 +1,18 @@
 -- Numbers of signals, and bits that are there.
-use Rattle.std.proofs.Common.{◌≡◌, ℕ, zero, suc, ◌+◌, ◌^◌, ◌<◌, ◌≤◌, Bool, true, false, ◌&&◌, ◌||◌, ◌==◌, List, [], ◌∷◌, ◌++◌, length, map, refl, sym, ap, ◌∙◌, inl, inr, arith}
-use Rattle.std.proofs.lemmas.Bool.{or_cases, and_parts, false≢true, eqb-true, lt-ltb}
+use Rattle.std.proofs.Common.{◌≡◌, ℕ, zero, suc, ◌+◌, ◌^◌, ◌<◌, ◌≤◌, Bool, true, false, ◌&&◌, ◌||◌, ◌==◌, List, [], ◌∷◌, ◌++◌, length, map, Option, Some, None, refl, sym, ap, ◌∙◌, subst, inl, inr, arith}
+use Rattle.std.specs.Prelude.{slice_get}
+use Rattle.std.proofs.lemmas.Bool.{or_cases, or_left, or_right, and_parts, false≢true, eqb-true, eq-eqb, lt-ltb, ltb-true}
+use Rattle.std.proofs.lemmas.Bool.Decides.{nat_tests}
 use Rattle.row_machine.specs.Valuation.{Place, is_place, has}
 use Rattle.row_machine.specs.Places as P
+use Rattle.row_machine.proofs.Basics.{true_or_false}
 use Rattle.sv_types.specs.declared.design.Design.{Design}
 use Rattle.sv_types.specs.declared.design.Signal.{Signal}
+use Rattle.sv_types.specs.Layouts.{width_of}
 use Rattle.sv_types.specs.Surroundings.{is_signal}
 use Rattle.sv_types.specs.Machine.{SignalMeaning, places_from, places, parts, signal_meaning}
+use Rattle.break_laws.specs.Widths.{is_below}
+use Rattle.break_laws.specs.Shapes.{width_at}
 
 pub has-append : (xs ys : List Place) (q : Place) → has (xs ++ ys) q ≡ (has xs q || has ys q)
 unfolding has
@@ -45,3 +51,35 @@ is-a-signal d few q h =
     let low = below-count 0 (map signal_meaning d.signals) q h in
     let many = as-many d.signals in
     lt-ltb q.signal (2 ^ 32) (omega (arith, low, many, few))
+
+-- the bits that a signal has are among those of the design
+there-from : (n k w : ℕ) (q : Place) → q.signal ≡ n → k ≤ q.bit → q.bit < k + w → has (P.places_from n k w) q ≡ true
+unfolding has
+there-from n k zero q s low high = absurd (omega arith)
+there-from n k (suc w) q s low high =
+    elim (true_or_false (k == q.bit)) [
+      | inl h ↦ or_left _ _ (λ i. eq-eqb n q.signal (sym s) i && h i)
+      | inr h ↦ or_right (is_place (record { signal = n; bit = k }) q) _ (there-from n (suc k) w q s (below h) (omega arith))
+    ]
+  where
+    below : (k == q.bit) ≡ false → suc k ≤ q.bit
+    below h = grind (arith, nat_tests)
+
+in-signals : (k : ℕ) (ss : List Signal) (n : ℕ) (s : Signal) (q : Place) → slice_get ss n ≡ Some s → q.signal ≡ k + n → q.bit < width_of s.of → has (places_from k (map signal_meaning ss)) q ≡ true
+in-signals k [] n s q h is low = cc
+in-signals k (t ∷ ss) zero s q h is low =
+    let same : s ≡ t = cc in
+    let at : k + 0 ≡ k = omega arith in
+    has-append (P.places_of k (width_of t.of)) (places_from (suc k) (map signal_meaning ss)) q
+    ∙ or_left _ _ (there-from k 0 (width_of t.of) q (is ∙ at) (omega arith) (subst (λ (x : Signal). q.bit < 0 + width_of x.of) same (omega (arith, low))))
+in-signals k (t ∷ ss) (suc n) s q h is low =
+    let at : k + suc n ≡ suc k + n = omega arith in
+    has-append (P.places_of k (width_of t.of)) (places_from (suc k) (map signal_meaning ss)) q
+    ∙ or_right (has (P.places_of k (width_of t.of)) q) _ (in-signals (suc k) ss n s q h (is ∙ at) low)
+
+pub bit-there : (d : Design) (q : Place) → is_below (width_at (slice_get d.signals q.signal)) q.bit ≡ true → has (places (parts d)) q ≡ true
+bit-there d q h = by (slice_get d.signals q.signal) refl h
+  where
+    by : (o : Option Signal) → slice_get d.signals q.signal ≡ o → is_below (width_at o) q.bit ≡ true → has (places (parts d)) q ≡ true
+    by None is low = absurd (false≢true low)
+    by (Some s) is low = in-signals 0 d.signals q.signal s q is (omega arith) (ltb-true q.bit (width_of s.of) low)

@@ -25,11 +25,12 @@ use Rattle.design_breaks.specs.Memories.{is_edged, flow}
 use Rattle.design_breaks.specs.Breaks as B
 use Rattle.design_breaks.specs.Breaks.{Break, breaks, least_of, is_less, formals, endless_of, written_twice, read_early, process_breaks, function_breaks, too_wide, numbered, at_each}
 use Rattle.design_breaks.specs.Circles.{IsStuck}
-use Rattle.break_laws.specs.Shapes.{Shaped, ShapedProcess}
+use Rattle.break_laws.specs.Shapes.{Shaped, ShapedProcess, only_those}
 use Rattle.break_laws.specs.Laws.{ProcessesAreFree, SomeBreakIsLeast, Unbroken, DesignsHaveOneTrace}
 use Rattle.break_laws.proofs.Lists.{none-parts, none-mapped, none-of, there, somewhere}
 use Rattle.break_laws.proofs.Bounds.{are-bounded}
 use Rattle.break_laws.proofs.Early.{not-early}
+use Rattle.break_laws.proofs.Keeping.{keeps-to-bits}
 use Rattle.break_laws.proofs.Writers.{one-writer, made-at}
 
 pub are-free : ProcessesAreFree
@@ -121,13 +122,15 @@ module _ (d : Design) where
   edged-same (Edges es) h = h
 
   ordered : (n : ℕ) (p : Process) → ShapedProcess d p → Keeps n p → Ordered (parts d) p.kind p.body
-  ordered n p s k = record {
-    unrolls = record { variables = s.variables; has = s.has; bounded = bounded p.body k.endless; within = s.within };
-    reads = s.reads;
-    writes = s.writes;
-    later = s.later;
-    not_early = λ no_edges q signal written. not-early d p (edged-same p.kind no_edges) k.endless k.not_early q (s.writes q signal written) written;
-  }
+  ordered n p s k =
+      let bits = keeps-to-bits d p s in
+      record {
+        unrolls = record { variables = only_those s.is_variable s.widths; has = s.has; bounded = bounded p.body k.endless; within = bits.within };
+        reads = bits.reads;
+        writes = bits.writes;
+        later = bits.later;
+        not_early = λ no_edges q signal written. not-early d p (edged-same p.kind no_edges) k.endless k.not_early q (bits.writes q signal written) written;
+      }
 
 pub has-trace : DesignsHaveOneTrace
 has-trace d s u =

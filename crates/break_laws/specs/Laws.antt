@@ -17,7 +17,7 @@ use Rattle.design_breaks.specs.Actions.{actions}
 use Rattle.design_breaks.specs.Memories.{is_edged, flow}
 use Rattle.design_breaks.specs.Breaks.{Break, breaks, least_of, endless_of, written_twice, read_early}
 use Rattle.design_breaks.specs.Circles.{IsStuck}
-use Rattle.break_laws.specs.Shapes.{Shaped}
+use Rattle.break_laws.specs.Shapes.{Shaped, ShapedProcess, KeepsToBits, only_those}
 
 -- the formals of the functions that a sight knows
 abbrev pub formals_of : Sight → ℕ → List Parameter
@@ -38,6 +38,10 @@ abbrev pub BitsHaveOneWriter : Type 0
 BitsHaveOneWriter = (d : Design) → length d.signals ≤ 2 ^ 32
     → ((n : ℕ) (p : Process) → slice_get d.processes n ≡ Some p → (endless_of d p.body ≡ []) × (written_twice d n p ≡ []))
     → OneWriter (λ (p : M.Process). p.writes) (machine d).combs × OneWriter (λ (p : M.EdgeProcess). p.writes) (machine d).edges
+
+-- a process that names signals and locals with as many bits as they have keeps to these bits
+abbrev pub BitsAreThere : Type 0
+BitsAreThere = (d : Design) (p : Process) (s : ShapedProcess d p) → KeepsToBits d (only_those s.is_variable s.widths) p
 
 -- where no process is stuck, all are free
 abbrev pub ProcessesAreFree : Type 0

@@ -1,2 +1,3 @@
+pub mod Widths
 pub mod Shapes
 pub mod Laws

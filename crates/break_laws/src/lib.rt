@@ -2,7 +2,7 @@
 //! and do nothing; their proofs, to be cited by crates above, are in `proofs/`.
 #![tactic(auto)]
 
-ghost use Rattle.break_laws.specs.Laws.{LoopsAreBounded, NothingIsReadEarly, BitsHaveOneWriter, ProcessesAreFree, SomeBreakIsLeast, DesignsHaveOneTrace};
+ghost use Rattle.break_laws.specs.Laws.{LoopsAreBounded, NothingIsReadEarly, BitsHaveOneWriter, BitsAreThere, ProcessesAreFree, SomeBreakIsLeast, DesignsHaveOneTrace};
 
 /// A statement in which no loop breaks the rule on bounds is one whose loops have known bounds and leave their variables alone
 /// (IEEE 1800-2017 clause 12.7.1), and the other way round.
@@ -20,6 +20,12 @@ pub fn nothing_is_read_early()
 /// machine write one bit (IEEE 1800-2017 clauses 6.5, 9.2.2 and 10.3).
 pub fn bits_have_one_writer()
     ensures { BitsHaveOneWriter }
+{}
+
+/// A process in which each signal, local and variable of a loop stands with as many bits as it has reads and writes bits of signals
+/// that are there, and writes no bit that the variable of a loop doesn't have.
+pub fn bits_are_there()
+    ensures { BitsAreThere }
 {}
 
 /// Where no process is on a circle or follows one that is, each combinational process of the machine is free.
