@@ -1,16 +1,15 @@
 -- Processes that break no rule on early reads.
-use Rattle.std.proofs.Common.{◌≡◌, ℕ, ◌==◌, true, false, ◌&&◌, not, cond, List, [], length, flat_map, refl, ap, sym, ◌∙◌}
-use Rattle.std.specs.List.{list_any}
+use Rattle.std.proofs.Common.{◌≡◌, ◌==◌, true, ◌&&◌, not, [], length, flat_map, ap}
 use Rattle.std.proofs.lemmas.Bool.{and_from, not_from_false}
 use Rattle.row_machine.specs.Valuation.{Place}
 use Rattle.row_machine.proofs.Basics.{has-member}
 use Rattle.sv_types.specs.declared.design.Design.{Design}
 use Rattle.sv_types.specs.declared.statement.Stmt.{Stmt}
-use Rattle.sv_types.specs.Flows.{Flow, covered, covers, uses_of}
+use Rattle.sv_types.specs.Flows.{covered, uses_of}
 use Rattle.sv_types.specs.Machine.{parts, places}
 use Rattle.flow_laws.specs.Runs.{some_token}
 use Rattle.design_breaks.specs.Memories.{is_edged, flow}
-use Rattle.design_breaks.specs.Breaks.{endless_of, unrolls, read_early, only_if}
+use Rattle.design_breaks.specs.Breaks.{endless_of, unrolls, only_if}
 use Rattle.break_laws.specs.Laws.{NothingIsReadEarly}
 use Rattle.break_laws.proofs.Lists.{none-of, none-if}
 

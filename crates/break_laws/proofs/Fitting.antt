@@ -1,7 +1,6 @@
 -- Expressions that name each signal and local with as many bits as it has read and write bits that are there.
-use Rattle.std.proofs.Common.{◌≡◌, ◌⊎◌, inl, inr, ℕ, ◌==◌, Bool, true, false, ◌&&◌, ◌||◌, cond, ℤ, List, [], ◌∷◌, ◌++◌, map, flat_map, length, Option, Some, None, refl, ap, sym, ◌∙◌, subst}
+use Rattle.std.proofs.Common.{◌≡◌, inl, inr, ℕ, ◌==◌, Bool, true, false, ◌&&◌, ◌||◌, cond, ℤ, List, [], ◌∷◌, ◌++◌, map, flat_map, length, Option, Some, None, refl, ap, sym, ◌∙◌, subst}
 use Rattle.std.specs.Prelude.{nat_le, nat_lt, slice_get}
-use Rattle.std.specs.List.{list_any, list_all}
 use Rattle.std.proofs.lemmas.Bool.{and_parts, or_cases, false≢true, eqb-true}
 use Rattle.b4_core.specs.declared.bit.Bit4.{Bit4}
 use Rattle.b4_core.specs.Vectors.{ext}
@@ -10,8 +9,8 @@ use Rattle.sv_types.specs.declared.types.Value.{Value}
 use Rattle.sv_types.specs.declared.expression.Expr.{Expr}
 use Rattle.sv_types.specs.declared.expression.Form.{Form}
 use Rattle.sv_types.specs.declared.expression.Choice.{Choice}
-use Rattle.sv_types.specs.Layouts.{Layout, Part, layout, width_of}
-use Rattle.sv_types.specs.Windows.{Window, within, whole, member_of, between, element_of, slide}
+use Rattle.sv_types.specs.Layouts.{Layout, Part, layout}
+use Rattle.sv_types.specs.Windows.{Window, within, member_of, between, element_of, slide}
 use Rattle.sv_types.specs.Surroundings.{Around, Sight, Use, Write, local_number}
 use Rattle.sv_types.specs.Meanings.{Meaning, Operand, Path, Prefix, plain, selected, by_itself, in_context, at_width, use_of, root_sure, writes_of}
 use Rattle.sv_types.specs.Operators as O

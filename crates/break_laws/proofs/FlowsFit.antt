@@ -1,5 +1,5 @@
 -- Statements that name each signal and local with as many bits as it has read and write bits that are there.
-use Rattle.std.proofs.Common.{◌≡◌, ℕ, zero, suc, Bool, true, false, ◌&&◌, not, cond, List, [], ◌∷◌, ◌++◌, map, flat_map, length, Option, Some, None, refl, ap, sym, ◌∙◌, subst}
+use Rattle.std.proofs.Common.{◌≡◌, ℕ, zero, suc, Bool, true, false, ◌&&◌, not, List, [], ◌∷◌, ◌++◌, map, flat_map, length, Option, Some, None, sym, ◌∙◌, subst}
 use Rattle.std.specs.List.{list_all}
 use Rattle.std.proofs.lemmas.Bool.{and_parts}
 use Rattle.sv_types.specs.declared.expression.Expr.{Expr}
@@ -242,19 +242,19 @@ module _ (widths : Widths) where
         let two = and_parts (expr_fits widths on) (stmt_fits widths body && perhaps_fits widths other) (sym (L.fits-If widths on body other) ∙ fits) in
         let more = and_parts (stmt_fits widths body) (perhaps_fits widths other) two.1 in
         subst of-flow (sym (D.doing-If on body other)) (λ k.
-            let either = F.or_else ((doing body).flow k) (flow_or_nothing (perhaps other) k) in
-            counted-in (F.and_then (F.reading ((meaning on).reads k)) either)
-            (read-then ((meaning on).reads k) either ((within-all widths on two.0).reads k) (else-in ((doing body).flow k) (flow_or_nothing (perhaps other) k) (h more.0 k) (other-in other g more.1 k))));
+        let either = F.or_else ((doing body).flow k) (flow_or_nothing (perhaps other) k) in
+        counted-in (F.and_then (F.reading ((meaning on).reads k)) either)
+        (read-then ((meaning on).reads k) either ((within-all widths on two.0).reads k) (else-in ((doing body).flow k) (flow_or_nothing (perhaps other) k) (h more.0 k) (other-in other g more.1 k))));
     select = λ kind on is other h g fits.
         let two = and_parts (expr_fits widths on) (every (map (item_fits widths) is) && perhaps_fits widths other) (sym (L.fits-Case widths kind on is other) ∙ fits) in
         let more = and_parts (every (map (item_fits widths) is)) (perhaps_fits widths other) two.1 in
         subst of-flow (sym (D.doing-Case kind on is other)) (λ k.
-            let values = flat_map (λ (i : Item). i.values) (map item_of is) in
-            let any = F.any_of (map (λ (i : Item). i.does.flow) (map item_of is)) (flow_or_nothing (perhaps other) k) k in
-            let read = (meaning on).reads k ++ F.all_reads values k in
-            counted-in (F.and_then (F.reading read) any)
-            (read-then read any (in-append widths ((meaning on).reads k) (F.all_reads values k) ((within-all widths on two.0).reads k) (all-reads-in widths values (values-in is more.0) k))
-            (items-in is (flow_or_nothing (perhaps other) k) h more.0 (other-in other g more.1 k) k)));
+        let values = flat_map (λ (i : Item). i.values) (map item_of is) in
+        let any = F.any_of (map (λ (i : Item). i.does.flow) (map item_of is)) (flow_or_nothing (perhaps other) k) k in
+        let read = (meaning on).reads k ++ F.all_reads values k in
+        counted-in (F.and_then (F.reading read) any)
+        (read-then read any (in-append widths ((meaning on).reads k) (F.all_reads values k) ((within-all widths on two.0).reads k) (all-reads-in widths values (values-in is more.0) k))
+        (items-in is (flow_or_nothing (perhaps other) k) h more.0 (other-in other g more.1 k) k)));
     loop = λ n first test step body spot h fits.
         let one = and_parts (has_width (widths (local_number n)) (length (meaning first).of.two_state)) (expr_fits widths first && (expr_fits widths test && (expr_fits widths step && stmt_fits widths body)))
         (sym (L.fits-Loop widths n first test step body spot) ∙ fits) in

@@ -1,18 +1,16 @@
 -- Processes that keep to the bits of their signals and of the variables of their loops.
-use Rattle.std.proofs.Common.{◌≡◌, ℕ, Bool, true, false, ◌&&◌, not, cond, List, Option, Some, None, refl, ap, sym, ◌∙◌}
-use Rattle.std.specs.Prelude.{nat_le, nat_lt, slice_get}
+use Rattle.std.proofs.Common.{◌≡◌, ℕ, Bool, true, false, not, cond, List, Option, Some, None, ap, sym, ◌∙◌}
 use Rattle.std.proofs.lemmas.Bool.{and_parts, false≢true, false_from_ne_true, ltb-true, leb-true}
 use Rattle.std.proofs.Common.{arith}
-use Rattle.row_machine.specs.Valuation.{Place}
 use Rattle.sv_types.specs.declared.design.Design.{Design}
 use Rattle.sv_types.specs.declared.design.Process.{Process}
 use Rattle.sv_types.specs.Surroundings.{Use, is_signal}
 use Rattle.sv_types.specs.Flows.{covered, uses_of}
 use Rattle.sv_types.specs.Machine.{parts, unseen}
-use Rattle.flow_laws.specs.Runs.{is_above, is_beyond}
+use Rattle.flow_laws.specs.Runs.{is_above}
 use Rattle.design_breaks.specs.Memories.{flow}
-use Rattle.break_laws.specs.Widths.{Widths, is_below, is_there}
-use Rattle.break_laws.specs.Shapes.{ShapedProcess, AreThere, only_those, width_at}
+use Rattle.break_laws.specs.Widths.{is_below}
+use Rattle.break_laws.specs.Shapes.{ShapedProcess, AreThere, only_those}
 use Rattle.break_laws.specs.Laws.{BitsAreThere}
 use Rattle.break_laws.proofs.Fitting.{AllIn}
 use Rattle.break_laws.proofs.FlowsFit.{FlowIn, flows-in}

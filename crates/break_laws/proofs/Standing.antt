@@ -1,10 +1,8 @@
 -- Designs that break none of the rules.
-use Rattle.std.proofs.Common.{◌≡◌, ◌⊎◌, inl, inr, ℕ, zero, suc, ◌+◌, Bool, true, false, cond, List, [], ◌∷◌, ◌++◌, map, flat_map, length, Option, Some, None, refl, ap, sym, ◌∙◌, subst, arith}
+use Rattle.std.proofs.Common.{◌≡◌, inl, inr, ℕ, zero, suc, ◌+◌, Bool, true, false, cond, List, [], ◌∷◌, ◌++◌, flat_map, length, Option, Some, None, refl, ap, sym, ◌∙◌, subst, arith}
 use Rattle.std.specs.Prelude.{slice_get}
-use Rattle.row_machine.specs.Valuation.{Place, Valuation, Member}
+use Rattle.row_machine.specs.Valuation.{Member}
 use Rattle.row_machine.specs.Machine as M
-use Rattle.row_machine.specs.Order.{Free, Sound}
-use Rattle.row_machine.specs.Stuck.{Stuck}
 use Rattle.row_machine.proofs.Laws as Laws
 use Rattle.sv_types.specs.declared.design.Design.{Design}
 use Rattle.sv_types.specs.declared.design.Process.{Process}
@@ -12,21 +10,18 @@ use Rattle.sv_types.specs.declared.design.ProcessKind.{ProcessKind}
 use Rattle.sv_types.specs.declared.design.ProcessKind.TheVariants.{Continuous, Link, Comb, Latch, Star, Edges}
 use Rattle.sv_types.specs.declared.statement.Function.{Function}
 use Rattle.sv_types.specs.declared.statement.Stmt.{Stmt}
-use Rattle.sv_types.specs.Surroundings.{Callee, Parameter, is_signal}
+use Rattle.sv_types.specs.Surroundings.{Callee}
 use Rattle.sv_types.specs.Functions.{parameters, callee_of, not_run, callee_or_absent, callees_within}
-use Rattle.sv_types.specs.Flows.{covered, uses_of}
 use Rattle.sv_types.specs.Statements.{doing}
-use Rattle.sv_types.specs.Machine.{parts, places, unseen, ProcessMeaning, comb_of, machine}
-use Rattle.flow_laws.specs.Runs.{some_token}
-use Rattle.flow_laws.specs.Processes.{waits_for_edges, Unrolls, Ordered}
+use Rattle.sv_types.specs.Machine.{parts, unseen, ProcessMeaning, comb_of, machine}
+use Rattle.flow_laws.specs.Processes.{waits_for_edges, Ordered}
 use Rattle.flow_laws.proofs.Machines.{has-one-trace}
 use Rattle.design_breaks.specs.Actions.{actions}
-use Rattle.design_breaks.specs.Memories.{is_edged, flow}
+use Rattle.design_breaks.specs.Memories.{is_edged}
 use Rattle.design_breaks.specs.Breaks as B
 use Rattle.design_breaks.specs.Breaks.{Break, breaks, least_of, is_less, formals, endless_of, written_twice, read_early, process_breaks, function_breaks, too_wide, numbered, at_each}
-use Rattle.design_breaks.specs.Circles.{IsStuck}
-use Rattle.break_laws.specs.Shapes.{Shaped, ShapedProcess, only_those}
-use Rattle.break_laws.specs.Laws.{ProcessesAreFree, SomeBreakIsLeast, Unbroken, DesignsHaveOneTrace}
+use Rattle.break_laws.specs.Shapes.{ShapedProcess, only_those}
+use Rattle.break_laws.specs.Laws.{ProcessesAreFree, SomeBreakIsLeast, DesignsHaveOneTrace}
 use Rattle.break_laws.proofs.Lists.{none-parts, none-mapped, none-of, there, somewhere}
 use Rattle.break_laws.proofs.Bounds.{are-bounded}
 use Rattle.break_laws.proofs.Early.{not-early}

@@ -1,25 +1,25 @@
 -- Designs in which no process breaks the rule on two writers.
-use Rattle.std.proofs.Common.{◌≡◌, ◌⊎◌, inl, inr, ℕ, zero, suc, ◌+◌, ◌<◌, ◌≤◌, ◌^◌, max, min, Bool, true, false, ◌&&◌, ◌||◌, ◌==◌, not, cond, List, [], ◌∷◌, ◌++◌, map, flat_map, filter, length, Some, refl, ap, sym, ◌∙◌, subst, arith}
+use Rattle.std.proofs.Common.{◌≡◌, ◌⊎◌, inl, inr, ℕ, zero, suc, ◌+◌, ◌<◌, max, min, true, false, ◌&&◌, ◌||◌, ◌==◌, not, cond, List, [], ◌∷◌, ◌++◌, map, flat_map, filter, Some, refl, ap, sym, ◌∙◌, subst, arith}
 use Rattle.std.specs.Prelude.{slice_get, nat_le, nat_lt}
 use Rattle.std.specs.List.{list_any}
-use Rattle.std.proofs.lemmas.Bool.{and_parts, and_from, true≢false, false≢true, false_from_ne_true, eqb-true}
+use Rattle.std.proofs.lemmas.Bool.{and_parts, and_from, false_from_ne_true, eqb-true}
 use Rattle.std.proofs.lemmas.Bool.Decides.{nat_tests}
-use Rattle.row_machine.specs.Valuation.{Place, Member, has, NoneWrites, OneWriter}
+use Rattle.row_machine.specs.Valuation.{Place, Member, has, OneWriter}
 use Rattle.row_machine.specs.Machine as M
 use Rattle.row_machine.proofs.Basics.{member-any, any-member, has-member, member-has, true_or_false}
-use Rattle.row_machine.proofs.Members.{member-map, member-filter, filter-member, member-front, member-back, append-member, one_writer-append}
+use Rattle.row_machine.proofs.Members.{member-map, member-filter, filter-member, member-back, append-member, one_writer-append}
 use Rattle.sv_types.specs.declared.design.Design.{Design}
 use Rattle.sv_types.specs.declared.design.Process.{Process}
 use Rattle.sv_types.specs.declared.design.ProcessKind.{ProcessKind}
 use Rattle.sv_types.specs.declared.design.ProcessKind.TheVariants.{Continuous, Link, Comb, Latch, Star, Edges}
 use Rattle.sv_types.specs.declared.statement.Stmt.{Stmt}
 use Rattle.sv_types.specs.Surroundings.{Use, is_signal}
-use Rattle.sv_types.specs.Flows.{Flow, covered, covers, uses_of}
+use Rattle.sv_types.specs.Flows.{covered, covers, uses_of}
 use Rattle.sv_types.specs.Statements.{doing}
 use Rattle.sv_types.specs.Machine as SM
 use Rattle.sv_types.specs.Machine.{parts, places, ProcessMeaning, process_meaning, comb_of, edge_of_kind, machine}
 use Rattle.design_breaks.specs.Memories.{is_edged, flow, writes_of}
-use Rattle.design_breaks.specs.Breaks.{endless_of, unrolls, all_writes, meet, not_before, is_second, other_than, written_twice, only_if}
+use Rattle.design_breaks.specs.Breaks.{endless_of, all_writes, meet, not_before, is_second, other_than, written_twice, only_if}
 use Rattle.break_laws.specs.Laws.{BitsHaveOneWriter}
 use Rattle.break_laws.proofs.Early.{can-unroll}
 use Rattle.break_laws.proofs.Numbers.{is-a-signal}
@@ -205,9 +205,9 @@ module _ {A : Type 0} (make : ProcessMeaning → List A) (writes : A → List Pl
 pub one-writer : BitsHaveOneWriter
 one-writer d few keeps = (
   one-of-all (λ (p : ProcessMeaning). comb_of (parts d) p.does p.kind) (λ (x : M.Process). x.writes) (comb-alone d) d.processes
-  (λ n m p r below h g x mx y my q is. not-both n m p r below h g (x.writes) (comb-its d p x mx) (y.writes) (comb-its d r y my) q is),
+      (λ n m p r below h g x mx y my q is. not-both n m p r below h g (x.writes) (comb-its d p x mx) (y.writes) (comb-its d r y my) q is),
   one-of-all (λ (p : ProcessMeaning). edge_of_kind (parts d) p.does p.kind) (λ (x : M.EdgeProcess). x.writes) (edge-alone d) d.processes
-  (λ n m p r below h g x mx y my q is. not-both n m p r below h g (x.writes) (edge-its d p x mx) (y.writes) (edge-its d r y my) q is),
+      (λ n m p r below h g x mx y my q is. not-both n m p r below h g (x.writes) (edge-its d p x mx) (y.writes) (edge-its d r y my) q is),
 )
   where
     once : (n : ℕ) (p : Process) → slice_get d.processes n ≡ Some p → Once d n p

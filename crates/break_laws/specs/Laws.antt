@@ -9,7 +9,7 @@ use Rattle.sv_types.specs.declared.design.Design.{Design}
 use Rattle.sv_types.specs.declared.design.Process.{Process}
 use Rattle.sv_types.specs.declared.statement.Stmt.{Stmt}
 use Rattle.sv_types.specs.Surroundings.{Parameter, Sight}
-use Rattle.sv_types.specs.Flows.{Flow, covered, uses_of}
+use Rattle.sv_types.specs.Flows.{covered, uses_of}
 use Rattle.sv_types.specs.Statements.{doing}
 use Rattle.sv_types.specs.Machine.{parts, places, machine}
 use Rattle.flow_laws.specs.Runs.{some_token}

@@ -6,7 +6,7 @@ use Rattle.sv_types.specs.declared.design.Process.{Process}
 use Rattle.sv_types.specs.declared.design.Signal.{Signal}
 use Rattle.sv_types.specs.Layouts.{width_of}
 use Rattle.sv_types.specs.Surroundings.{is_signal, Use}
-use Rattle.sv_types.specs.Flows.{Flow, covered, uses_of}
+use Rattle.sv_types.specs.Flows.{covered, uses_of}
 use Rattle.sv_types.specs.Machine.{parts, places}
 use Rattle.flow_laws.specs.Runs.{Variables, is_beyond}
 use Rattle.flow_laws.specs.Statements.{has_variables}

@@ -1,5 +1,5 @@
 -- Typed trees that name each signal and local with as many bits as it has.
-use Rattle.std.specs.Prelude.{ℕ, Bool, true, false, ◌&&◌, nat_lt, cond, List, Option, Some, None}
+use Rattle.std.specs.Prelude.{ℕ, Bool, true, false, ◌&&◌, nat_lt, List, Option, Some, None}
 use Rattle.std.specs.List.{list_all}
 use Rattle.row_machine.specs.Valuation.{Place}
 use Rattle.sv_types.specs.declared.expression.Expr.{Expr, Expr-F, fold-Expr}
