@@ -10,3 +10,4 @@ pub mod StmtFitLevels
 pub mod FlowsFit
 pub mod Keeping
 pub mod Standing
+mod Examples
