@@ -1,0 +1,13 @@
+pub mod Breaks
+pub mod Typings
+pub mod Shapes
+pub mod Literals
+pub mod Names
+pub mod Streams
+pub mod Operands
+pub mod Operators
+pub mod Selects
+pub mod KeywordTypes
+pub mod Forms
+pub mod Patterns
+pub mod Expressions
