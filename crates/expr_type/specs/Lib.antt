@@ -11,3 +11,5 @@ pub mod KeywordTypes
 pub mod Forms
 pub mod Patterns
 pub mod Expressions
+pub mod Types
+pub mod Targets

@@ -1,9 +1,11 @@
 -- What names stand for where something is typed.
-use Rattle.std.specs.Prelude.{ℕ, zero, suc, ◌+◌, ◌-◌, Bool, true, false, ◌&&◌, ◌||◌, ◌==◌, not, cond, List, [], ◌∷◌, Option, Some, None, slice_get}
+use Rattle.std.specs.Prelude.{ℕ, zero, suc, ◌+◌, ◌-◌, Bool, true, false, ◌&&◌, ◌||◌, ◌==◌, not, cond, List, [], ◌∷◌, ◌++◌, Option, Some, None, slice_get}
 use Rattle.std.specs.Str.{bytes_eq}
 use Rattle.sv_source.specs.declared.token.Place.{Place}
 use Rattle.sv_source.specs.declared.token.Spot.{Spot}
 use Rattle.sv_source.specs.declared.token.Token.{Token}
+use Rattle.sv_tree.specs.declared.functions.Function as T
+use Rattle.sv_tree.specs.declared.functions.Task.{Task}
 use Rattle.sv_tree.specs.declared.names.QualifiedName.{QualifiedName}
 use Rattle.sv_types.specs.declared.types.SvType.{SvType}
 use Rattle.sv_types.specs.declared.types.Value.{Value}
@@ -25,6 +27,16 @@ pub record LocalId : Type 0 where
   pub number : ℕ
   pub of : SvType
 
+-- the instance and the path of the block in whose text something is declared
+pub record Home : Type 0 where
+  pub instance : ℕ
+  pub path : List ℕ
+
+-- a function or task as it is written
+pub data RoutineText : Type 0 where
+  OfFunction : T.Function → RoutineText
+  OfTask : Task → RoutineText
+
 -- Where a text stands: the tokens; the instance; by number of declaration what the names of the text stand for so far; the
 -- declaration that a name finds at its token; the declaration that stands at a token; which declarations are instances and
 -- ports of interfaces; and the type of what `return` gives.
@@ -38,11 +50,15 @@ pub record Context : Type 0 where
   pub finds : QualifiedName → Option ℕ
   pub declared : ℕ → ℕ
   pub is_interface : ℕ → Bool
+  -- nets, which statements don't assign to; also those that are members of an interface
+  pub is_net : ℕ → Bool
   pub is_net_member : ℕ → List ℕ → Bool
   pub result : Option SvType
   -- the local with the number 0 is this declaration
   pub base : ℕ
-  -- a function, by its declaration, where it is needed
+  -- functions and tasks by their declarations: what is written, where, and what they are where they are needed
+  pub text : ℕ → Option RoutineText
+  pub home : ℕ → Home
   pub routine : ℕ → Typing Called
 
 abbrev pub position : Context → ℕ → Position
@@ -116,3 +132,17 @@ found k (Some n) = thing_of k n
 
 abbrev pub thing : Context → QualifiedName → Thing
 thing k of = found k (k.finds of)
+
+-- what else names stand for behind a declaration
+abbrev pub with_values : List ParamValue → Context → Context
+with_values vs k = record k { values = vs ++ k.values }
+
+abbrev pub with_types : List ParamType → Context → Context
+with_types ts k = record k { types = ts ++ k.types }
+
+abbrev pub with_locals : List LocalId → Context → Context
+with_locals ls k = record k { locals = ls ++ k.locals }
+
+-- A local's number is how far its declaration stands behind that of its function, or behind the last one before its process.
+abbrev pub local_id : Context → ℕ → SvType → LocalId
+local_id k at t = record { decl = k.declared at; number = k.declared at - k.base; of = t }

@@ -107,3 +107,14 @@ put_behind p (Err b) = Err (Behind p b)
 
 abbrev pub from_token : {A : Type 0} → Position → Typing A → Typing A
 from_token p x fs = let r = x fs in record { result = put_behind p r.result; functions = r.functions }
+
+-- A part that is looked at by what stands before it: what a broken declaration would declare stands for nothing behind it.
+abbrev pub known : {A : Type 0} → Checked A → Option A
+known (Ok a) = Some a
+known (Err x) = None
+
+abbrev pub beside_by : {A B : Type 0} → Typing A → (Option A → Typing B) → Typing (A × B)
+beside_by x y fs = let r = x fs in let s = y (known r.result) r.functions in record { result = joined r.result s.result; functions = s.functions }
+
+abbrev pub both_by : {A B C : Type 0} → Typing A → (Option A → Typing B) → (A → B → Typing C) → Typing C
+both_by x y f = checked (beside_by x y) (λ p. f p.0 p.1)
