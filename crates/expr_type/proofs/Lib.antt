@@ -1,1 +1,4 @@
 pub mod Orders
+pub mod Placing
+pub mod Widths
+mod Examples

@@ -1,8 +1,8 @@
 -- The first break in the order of the text is the least.
-use Rattle.std.proofs.Common.{◌≡◌, ℕ, ◌<◌, ◌≤◌, ◌⊎◌, inl, inr, Bool, true, false, ◌&&◌, ◌||◌, ◌==◌, List, [], ◌∷◌, Option, Some, None, refl, sym, ap, ◌∙◌, subst, arith}
+use Rattle.std.proofs.Common.{◌≡◌, ℕ, ◌<◌, ◌≤◌, inl, inr, false, ◌&&◌, ◌||◌, List, [], ◌∷◌, Option, Some, None, refl, sym, ◌∙◌, subst, arith}
 use Rattle.std.specs.Prelude.{nat_lt}
 use Rattle.std.proofs.lemmas.Bool.Decides.{nat_tests}
-use Rattle.expr_type.specs.Breaks.{Position, Breaks, At, And, Behind, Quiet, Key, key_at, key_behind, Has, position_before, same_position, turn_before, same_turn, is_before, or_next, behind, first, Least, IsLeast, Stands, Within, FirstsAreLeast}
+use Rattle.expr_type.specs.Breaks.{Position, Breaks, At, And, Behind, Quiet, Key, key_at, key_behind, Has, turn_before, same_turn, is_before, or_next, behind, first, IsLeast, Stands, Within}
 
 -- a key begins with a position in a part of a text
 abbrev Begins : ℕ → ℕ → ℕ → List Position → Type 0

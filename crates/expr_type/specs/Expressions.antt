@@ -1,24 +1,24 @@
 -- Expressions as they are typed, form by form: a rule is applied where the parts are whole.
-use Rattle.std.specs.Prelude.{ℕ, suc, Bool, true, false, ◌==◌, ◌^◌, ℤ, pos, ◌-ℤ◌, unsigned_abs, List, [], ◌∷◌, map, Option, Some, None, is_none, is_some, Ok, Err, cond, ◌&&◌}
+use Rattle.std.specs.Prelude.{ℕ, true, false, ◌==◌, ◌^◌, ℤ, pos, ◌-ℤ◌, unsigned_abs, List, [], ◌∷◌, map, Option, Some, None, is_none, Ok, cond}
 use Rattle.std.specs.Option.{option_map}
 use Rattle.sv_tree.specs.Extents.{qualified_first, signing_token}
-use Rattle.sv_tree.specs.declared.expressions.Cast.{Cast, Cast-F, fold-Cast}
+use Rattle.sv_tree.specs.declared.expressions.Cast.{Cast-F}
 use Rattle.sv_tree.specs.declared.expressions.Dimension.{Dimension, Dimension-F, fold-Dimension}
 use Rattle.sv_tree.specs.declared.expressions.Expr.{Expr, Expr-F, fold-Expr}
-use Rattle.sv_tree.specs.declared.expressions.Pattern.{Pattern, Pattern-F, fold-Pattern}
-use Rattle.sv_tree.specs.declared.expressions.PatternItem.{PatternItem, PatternItem-F, fold-PatternItem}
+use Rattle.sv_tree.specs.declared.expressions.Pattern.{Pattern-F}
+use Rattle.sv_tree.specs.declared.expressions.PatternItem.{PatternItem-F}
 use Rattle.sv_tree.specs.declared.expressions.Select.{Select, Select-F, fold-Select}
 use Rattle.sv_tree.specs.declared.expressions.SliceSize.{SliceSize, SliceSize-F, fold-SliceSize}
-use Rattle.sv_tree.specs.declared.expressions.ValueRange.{ValueRange, ValueRange-F, fold-ValueRange}
+use Rattle.sv_tree.specs.declared.expressions.ValueRange.{ValueRange-F}
 use Rattle.sv_tree.specs.declared.names.QualifiedName.{QualifiedName}
 use Rattle.sv_tree.specs.declared.operators.PartOperator.{PartOperator}
 use Rattle.sv_tree.specs.declared.operators.PartOperator.TheVariants as W
 use Rattle.sv_types.specs.declared.expression.Expr as T
 use Rattle.sv_types.specs.declared.types.SvType.{SvType}
 use Rattle.sv_types.specs.Layouts.{width_of}
-use Rattle.expr_type.specs.Breaks.{Breaks, At, Quiet}
+use Rattle.expr_type.specs.Breaks.{Quiet}
 use Rattle.expr_type.specs.Typings.{Checked, Typing, whole, broken, rule, by_functions, checked, both, all, then_, refused}
-use Rattle.expr_type.specs.Names.{Context, Thing, position, thing, word}
+use Rattle.expr_type.specs.Names.{Context, position, thing, word}
 use Rattle.expr_type.specs.Operands.{Operand, Plain, Stream, Number, Valued, value, bits_in, number_within}
 use Rattle.expr_type.specs.Operands as V
 use Rattle.expr_type.specs.Operators.{Alternative, Only, From, binary_of, unary_of, choice_of, inside_of, concat_of, repeat_of, is_part}
@@ -28,25 +28,29 @@ use Rattle.expr_type.specs.KeywordTypes.{Dim, keyword_type}
 use Rattle.expr_type.specs.Literals as L
 use Rattle.expr_type.specs.Forms as F
 use Rattle.expr_type.specs.Forms.{Inside, SelectMeaning}
-use Rattle.expr_type.specs.Patterns.{Item, ItemKey, InPlace, ByDefault, Named, Numbered, Parts, fitted, constant_key}
-use Rattle.expr_type.specs.Patterns as P
+use Rattle.expr_type.specs.Patterns.{Item, ItemKey, InPlace, ByDefault, Named, Numbered, Parts, fitted}
+use Rattle.expr_type.specs.TargetNames.{named_target, packed_target}
 
--- An expression: as a value; as a type, if it is one; and the name that it is, if it is one alone.
+-- An expression: as a value; as a type, if it is one; the name that it is, if it is one alone; and as a target.
 pub record Meaning : Type 0 where
   pub typed : Context → Typing Operand
   pub as_type : Context → Option (Typing SvType)
   pub alone : Option QualifiedName
+  pub as_target : Context → Option (Typing Valued)
 
 abbrev pub no_type : Context → Option (Typing SvType)
 no_type k = None
 
+abbrev pub no_target : Context → Option (Typing Valued)
+no_target k = None
+
+abbrev pub of_operand : (Context → Typing Operand) → Meaning
+of_operand f = record { typed = f; as_type = no_type; alone = None; as_target = no_target }
+
 abbrev pub of_value : (Context → Typing Valued) → Meaning
-of_value f = record { typed = λ k. F.plain (f k); as_type = no_type; alone = None }
+of_value f = of_operand (λ k. F.plain (f k))
 
--- the operands of operators, in the order of the text
-abbrev pub values : Context → List Meaning → Typing (List Valued)
-values k es = all (map (λ (e : Meaning). value k (e.typed k)) es)
-
+-- the parts of a concatenation
 abbrev pub part : Context → Meaning → Typing Valued
 part k e = checked (value k (e.typed k)) (λ v. rule (is_part k v))
 
@@ -122,20 +126,37 @@ name_alone of (s ∷ ss) = None
 abbrev pub keyword_dimensions : Context → List DimensionMeaning → Typing (List Dim)
 keyword_dimensions k ds = all (map (λ (d : DimensionMeaning). d k) ds)
 
+-- a concatenation of targets
+abbrev pub if_all : {A : Type 0} → List (Option A) → Option (List A)
+if_all [] = Some []
+if_all (None ∷ xs) = None
+if_all (Some x ∷ xs) = option_map (λ ys. x ∷ ys) (if_all xs)
+
+abbrev pub joined_targets : Context → ℕ → List Meaning → Option (Typing Valued)
+joined_targets k opening es =
+    option_map (λ xs. checked (all (map (packed_target k) xs)) (λ vs. rule (concat_of k opening vs)))
+    (if_all (map (λ (e : Meaning). e.as_target k) es))
+
 abbrev pub slice_or_one : Context → Option SliceMeaning → Typing ℕ
 slice_or_one k None = whole 1
 slice_or_one k (Some z) = z k
+
+-- the arms of `?:`
+pub record Arms : Type 0 where
+  pub first : Valued
+  pub second : Valued
+
+abbrev pub arms : Valued → Valued → Typing Arms
+arms first second = whole (record { first = first; second = second })
 
 abbrev pub stream : Context → Valued → Typing Operand
 stream k v = whole (Stream v)
 
 abbrev pub expr_step : Expr-F CastMeaning DimensionMeaning Meaning PatternMeaning ItemMeaning SelectMeaning SliceMeaning RangeMeaning → Meaning
 expr_step (Expr-F.Conditional test question first colon second) =
-    of_value (λ k. both (values k (test ∷ [])) (both (value k (first.typed k)) (value k (second.typed k)) (λ l r. whole (l, r))) (choosing k question))
-  where
-    choosing : Context → ℕ → List Valued → Valued × Valued → Typing Valued
-    choosing k at [] p = broken Quiet
-    choosing k at (on ∷ vs) p = rule (choice_of k at on p.0 p.1)
+    of_value (λ k.
+    both (value k (test.typed k)) (both (value k (first.typed k)) (value k (second.typed k)) arms)
+    (λ on a. rule (choice_of k question on a.first a.second)))
 expr_step (Expr-F.Binary left operator at right) =
     of_value (λ k. both (value k (left.typed k)) (value k (right.typed k)) (λ l r. rule (binary_of operator k at l r)))
 expr_step (Expr-F.Inside sought keyword opening ranges closing) =
@@ -146,27 +167,21 @@ expr_step (Expr-F.Sized size digits) = of_value (λ k. rule (F.sized_number k si
 expr_step (Expr-F.SizeCast size cast) = of_value (λ k. F.by_written_size k size (cast k))
 expr_step (Expr-F.Based digits) = of_value (λ k. rule (F.based k digits))
 expr_step (Expr-F.Fill digit) = of_value (λ k. rule (F.fill k digit))
-expr_step (Expr-F.«Expr::Parenthesized» opening inner closing None) = record { typed = inner.typed; as_type = no_type; alone = None }
+expr_step (Expr-F.«Expr::Parenthesized» opening inner closing None) = of_operand inner.typed
 expr_step (Expr-F.«Expr::Parenthesized» opening inner closing (Some cast)) = of_value (λ k. F.by_size k opening (inner.typed k) (cast k))
 expr_step (Expr-F.«Expr::Replication» opening times inner_opening items inner_closing closing) =
     of_value (λ k. both (count k times) (parts k items) (λ n vs. rule (repeat_of k opening n vs)))
-expr_step (Expr-F.Concatenation opening items closing) = of_value (λ k. checked (parts k items) (λ vs. rule (concat_of k opening vs)))
-expr_step (Expr-F.Stream opening operator at size inner_opening items inner_closing closing) = record {
-  typed = λ k.
-      checked
-      (both (slice_or_one k size) (all (map (λ (e : Meaning). F.streamed_part k (e.typed k)) items))
-        (λ n vs. rule (F.stream_of k opening (F.reverses operator) n vs)))
-      (stream k);
-  as_type = no_type;
-  alone = None;
-}
-expr_step (Expr-F.«Expr::Pattern» tick opening pattern closing) =
-    record { typed = λ k. checked (pattern k) (λ p. whole (pattern_operand k tick p)); as_type = no_type; alone = None }
-expr_step (Expr-F.Type of packed None) = record {
-  typed = λ k. broken Quiet;
-  as_type = λ k. Some (checked (keyword_dimensions k packed) (λ ds. whole (keyword_type of ds)));
-  alone = None;
-}
+expr_step (Expr-F.Concatenation opening items closing) =
+    record (of_value (λ k. checked (parts k items) (λ vs. rule (concat_of k opening vs)))) { as_target = λ k. joined_targets k opening items }
+expr_step (Expr-F.Stream opening operator at size inner_opening items inner_closing closing) =
+    of_operand (λ k.
+    checked
+    (both (slice_or_one k size) (all (map (λ (e : Meaning). F.streamed_part k (e.typed k)) items))
+    (λ n vs. rule (F.stream_of k opening (F.reverses operator) n vs)))
+    (stream k))
+expr_step (Expr-F.«Expr::Pattern» tick opening pattern closing) = of_operand (λ k. checked (pattern k) (λ p. whole (pattern_operand k tick p)))
+expr_step (Expr-F.Type of packed None) =
+    record (of_operand (λ k. broken Quiet)) { as_type = λ k. Some (checked (keyword_dimensions k packed) (λ ds. whole (keyword_type of ds))) }
 expr_step (Expr-F.Type of packed (Some cast)) =
     of_value (λ k. F.by_type k of.at (checked (keyword_dimensions k packed) (λ ds. whole (keyword_type of ds))) (cast k))
 expr_step (Expr-F.SigningCast signing cast) = of_value (λ k. F.by_sign k (signing_token signing) (F.is_signed_by signing) (cast k))
@@ -176,7 +191,12 @@ expr_step (Expr-F.Call of opening arguments closing None) = of_value (λ k. F.ca
 expr_step (Expr-F.Call of opening arguments closing (Some cast)) =
     of_value (λ k. F.by_size k (qualified_first of) (F.plain (F.call k of (map (λ (e : Meaning). e.typed k) arguments))) (cast k))
 expr_step (Expr-F.«Expr::Name» of selects None) =
-    record { typed = λ k. F.plain (F.named k of selects); as_type = λ k. type_of_name k of selects; alone = name_alone of selects }
+    record {
+      typed = λ k. F.plain (F.named k of selects);
+      as_type = λ k. type_of_name k of selects;
+      alone = name_alone of selects;
+      as_target = λ k. Some (named_target k true of selects);
+    }
 expr_step (Expr-F.«Expr::Name» of selects (Some cast)) = of_value (λ k. cast_to_name k of selects cast)
 
 abbrev pub pattern_step : Pattern-F CastMeaning DimensionMeaning Meaning PatternMeaning ItemMeaning SelectMeaning SliceMeaning RangeMeaning → PatternMeaning

@@ -1,9 +1,9 @@
 -- Numbers, names, casts, calls, system functions and streams as they are typed (IEEE 1800-2017 clauses 5.7, 6.24, 11.4.14, 13.4
 -- and 20).
-use Rattle.std.specs.Prelude.{ℕ, ◌+◌, ◌-◌, ◌^◌, Bool, true, false, ◌&&◌, ◌||◌, ◌==◌, nat_lt, nat_le, not, cond, codes, ℤ, pos, ◌-ℤ◌, unsigned_abs, List, [], ◌∷◌, length, map, zip, Option, Some, None, Result, Ok, Err, slice_get}
+use Rattle.std.specs.Prelude.{ℕ, ◌^◌, Bool, true, false, ◌&&◌, ◌||◌, ◌==◌, nat_lt, nat_le, not, cond, codes, ℤ, pos, ◌-ℤ◌, unsigned_abs, List, [], ◌∷◌, length, map, zip, Option, Some, None, Ok, Err}
 use Rattle.std.specs.Str.{bytes_eq}
 use Rattle.b4_core.specs.Bits.{known4}
-use Rattle.b4_core.specs.Vectors.{vec, digits}
+use Rattle.b4_core.specs.Vectors.{vec}
 use Rattle.sv_tree.specs.declared.names.QualifiedName.{QualifiedName}
 use Rattle.sv_tree.specs.declared.names.Signing.{Signing}
 use Rattle.sv_tree.specs.declared.names.Signing.TheVariants.{Signed, Unsigned}
@@ -17,14 +17,14 @@ use Rattle.sv_types.specs.declared.statement.Formal.{Formal}
 use Rattle.sv_types.specs.declared.types.SvType.{SvType}
 use Rattle.sv_types.specs.Layouts.{width_of}
 use Rattle.sv_types.specs.Values.{value_of_bits}
-use Rattle.expr_type.specs.Breaks.{Breaks, At, Quiet}
+use Rattle.expr_type.specs.Breaks.{At, Quiet}
 use Rattle.expr_type.specs.Typings.{Checked, Typing, then_, refused, all_of, whole, broken, rule, checked, both, all, from_token}
 use Rattle.expr_type.specs.Shapes.{most_bits, integer, one_bit, vector, is_assignable, is_unpacked}
 use Rattle.expr_type.specs.Literals as L
-use Rattle.expr_type.specs.Names.{Called, Context, Thing, Signal, Local, Constant, TypeName, Interface, Other, Nothing, position, spot, thing, word, member_in}
-use Rattle.expr_type.specs.Operands.{Operand, Plain, Pattern, Stream, Number, Valued, value, bits_in, passed, width, number_within}
-use Rattle.expr_type.specs.Operators.{by_itself, expr_at, exprs, all_bits, is_part, is_signed, not_too_long}
-use Rattle.expr_type.specs.Selects.{Step, Member, path}
+use Rattle.expr_type.specs.Names.{Called, Context, Thing, Signal, Local, Constant, TypeName, Interface, Other, Nothing, position, thing, word, member_in}
+use Rattle.expr_type.specs.Operands.{Operand, Plain, Pattern, Stream, Valued, value, bits_in, passed, width, number_within}
+use Rattle.expr_type.specs.Operators.{by_itself, exprs, all_bits, is_signed, not_too_long}
+use Rattle.expr_type.specs.Selects.{Step, path}
 use Rattle.expr_type.specs.KeywordTypes.{Dim, named_type}
 
 abbrev pub most_of_literal : ℕ
@@ -186,8 +186,8 @@ abbrev pub system_call : Context → ℕ → Option (Typing SvType) → Typing O
 system_call k name t x =
     cond (is_word k name (codes "$bits")) (bits_of k name t x)
     (checked (bits_in k x) (λ v.
-      cond (is_word k name (codes "$clog2")) (whole (by_itself k name integer (F.Clog2 v.expr)))
-      (whole (with_sign k name (is_word k name (codes "$signed")) v))))
+    cond (is_word k name (codes "$clog2")) (whole (by_itself k name integer (F.Clog2 v.expr)))
+    (whole (with_sign k name (is_word k name (codes "$signed")) v))))
 
 -- Calls. A function that isn't known is looked at from the call on.
 abbrev pub needed : Context → ℕ → Option ℕ → Typing Called

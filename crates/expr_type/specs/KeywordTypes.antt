@@ -1,5 +1,5 @@
 -- Types that one word names, with packed and unpacked dimensions (IEEE 1800-2017 clauses 6.11, 7.4.1 and 7.4.2).
-use Rattle.std.specs.Prelude.{ℕ, ◌-◌, Bool, true, false, ℤ, pos, ◌-ℤ◌, List, [], ◌∷◌, Option, Some, None}
+use Rattle.std.specs.Prelude.{ℕ, Bool, true, false, ℤ, pos, ◌-ℤ◌, List, [], ◌∷◌, Option, Some, None}
 use Rattle.sv_tree.specs.declared.names.Signing.{Signing}
 use Rattle.sv_tree.specs.declared.names.Signing.TheVariants.{Signed, Unsigned}
 use Rattle.sv_tree.specs.declared.types.KeywordType.{KeywordType}

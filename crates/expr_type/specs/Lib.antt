@@ -1,5 +1,6 @@
 pub mod Breaks
 pub mod Typings
+pub mod Placed
 pub mod Shapes
 pub mod Literals
 pub mod Names
@@ -10,6 +11,10 @@ pub mod Selects
 pub mod KeywordTypes
 pub mod Forms
 pub mod Patterns
+pub mod TargetNames
 pub mod Expressions
 pub mod Types
 pub mod Targets
+pub mod Statements
+pub mod Functions
+pub mod Routines

@@ -1,6 +1,6 @@
 -- Numbers as they are written (IEEE 1800-2017 clause 5.7.1).
-use Rattle.std.specs.Prelude.{ℕ, zero, suc, ◌+◌, ◌-◌, ◌*◌, ◌^◌, Bool, true, false, ◌&&◌, ◌||◌, ◌==◌, nat_lt, nat_le, not, cond, pos, List, [], ◌∷◌, ◌++◌, length, take, drop, map, flat_map, filter, replicate, reverse}
-use Rattle.std.specs.List.{list_all, list_any}
+use Rattle.std.specs.Prelude.{ℕ, ◌+◌, ◌-◌, ◌*◌, ◌^◌, Bool, true, false, ◌&&◌, ◌||◌, ◌==◌, nat_lt, nat_le, not, cond, pos, List, [], ◌∷◌, ◌++◌, length, take, drop, flat_map, filter, replicate, reverse}
+use Rattle.std.specs.List.{list_all}
 use Rattle.b4_core.specs.declared.bit.Bit4.{Bit4}
 use Rattle.b4_core.specs.declared.bit.Bit4.TheVariants.{Zero, One, X, Z}
 use Rattle.b4_core.specs.Bits.{known4, is_one}

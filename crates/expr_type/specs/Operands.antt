@@ -1,6 +1,5 @@
 -- Typed expressions as they stand in others: alone, or as what is given to a target.
-use Rattle.std.specs.Prelude.{ℕ, ◌^◌, max, Bool, true, false, ◌&&◌, ◌||◌, ◌==◌, nat_lt, not, cond, ℤ, pos, int_le, List, [], ◌∷◌, length, map, Option, Some, None, Result, Ok, Err}
-use Rattle.b4_core.specs.declared.bit.Bit4.{Bit4}
+use Rattle.std.specs.Prelude.{ℕ, ◌^◌, max, Bool, true, false, ◌&&◌, ◌==◌, nat_lt, not, cond, ℤ, int_le, List, length, Option, Some, None, Ok, Err}
 use Rattle.b4_core.specs.declared.bit.Bit4.TheVariants.{X}
 use Rattle.b4_core.specs.Vectors.{known, number}
 use Rattle.sv_types.specs.declared.expression.Expr.{Expr}
@@ -12,11 +11,11 @@ use Rattle.sv_types.specs.Functions.{callees}
 use Rattle.sv_types.specs.Layouts.{layout, width_of}
 use Rattle.sv_types.specs.Meanings.{alone, signed}
 use Rattle.sv_types.specs.Operators.{assigned_to}
-use Rattle.sv_types.specs.Surroundings.{Around, Tally}
+use Rattle.sv_types.specs.Surroundings.{Around}
 use Rattle.sv_types.specs.Values.{value_of_bits}
-use Rattle.expr_type.specs.Breaks.{Position, Breaks, At}
+use Rattle.expr_type.specs.Breaks.{At}
 use Rattle.expr_type.specs.Typings.{Checked, Typing, then_, refused, unless, at_all, checked, rule, by_functions}
-use Rattle.expr_type.specs.Shapes.{most_bits, sign_of, is_unpacked, enum_of, is_assignable, is_plain_to_enum}
+use Rattle.expr_type.specs.Shapes.{most_bits, is_unpacked, is_assignable, is_plain_to_enum}
 use Rattle.expr_type.specs.Streams.{holds_stream}
 use Rattle.expr_type.specs.Names.{Context, position}
 

@@ -1,6 +1,6 @@
 -- Operators (IEEE 1800-2017 clauses 11.4 and 11.6): the width and sign of an operator by table 11-21, and the rules on its
 -- operands.
-use Rattle.std.specs.Prelude.{ℕ, ◌+◌, ◌*◌, max, Bool, true, false, ◌&&◌, ◌||◌, nat_lt, cond, List, [], ◌∷◌, ◌++◌, map, flat_map, Option, Some, None, Result, Ok, Err}
+use Rattle.std.specs.Prelude.{ℕ, ◌*◌, max, Bool, true, false, ◌&&◌, ◌||◌, nat_lt, cond, List, [], ◌∷◌, ◌++◌, map, flat_map, Some, None, Ok}
 use Rattle.std.specs.List.{list_any}
 use Rattle.b4_core.specs.declared.operators.UnOp.TheVariants as U
 use Rattle.b4_core.specs.declared.operators.BinOp.{BinOp}
@@ -25,8 +25,7 @@ use Rattle.sv_types.specs.declared.expression.Form.TheVariants as F
 use Rattle.sv_types.specs.declared.types.SvType.{SvType}
 use Rattle.sv_types.specs.Layouts.{width_of}
 use Rattle.sv_types.specs.Meanings.{most, total}
-use Rattle.expr_type.specs.Breaks.{Breaks, At}
-use Rattle.expr_type.specs.Typings.{Checked, then_, refused, unless, at_all, all_of}
+use Rattle.expr_type.specs.Typings.{Checked, refused, unless, at_all}
 use Rattle.expr_type.specs.Shapes.{most_bits, most_arithmetic, sign_of, one_bit, vector, is_unpacked, enum_of, is_same_enum}
 use Rattle.expr_type.specs.Names.{Context, position, spot}
 use Rattle.expr_type.specs.Operands.{Valued, width}
@@ -214,6 +213,6 @@ abbrev pub inside_of : Context → ℕ → Valued → List Alternative → Check
 inside_of k at v as' =
     taking k at (v ∷ flat_map in_alternative as')
     (unless
-      (at_all k.instance 502
-        (v.too_wide (most (map (compared v) as')) ++ (over at (most (map (ordered v) as')) ++ flat_map (wide_in v) as')))
-      (by_itself k v.first one_bit (F.Inside v.expr (map choice as'))))
+    (at_all k.instance 502
+    (v.too_wide (most (map (compared v) as')) ++ (over at (most (map (ordered v) as')) ++ flat_map (wide_in v) as')))
+    (by_itself k v.first one_bit (F.Inside v.expr (map choice as'))))

@@ -1,10 +1,10 @@
 -- Assignment patterns (IEEE 1800-2017 clause 10.9), by the items that members and elements take.
-use Rattle.std.specs.Prelude.{ℕ, zero, suc, ◌+◌, ◌*◌, ◌%◌, Bool, true, false, ◌&&◌, ◌||◌, ◌==◌, nat_lt, not, cond, ℤ, List, [], ◌∷◌, ◌++◌, length, map, flat_map, filter, replicate, zip, Option, Some, None, is_some, Result, Ok, Err, slice_get}
+use Rattle.std.specs.Prelude.{ℕ, zero, suc, ◌*◌, ◌%◌, Bool, true, false, ◌&&◌, ◌||◌, ◌==◌, nat_lt, not, cond, ℤ, List, [], ◌∷◌, ◌++◌, length, map, flat_map, filter, zip, Option, Some, None, Ok, Err, slice_get}
 use Rattle.sv_tree.specs.declared.names.QualifiedName.{QualifiedName}
 use Rattle.sv_tree.specs.Extents.{qualified_first}
 use Rattle.sv_types.specs.declared.expression.Expr.{Expr}
 use Rattle.sv_types.specs.declared.expression.Form.TheVariants as F
-use Rattle.sv_types.specs.declared.types.Member.{Member, Member-F}
+use Rattle.sv_types.specs.declared.types.Member.{Member-F}
 use Rattle.sv_types.specs.declared.types.SvType.{SvType, SvType-F, out-SvType, fold-SvType}
 use Rattle.sv_types.specs.Meanings.{most}
 use Rattle.pattern_fit.specs.declared.pattern.Key.{Key}
@@ -14,8 +14,8 @@ use Rattle.pattern_fit.specs.declared.pattern.PatternItem.TheVariants as I
 use Rattle.pattern_fit.specs.declared.pattern.Rest.{Rest}
 use Rattle.pattern_fit.specs.declared.pattern.Rest.TheVariants.{Absent, Plain, Typed}
 use Rattle.pattern_fit.specs.Fits.{fits, places_of, by_default}
-use Rattle.expr_type.specs.Breaks.{Breaks, At, Quiet}
-use Rattle.expr_type.specs.Typings.{Checked, then_, refused, all_of, least_of_all}
+use Rattle.expr_type.specs.Breaks.{At, Quiet}
+use Rattle.expr_type.specs.Typings.{Checked, then_, all_of, least_of_all}
 use Rattle.expr_type.specs.Names.{Context, Thing, Signal, Local, Constant, TypeName, Interface, Other, Nothing, position, thing, word}
 use Rattle.expr_type.specs.Operands.{Operand, Valued, passed, has_bits, number_of}
 use Rattle.expr_type.specs.Operands as V
@@ -121,6 +121,7 @@ levels = fold-SvType ℕ ℕ level_step member_level
   where
     member_level : Member-F ℕ ℕ → ℕ
     member_level m = m.of
+
     level_step : SvType-F ℕ ℕ → ℕ
     level_step (SvType-F.Scalar four s) = 1
     level_step (SvType-F.PackedArray l r s item) = suc item

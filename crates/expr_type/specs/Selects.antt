@@ -1,15 +1,14 @@
 -- Selects (IEEE 1800-2017 clauses 7.2.1, 7.4.5, 7.4.6 and 11.5.1).
-use Rattle.std.specs.Prelude.{ℕ, suc, ◌+◌, ◌*◌, ◌^◌, Bool, true, false, ◌&&◌, ◌||◌, nat_lt, not, cond, ℤ, pos, neg_ℤ, ◌-ℤ◌, int_le, List, [], ◌∷◌, Option, Some, None, Result, Ok, Err, unsigned_abs}
+use Rattle.std.specs.Prelude.{ℕ, suc, ◌^◌, Bool, false, nat_lt, not, cond, ℤ, pos, neg_ℤ, ◌-ℤ◌, int_le, List, [], ◌∷◌, Option, Some, None, Ok, Err, unsigned_abs}
 use Rattle.std.specs.Str.{bytes_eq}
-use Rattle.sv_types.specs.declared.expression.Expr.{Expr}
 use Rattle.sv_types.specs.declared.expression.Form.TheVariants as F
 use Rattle.sv_types.specs.declared.types.Member as M
 use Rattle.sv_types.specs.declared.types.SvType.{SvType}
 use Rattle.sv_types.specs.declared.types.SvType.TheVariants.{PackedArray}
-use Rattle.sv_types.specs.Layouts.{layout, width_of, count_of}
-use Rattle.expr_type.specs.Breaks.{Breaks, At}
+use Rattle.sv_types.specs.Layouts.{layout, width_of}
+use Rattle.expr_type.specs.Breaks.{At}
 use Rattle.expr_type.specs.Typings.{Checked, Typing, refused, checked, both, rule}
-use Rattle.expr_type.specs.Shapes.{most_bits, is_unpacked, is_indexed, element_of, members_of}
+use Rattle.expr_type.specs.Shapes.{is_unpacked, is_indexed, element_of, members_of}
 use Rattle.expr_type.specs.Names.{Context, position, word}
 use Rattle.expr_type.specs.Operands.{Operand, Number, Valued, width, bits_in, number_within}
 use Rattle.expr_type.specs.Operators.{by_itself, not_too_long}

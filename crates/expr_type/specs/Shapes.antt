@@ -1,11 +1,11 @@
 -- What the rules ask of types, and the types of operators (IEEE 1800-2017 clauses 6.11, 6.22, 7.2 to 7.4 and 11.6).
-use Rattle.std.specs.Prelude.{ℕ, ◌+◌, ◌-◌, ◌^◌, Bool, true, false, ◌&&◌, ◌||◌, ◌==◌, nat_lt, not, cond, ℤ, pos, ◌-ℤ◌, int_le, List, [], ◌∷◌, length, map, replicate, Option, Some, None}
+use Rattle.std.specs.Prelude.{ℕ, Bool, true, false, ◌&&◌, ◌||◌, ◌==◌, not, cond, ℤ, pos, ◌-ℤ◌, List, [], Option, Some, None}
 use Rattle.std.specs.List.{list_all}
 use Rattle.sv_types.specs.declared.types.SvType.{SvType, SvType-F, out-SvType, fold-SvType}
-use Rattle.sv_types.specs.declared.types.SvType.TheVariants.{Scalar, PackedArray, Struct, Union, Enum, UnpackedArray}
-use Rattle.sv_types.specs.declared.types.Member.{Member, Member-F}
-use Rattle.sv_types.specs.Layouts.{layout, width_of, count_of}
-use Rattle.pattern_fit.specs.Same.{same_step, same_member, same_type}
+use Rattle.sv_types.specs.declared.types.SvType.TheVariants.{Scalar, PackedArray}
+use Rattle.sv_types.specs.declared.types.Member.{Member}
+use Rattle.sv_types.specs.Layouts.{layout, count_of}
+use Rattle.pattern_fit.specs.Same.{same_step, same_member}
 
 abbrev pub most_bits : ℕ
 most_bits = 65536

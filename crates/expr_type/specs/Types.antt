@@ -1,13 +1,12 @@
 -- Types as they are written, and the names of enums that they declare (IEEE 1800-2017 clauses 6.18, 6.19, 7.2, 7.3 and 7.4).
-use Rattle.std.specs.Prelude.{ℕ, ◌-◌, ◌^◌, Bool, true, false, ◌&&◌, ◌||◌, ◌==◌, not, cond, ℤ, pos, neg_ℤ, ◌+ℤ◌, ◌-ℤ◌, int_le, List, [], ◌∷◌, ◌++◌, length, map, flat_map, Option, Some, None, is_some, Result, Ok, Err}
+use Rattle.std.specs.Prelude.{ℕ, ◌-◌, ◌^◌, Bool, true, false, ◌&&◌, ◌==◌, not, cond, ℤ, pos, neg_ℤ, ◌+ℤ◌, ◌-ℤ◌, int_le, List, [], ◌∷◌, ◌++◌, map, Option, Some, None, is_some, Ok}
 use Rattle.std.specs.List.{list_any}
 use Rattle.std.specs.Ordering.{int_eq}
 use Rattle.b4_core.specs.Vectors.{vec}
-use Rattle.sv_tree.specs.Extents.{aggregate_token, qualified_first}
+use Rattle.sv_tree.specs.Extents.{qualified_first}
 use Rattle.sv_tree.specs.declared.declarations.Initializer.{Initializer}
 use Rattle.sv_tree.specs.declared.expressions.Dimension.{Dimension}
 use Rattle.sv_tree.specs.declared.names.QualifiedName.{QualifiedName}
-use Rattle.sv_tree.specs.declared.names.Signing.{Signing}
 use Rattle.sv_tree.specs.declared.names.Signing.TheVariants.{Signed, Unsigned}
 use Rattle.sv_tree.specs.declared.types.Aggregate.{Aggregate}
 use Rattle.sv_tree.specs.declared.types.Aggregate.TheVariants as A
@@ -15,7 +14,6 @@ use Rattle.sv_tree.specs.declared.types.DimensionedName.{DimensionedName}
 use Rattle.sv_tree.specs.declared.types.EnumBase.{EnumBase}
 use Rattle.sv_tree.specs.declared.types.EnumBase.TheVariants as B
 use Rattle.sv_tree.specs.declared.types.EnumName as W
-use Rattle.sv_tree.specs.declared.types.Member as Q
 use Rattle.sv_tree.specs.declared.types.Member.{Member-F}
 use Rattle.sv_tree.specs.declared.types.Packing.{Packing}
 use Rattle.sv_tree.specs.declared.types.TypeText.{TypeText, TypeText-F, fold-TypeText}
@@ -26,11 +24,11 @@ use Rattle.sv_types.specs.declared.types.SvType.{SvType}
 use Rattle.sv_types.specs.declared.types.SvType.TheVariants.{Scalar, PackedArray, Struct, Union, Enum}
 use Rattle.sv_types.specs.Layouts.{width_of}
 use Rattle.sv_types.specs.Values.{value_of_bits}
-use Rattle.expr_type.specs.Breaks.{Breaks, At, Quiet}
-use Rattle.expr_type.specs.Typings.{Checked, Typing, whole, broken, rule, by_functions, checked, both, both_by, all, then_, refused}
+use Rattle.expr_type.specs.Breaks.{Quiet}
+use Rattle.expr_type.specs.Typings.{Checked, Typing, whole, broken, rule, by_functions, checked, both, both_by, all, refused}
 use Rattle.expr_type.specs.Shapes.{sign_of, is_unpacked}
 use Rattle.expr_type.specs.Names.{Context, position, thing, word, with_values}
-use Rattle.expr_type.specs.Operands.{Number, bits_in, is_number_in}
+use Rattle.expr_type.specs.Operands.{bits_in, is_number_in}
 use Rattle.expr_type.specs.KeywordTypes.{Dim, keyword_type, implicit_type, unpacked}
 use Rattle.expr_type.specs.Forms.{dimensioned, type_of_thing}
 use Rattle.expr_type.specs.Expressions.{dimension_meaning, operand}
@@ -195,7 +193,7 @@ type_step (TypeText-F.Keyword of ds) k = checked (dims k ds) (λ d. whole (only 
 type_step (TypeText-F.Structure of packing opening members closing ds) k =
     both_by
     (checked (all_fields k (is_some packing) members)
-      (λ f. checked (rule (aggregate k of packing f.fields)) (λ t. whole (record { of = t; names = f.names }))))
+    (λ f. checked (rule (aggregate k of packing f.fields)) (λ t. whole (record { of = t; names = f.names }))))
     (λ o. dims (behind o) ds)
     (λ f d. checked (dimensioned k f.of (whole d)) (λ t. whole (record f { of = t })))
   where
@@ -211,6 +209,7 @@ type_step (TypeText-F.Enumeration keyword base opening names closing ds) k =
     values_by : Option SvType → List W.EnumName → Typing (List NameValue)
     values_by None ns = broken Quiet
     values_by (Some b) ns = name_values k b false [] None ns
+
     behind : Option TypeFound → Context
     behind None = k
     behind (Some f) = with_values f.names k

@@ -2,7 +2,7 @@
 -- rule is applied where its parts are whole, and parts are all looked at, in the order of the text.
 use Rattle.std.specs.Prelude.{ℕ, Bool, true, false, cond, List, [], ◌∷◌, Option, Some, None, Result, Ok, Err}
 use Rattle.sv_types.specs.declared.statement.Function.{Function}
-use Rattle.expr_type.specs.Breaks.{Position, Breaks, At, And, Behind, Quiet, Key, is_before, first}
+use Rattle.expr_type.specs.Breaks.{Position, Breaks, At, And, Behind, Key, is_before, first}
 
 -- a thing that is whole, or the breaks of its parts and its own
 abbrev pub Checked : Type 0 → Type 0
