@@ -1,6 +1,6 @@
 -- Small texts: the definitions compute. Texts are given by their layers, as the trees that they stand for.
 use Rattle.std.proofs.Common.{◌≡◌, ℕ, suc, ◌+◌, Bool, true, false, List, [], ◌∷◌, ◌++◌, map, max, refl, ap, ◌∙◌, ◌&&◌, cond, Option, Some, None}
-use Rattle.std.specs.Prelude.{pos, Ok, Err, codes, slice_get}
+use Rattle.std.specs.Prelude.{nat_lt, pos, Ok, Err, codes, slice_get}
 use Rattle.std.specs.Str.{bytes_eq}
 use Rattle.sv_source.specs.declared.token.Kind.TheVariants.{Name}
 use Rattle.sv_source.specs.declared.token.Token.{Token}
@@ -12,10 +12,15 @@ use Rattle.sv_types.specs.declared.types.SvType as X
 use Rattle.sv_types.specs.declared.types.SvType.{SvType}
 use Rattle.sv_types.specs.declared.types.SvType.TheVariants.{Enum}
 use Rattle.expr_type.specs.Breaks.{Breaks, At, Key, first}
-use Rattle.expr_type.specs.Typings.{Typing, both, broken, rule, whole, unless, at_all}
-use Rattle.expr_type.specs.Shapes.{one_bit, vector, sign_of}
-use Rattle.expr_type.specs.Names.{Context, word_in, position}
-use Rattle.expr_type.specs.Operands.{Operand, Valued, value, width}
+use Rattle.expr_type.specs.Typings.{Checked, Typing, both, broken, rule, whole, refused, unless, at_all}
+use Rattle.expr_type.specs.Shapes.{is_plain_to_enum, one_bit, vector, sign_of}
+use Rattle.expr_type.specs.Forms.{call_of}
+use Rattle.expr_type.specs.Selects.{is_index}
+use Rattle.sv_types.specs.declared.expression.Expr.{Expr}
+use Rattle.sv_types.specs.declared.statement.FunctionKind.TheVariants.{Plain}
+use Rattle.sv_types.specs.declared.statement.Stmt.TheVariants as S
+use Rattle.expr_type.specs.Names.{Called, Context, word_in, position}
+use Rattle.expr_type.specs.Operands.{Operand, Pattern, Stream, is_value, is_streamed, Valued, value, width}
 use Rattle.expr_type.specs.Operators.{by_itself, valued, in_context, over, binary_of}
 use Rattle.expr_type.proofs.Widths.{sign-vector, width-4, width-129}
 use Rattle.b4_core.specs.declared.operators.BinOp.TheVariants as B
@@ -179,3 +184,44 @@ product k = ap (λ n. unless (at_all k.instance 502 (over_plus n)) (valued k 2 w
 -- a count of zero
 zero-times : (k : Context) → is_count k (record { first = 5; number = pos 0 }) ≡ Err (At (position k 5) 510)
 zero-times k = refl
+
+-- `y = {<<{a}}` with eight bits for four, at the `{`; and a stream that is an operand
+stream-too-long : (k : Context) → is_streamed k (vector 4 false) (by_itself k 14 (vector 129 false) (F.Signal 0)) ≡ Err (At (position k 14) 501)
+stream-too-long k =
+    ap (λ n. refused (nat_lt n (width_of (vector 129 false))) (position k 14) 501 (rest k)) (width-4 false)
+    ∙ ap (λ n. refused (nat_lt 4 n) (position k 14) 501 (rest k)) (width-129 false)
+  where
+    rest : Context → Checked Expr
+    rest k =
+        refused (is_plain_to_enum (vector 4 false) (vector 129 false)) (position k 14) 503
+        (refused (nat_lt 65536 (width_of (vector 4 false))) (position k 14) 701 (Ok (by_itself k 14 (vector 129 false) (F.Signal 0)).expr))
+
+stream-elsewhere : (k : Context) (v : Valued) → is_value k (Stream v) ≡ Err (At (position k v.first) 512)
+stream-elsewhere k v = refl
+
+-- a pattern that nothing is given to
+pattern-alone : (k : Context) (tick : ℕ) (of : ℕ → SvType → Checked Expr) → is_value k (Pattern tick of) ≡ Err (At (position k tick) 505)
+pattern-alone k tick of = refl
+
+-- an index of 129 bits
+long-index : (k : Context) → is_index k (by_itself k 6 (vector 129 false) (F.Signal 0)) ≡ Err (At (position k 6) 507)
+long-index k = ap (λ n. refused (nat_lt 64 n) (position k 6) 507 (Ok (by_itself k 6 (vector 129 false) (F.Signal 0)))) (width-129 false)
+
+-- a call with one actual for no formals
+called : Called
+called = record {
+  place = 0;
+  of = record {
+    instance = 1;
+    path = codes "f";
+    spot = record { at = 20; place = record { file = 0; line = 1; col = 1 }; word = codes "f" };
+    kind = Plain;
+    of = vector 4 false;
+    formals = [];
+    body = S.Block [] [];
+  };
+}
+
+too-many : (k : Context) (o : Operand) → call_of k 3 3 called (o ∷ []) ≡ Err (At (position k 3) 405)
+unfolding called
+too-many k o = refl

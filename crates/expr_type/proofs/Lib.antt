@@ -1,4 +1,5 @@
 pub mod Orders
 pub mod Placing
+pub mod Ordering
 pub mod Widths
 mod Examples

@@ -3,7 +3,7 @@ use Rattle.std.proofs.Common.{ℕ, ◌≤◌, Bool, true, false, List, [], ◌�
 use Rattle.std.specs.Prelude.{Ok, Err}
 use Rattle.sv_types.specs.declared.statement.Function.{Function}
 use Rattle.expr_type.specs.Breaks.{Position, Breaks, At, And, Behind, Quiet, Stands, Within}
-use Rattle.expr_type.specs.Typings.{Checked, Typing, joined, then_, refused, lesser, first_before, whole, applied, checked, beside, both, all, known, beside_by, both_by, put_behind, from_token}
+use Rattle.expr_type.specs.Typings.{Checked, Typing, joined, where_whole, refused, lesser, first_before, whole, applied, checked, beside, both, all, known, beside_by, both_by, put_behind, from_token}
 use Rattle.expr_type.specs.Breaks as B
 use Rattle.expr_type.specs.Placed.{Placed, PlacedTyping, InTurn}
 
@@ -27,7 +27,7 @@ module _ (i : ℕ) where
   placed-joined (Err a) (Ok b) low between high h k p q = wider a i low between low high (omega arith) k p
   placed-joined (Err a) (Err b) low between high h k p q = (between, h, k, p, q)
 
-  pub placed-then : {A B : Type 0} (x : Checked A) (f : A → Checked B) (low high : ℕ) → Placed i low high x → ((a : A) → Placed i low high (f a)) → Placed i low high (then_ x f)
+  pub placed-then : {A B : Type 0} (x : Checked A) (f : A → Checked B) (low high : ℕ) → Placed i low high x → ((a : A) → Placed i low high (f a)) → Placed i low high (where_whole x f)
   placed-then (Ok a) f low high p q = q a
   placed-then (Err b) f low high p q = p
 

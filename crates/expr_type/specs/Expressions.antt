@@ -17,7 +17,7 @@ use Rattle.sv_types.specs.declared.expression.Expr as T
 use Rattle.sv_types.specs.declared.types.SvType.{SvType}
 use Rattle.sv_types.specs.Layouts.{width_of}
 use Rattle.expr_type.specs.Breaks.{Quiet}
-use Rattle.expr_type.specs.Typings.{Checked, Typing, whole, broken, rule, by_functions, checked, both, all, then_, refused}
+use Rattle.expr_type.specs.Typings.{Checked, Typing, whole, broken, rule, by_functions, checked, both, all, where_whole, refused}
 use Rattle.expr_type.specs.Names.{Context, position, thing, word}
 use Rattle.expr_type.specs.Operands.{Operand, Plain, Stream, Number, Valued, value, bits_in, number_within}
 use Rattle.expr_type.specs.Operands as V
@@ -209,7 +209,7 @@ pattern_step (Pattern-F.«Pattern::Replication» times opening items closing) k 
 abbrev pub key_number : Context → Meaning → Typing (Option ℤ)
 key_number k e =
     checked (index_in k (e.typed k))
-    (λ v. by_functions (λ fs. then_ (V.is_constant k v.first v.expr fs v.expr) (λ x. Ok (V.number_of fs x))))
+    (λ v. by_functions (λ fs. where_whole (V.is_constant k v.first v.expr fs v.expr) (λ x. Ok (V.number_of fs x))))
 
 abbrev pub keyed_item : ItemKey → Operand → Item
 keyed_item key o = record { key = key; value = o }
@@ -275,7 +275,7 @@ abbrev pub operand : Context → Expr → Typing Operand
 operand k e = (meaning e).typed k
 
 abbrev pub given_if : Context → Option SvType → Operand → Checked T.Expr
-given_if k None o = then_ (V.is_value k o) (λ v. Ok v.expr)
+given_if k None o = where_whole (V.is_value k o) (λ v. Ok v.expr)
 given_if k (Some t) o = V.given k t o
 
 abbrev pub typed_expr : Context → Expr → Option SvType → Typing T.Expr

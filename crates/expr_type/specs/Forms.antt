@@ -18,7 +18,7 @@ use Rattle.sv_types.specs.declared.types.SvType.{SvType}
 use Rattle.sv_types.specs.Layouts.{width_of}
 use Rattle.sv_types.specs.Values.{value_of_bits}
 use Rattle.expr_type.specs.Breaks.{At, Quiet}
-use Rattle.expr_type.specs.Typings.{Checked, Typing, then_, refused, all_of, whole, broken, rule, checked, both, all, from_token}
+use Rattle.expr_type.specs.Typings.{Checked, Typing, where_whole, refused, all_of, whole, broken, rule, checked, both, all, from_token}
 use Rattle.expr_type.specs.Shapes.{most_bits, integer, one_bit, vector, is_assignable, is_unpacked}
 use Rattle.expr_type.specs.Literals as L
 use Rattle.expr_type.specs.Names.{Called, Context, Thing, Signal, Local, Constant, TypeName, Interface, Other, Nothing, position, thing, word, member_in}
@@ -122,17 +122,17 @@ cast_expr k first t e = by_itself k first t (F.Cast e)
 
 abbrev pub converted : Context → ℕ → SvType → Operand → Checked Valued
 converted k first t (Plain v) = refused (not (is_assignable t v.expr.of)) (position k v.first) 501 (Ok (cast_expr k first t v.expr))
-converted k first t (Pattern tick of) = then_ (of tick t) (λ e. Ok (cast_expr k first t e))
+converted k first t (Pattern tick of) = where_whole (of tick t) (λ e. Ok (cast_expr k first t e))
 converted k first t (Stream v) = Err (At (position k v.first) 512)
 
 abbrev pub pattern_of_type : Context → ℕ → SvType → Operand → Checked Valued
 pattern_of_type k first t (Plain v) = Err Quiet
-pattern_of_type k first t (Pattern tick of) = then_ (of first t) (λ e. Ok (record { first = first; unsized = false; expr = e; too_wide = λ w. [] }))
+pattern_of_type k first t (Pattern tick of) = where_whole (of first t) (λ e. Ok (record { first = first; unsized = false; expr = e; too_wide = λ w. [] }))
 pattern_of_type k first t (Stream v) = Err Quiet
 
 abbrev pub type_cast : Context → ℕ → SvType → Inside → Checked Valued
 type_cast k first t i =
-    then_ (cond i.is_pattern (pattern_of_type k first t i.of) (converted k first t i.of)) (λ v. not_too_long k i.tick (width_of t) (Ok v))
+    where_whole (cond i.is_pattern (pattern_of_type k first t i.of) (converted k first t i.of)) (λ v. not_too_long k i.tick (width_of t) (Ok v))
 
 -- A cast to a size keeps the sign, one to a sign the width. A pattern there has no type.
 abbrev pub not_pattern : {A : Type 0} → Context → Inside → Typing A → Typing A
@@ -200,7 +200,7 @@ passed_to k p = passed k p.0.local.of p.1
 abbrev pub call_of : Context → ℕ → ℕ → Called → List Operand → Checked Valued
 call_of k first name c os =
     refused (not (length c.of.formals == length os)) (position k name) 405
-    (then_ (all_of (map (passed_to k) (zip c.of.formals os))) (λ es. Ok (by_itself k first c.of.of (F.Call c.place es))))
+    (where_whole (all_of (map (passed_to k) (zip c.of.formals os))) (λ es. Ok (by_itself k first c.of.of (F.Call c.place es))))
 
 abbrev pub call : Context → QualifiedName → List (Typing Operand) → Typing Valued
 call k of xs = both (needed k of.name (k.finds of)) (all xs) (λ c os. rule (call_of k (qualified_first of) of.name c os))

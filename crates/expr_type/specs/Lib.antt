@@ -1,11 +1,11 @@
 pub mod Breaks
 pub mod Typings
-pub mod Placed
 pub mod Shapes
 pub mod Literals
 pub mod Names
 pub mod Streams
 pub mod Operands
+pub mod Placed
 pub mod Operators
 pub mod Selects
 pub mod KeywordTypes

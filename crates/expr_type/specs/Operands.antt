@@ -14,7 +14,7 @@ use Rattle.sv_types.specs.Operators.{assigned_to}
 use Rattle.sv_types.specs.Surroundings.{Around}
 use Rattle.sv_types.specs.Values.{value_of_bits}
 use Rattle.expr_type.specs.Breaks.{At}
-use Rattle.expr_type.specs.Typings.{Checked, Typing, then_, refused, unless, at_all, checked, rule, by_functions}
+use Rattle.expr_type.specs.Typings.{Checked, Typing, where_whole, refused, unless, at_all, checked, rule, by_functions}
 use Rattle.expr_type.specs.Shapes.{most_bits, is_unpacked, is_assignable, is_plain_to_enum}
 use Rattle.expr_type.specs.Streams.{holds_stream}
 use Rattle.expr_type.specs.Names.{Context, position}
@@ -122,7 +122,7 @@ number_or k first (Some n) = Ok (record { first = first; number = n })
 -- a constant number in a range (E411)
 abbrev pub is_number_in : Context → ℤ → ℤ → Valued → List Function → Checked Number
 is_number_in k low high v fs =
-    then_ (is_constant k v.first v.expr fs v.expr) (λ e. number_or k v.first (in_range low high (number_of fs e)))
+    where_whole (is_constant k v.first v.expr fs v.expr) (λ e. number_or k v.first (in_range low high (number_of fs e)))
 
 abbrev pub number_within : Context → ℤ → ℤ → Typing Operand → Typing Number
 number_within k low high x = checked (bits_in k x) (λ v. by_functions (is_number_in k low high v))

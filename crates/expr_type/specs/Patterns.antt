@@ -15,7 +15,7 @@ use Rattle.pattern_fit.specs.declared.pattern.Rest.{Rest}
 use Rattle.pattern_fit.specs.declared.pattern.Rest.TheVariants.{Absent, Plain, Typed}
 use Rattle.pattern_fit.specs.Fits.{fits, places_of, by_default}
 use Rattle.expr_type.specs.Breaks.{At, Quiet}
-use Rattle.expr_type.specs.Typings.{Checked, then_, all_of, least_of_all}
+use Rattle.expr_type.specs.Typings.{Checked, where_whole, all_of, least_of_all}
 use Rattle.expr_type.specs.Names.{Context, Thing, Signal, Local, Constant, TypeName, Interface, Other, Nothing, position, thing, word}
 use Rattle.expr_type.specs.Operands.{Operand, Valued, passed, has_bits, number_of}
 use Rattle.expr_type.specs.Operands as V
@@ -55,7 +55,7 @@ key_of_number None = None
 key_of_number (Some n) = Some (K.Index n)
 
 abbrev pub constant_key : Context → Valued → Checked (Option Key)
-constant_key k v = then_ (has_bits k v) (λ u. then_ (is_index k u) (λ i. Ok (key_of_number (number_of [] i.expr))))
+constant_key k v = where_whole (has_bits k v) (λ u. where_whole (is_index k u) (λ i. Ok (key_of_number (number_of [] i.expr))))
 
 abbrev pub named_key : Context → ℕ → Thing → Checked (Option Key)
 named_key k at (Signal n t) = Err (At (position k at) 406)
@@ -141,7 +141,7 @@ abbrev pub spread : Context → ℕ → ℕ → Rest → (SvType → Checked Exp
 spread k tick zero rest give t = give t
 spread k tick (suc n) rest give t =
     cond (takes_itself rest t) (give t)
-    (then_ (all_of (map (spread k tick n rest give) (types_in t))) (λ es. Ok (expr_at k tick t (F.Pattern es))))
+    (where_whole (all_of (map (spread k tick n rest give) (types_in t))) (λ es. Ok (expr_at k tick t (F.Pattern es))))
 
 -- a member or element with what it takes
 abbrev pub Taken : Type 0
@@ -193,8 +193,8 @@ abbrev pub fitted_by : Context → ℕ → ℕ → SvType → List Item → Opti
 fitted_by k tick at t items None = Err (At (position k tick) 505)
 fitted_by k tick at t items (Some takes) =
     let ps = zip takes (types_in t) in
-    then_ (all_of (tries k (length (keyed items)) (rest_of (defaults items)) ps 0 items))
-    (λ x. then_ (all_of (map (made k tick items) ps))
+    where_whole (all_of (tries k (length (keyed items)) (rest_of (defaults items)) ps 0 items))
+    (λ x. where_whole (all_of (map (made k tick items) ps))
     (λ es. not_too_long k tick (width_of t) (Ok (expr_at k at t (F.Pattern es)))))
 
 abbrev pub taken_by : SvType → Parts → Option (List Key) → Option (List PatternItem)
@@ -205,5 +205,5 @@ taken_by t p (Some ks) = taken t p ks
 -- that take it.
 abbrev pub fitted : Context → ℕ → Parts → ℕ → SvType → Checked Expr
 fitted k tick p at t =
-    then_ (all_of (map (λ (i : Item). key_in k t i.key) (keyed p.items)))
+    where_whole (all_of (map (λ (i : Item). key_in k t i.key) (keyed p.items)))
     (λ ks. fitted_by k tick at t p.items (taken_by t p (all_keys ks)))

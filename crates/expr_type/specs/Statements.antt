@@ -45,7 +45,7 @@ use Rattle.sv_types.specs.declared.types.SvType.{SvType}
 use Rattle.sv_types.specs.Layouts.{width_of}
 use Rattle.sv_types.specs.Meanings.{most}
 use Rattle.expr_type.specs.Breaks.{At, Quiet}
-use Rattle.expr_type.specs.Typings.{Checked, Typing, whole, broken, rule, by_functions, checked, both, both_by, all, all_of, then_, refused, unless, at_all}
+use Rattle.expr_type.specs.Typings.{Checked, Typing, whole, broken, rule, by_functions, checked, both, both_by, all, all_of, where_whole, refused, unless, at_all}
 use Rattle.expr_type.specs.Shapes.{vector, is_assignable, is_plain_to_enum}
 use Rattle.expr_type.specs.Names.{Called, Context, LocalId, position, spot, with_values, with_types, with_locals, local_id}
 use Rattle.expr_type.specs.Operands.{Operand, Plain, Pattern, Stream, Valued, given, passed, is_value, bits_in, width, is_constant, value_by}
@@ -87,13 +87,13 @@ as_operand k (ToStream v) = Err (At (position k v.first) 512)
 
 abbrev pub combined : Context → ℕ → Option BinaryOperator → Target → Operand → Checked Operand
 combined k at None t o = Ok o
-combined k at (Some op) t o = then_ (as_operand k t) (λ l. then_ (is_value k o) (λ r. then_ (binary_of op k at l r) (λ v. Ok (Plain v))))
+combined k at (Some op) t o = where_whole (as_operand k t) (λ l. where_whole (is_value k o) (λ r. where_whole (binary_of op k at l r) (λ v. Ok (Plain v))))
 
 abbrev pub assign : Context → ℕ → Bool → Target → Expr → R.Stmt
 assign k at later t e = S.Assign (parts_of t) e later (spot k at)
 
 abbrev pub assignment : Context → ℕ → AssignmentOperator → Target → Operand → Checked R.Stmt
-assignment k at op t o = then_ (combined k at (operator_of op) t o) (λ v. then_ (assigned k t v) (λ e. Ok (assign k at (is_later op) t e)))
+assignment k at op t o = where_whole (combined k at (operator_of op) t o) (λ v. where_whole (assigned k t v) (λ e. Ok (assign k at (is_later op) t e)))
 
 -- a continuous assignment (clause 10.3)
 abbrev pub continuous : Context → Lvalue → ℕ → X.Expr → Typing R.Stmt
@@ -140,7 +140,7 @@ in_turn k (d ∷ ds) = both_by (d k) (λ o. in_turn (behind_if k o) ds) (λ a b.
 -- Variables. A value in a declaration counts as an assignment, each time that the declaration is reached.
 abbrev pub initial_value : Context → SvType → Option Initializer → Typing (Option Expr)
 initial_value k t None = whole None
-initial_value k t (Some i) = checked (operand k i.value) (λ o. rule (then_ (given k t o) (λ e. Ok (Some e))))
+initial_value k t (Some i) = checked (operand k i.value) (λ o. rule (where_whole (given k t o) (λ e. Ok (Some e))))
 
 abbrev pub local_of : Context → ℕ → SvType → Option Expr → Checked Declared
 local_of k at t e =
@@ -180,10 +180,10 @@ selected_type k of ss = elim (E.type_of_name k (simple_name of) (map select_mean
 abbrev pub constant_value : Context → ℕ → Option SvType → Operand → Typing ParamValue
 constant_value k at None o =
     checked (rule (is_value k o))
-    (λ v. by_functions (λ fs. then_ (is_constant k v.first v.expr fs v.expr.of) (λ t. Ok (record { decl = k.declared at; of = t; value = value_by fs t v.expr }))))
+    (λ v. by_functions (λ fs. where_whole (is_constant k v.first v.expr fs v.expr.of) (λ t. Ok (record { decl = k.declared at; of = t; value = value_by fs t v.expr }))))
 constant_value k at (Some t) o =
     checked (rule (passed k t o))
-    (λ e. by_functions (λ fs. then_ (is_constant k (first_of o) e fs t) (λ u. Ok (record { decl = k.declared at; of = u; value = value_by fs u e }))))
+    (λ e. by_functions (λ fs. where_whole (is_constant k (first_of o) e fs t) (λ u. Ok (record { decl = k.declared at; of = u; value = value_by fs u e }))))
   where
     first_of : Operand → ℕ
     first_of (Plain v) = v.first
@@ -316,7 +316,7 @@ result k at t = expr_at k at t (F.Local 0)
 abbrev pub return_value : Context → ℕ → Option SvType → Operand → Checked R.Stmt
 return_value k at None o = Err Quiet
 return_value k at (Some t) o =
-    then_ (given k t o) (λ e. Ok (S.Block [] (S.Assign (result k at t ∷ []) e false (spot k at) ∷ S.Return ∷ [])))
+    where_whole (given k t o) (λ e. Ok (S.Block [] (S.Assign (result k at t ∷ []) e false (spot k at) ∷ S.Return ∷ [])))
 
 abbrev pub returned : Context → ℕ → Option X.Expr → Typing R.Stmt
 returned k at None = whole S.Return
@@ -366,8 +366,8 @@ case_stmt k kind v cs =
 
 -- Loops. The first value is converted to the variable's type.
 abbrev pub loop_first : Context → SvType → Operand → Checked Expr
-loop_first k t (Plain v) = then_ (passed k t (Plain v)) (λ e. Ok (cast_expr k v.first t e).expr)
-loop_first k t (Pattern tick of) = then_ (of tick t) (λ e. Ok (cast_expr k tick t e).expr)
+loop_first k t (Plain v) = where_whole (passed k t (Plain v)) (λ e. Ok (cast_expr k v.first t e).expr)
+loop_first k t (Pattern tick of) = where_whole (of tick t) (λ e. Ok (cast_expr k tick t e).expr)
 loop_first k t (Stream v) = passed k t (Stream v)
 
 pub record LoopVariable : Type 0 where
@@ -397,7 +397,7 @@ no_stream k (Pattern tick of) = Ok (Pattern tick of)
 no_stream k (Stream v) = Err (At (position k v.first) 512)
 
 abbrev pub step_value : Context → ℕ → AssignmentOperator → Target → Operand → Checked Expr
-step_value k at op t o = then_ (no_stream k o) (λ p. then_ (combined k at (operator_of op) t p) (assigned k t))
+step_value k at op t o = where_whole (no_stream k o) (λ p. where_whole (combined k at (operator_of op) t p) (assigned k t))
 
 abbrev pub loop_step : Context → LoopStep → Typing Expr
 loop_step k (L.Assign name op at e) = both (loop_target k name) (operand k e) (λ t o. rule (step_value k at op t o))
@@ -484,7 +484,7 @@ all_actuals k (f ∷ fs) (a ∷ as') = actual_expr k f a ∷ all_actuals k fs as
 abbrev pub call_stmt_of : Context → ℕ → Called → List Actual → Checked R.Stmt
 call_stmt_of k at c as' =
     refused (not (length c.of.formals == length as')) (position k at) 405
-    (then_ (all_of (all_actuals k c.of.formals as')) (λ es. Ok (S.Call c.place es (spot k at))))
+    (where_whole (all_of (all_actuals k c.of.formals as')) (λ es. Ok (S.Call c.place es (spot k at))))
 
 abbrev pub call_stmt : Context → QualifiedName → List Meaning → Typing R.Stmt
 call_stmt k of es =

@@ -5,7 +5,7 @@ use Rattle.sv_tree.specs.declared.names.QualifiedName.{QualifiedName}
 use Rattle.sv_tree.specs.declared.statements.Lvalue.{Lvalue, Lvalue-F, fold-Lvalue}
 use Rattle.sv_types.specs.declared.expression.Expr.{Expr}
 use Rattle.expr_type.specs.Breaks.{At}
-use Rattle.expr_type.specs.Typings.{Checked, Typing, whole, rule, checked, both, all, then_, refused}
+use Rattle.expr_type.specs.Typings.{Checked, Typing, whole, rule, checked, both, all, where_whole, refused}
 use Rattle.expr_type.specs.Shapes.{is_unpacked}
 use Rattle.expr_type.specs.Names.{Context, position}
 use Rattle.expr_type.specs.Operands.{Operand, Plain, Pattern, Stream, Valued, given, width}
@@ -32,12 +32,12 @@ is_target_part k (ToParts v vs) = Ok v
 is_target_part k (ToStream v) = Err (At (position k v.first) 512)
 
 abbrev pub joined_target : Context → ℕ → List Valued → Checked Target
-joined_target k opening vs = then_ (concat_of k opening vs) (λ v. Ok (ToParts v vs))
+joined_target k opening vs = where_whole (concat_of k opening vs) (λ v. Ok (ToParts v vs))
 
 -- a stream that reverses its slices has whole slices alone (E511)
 abbrev pub stream_target : Context → ℕ → Bool → ℕ → List Valued → Checked Target
 stream_target k opening reversed n vs =
-    then_ (stream_of k opening reversed n vs)
+    where_whole (stream_of k opening reversed n vs)
     (λ v. refused (reversed && not (all_bits vs % n == 0)) (position k opening) 511 (Ok (ToStream v)))
 
 abbrev pub TargetMeaning : Type 0

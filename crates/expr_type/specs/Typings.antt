@@ -14,13 +14,13 @@ joined (Ok a) (Err y) = Err y
 joined (Err x) (Ok b) = Err x
 joined (Err x) (Err y) = Err (And x y)
 
-abbrev pub then_ : {A B : Type 0} → Checked A → (A → Checked B) → Checked B
-then_ (Ok a) f = f a
-then_ (Err x) f = Err x
+abbrev pub where_whole : {A B : Type 0} → Checked A → (A → Checked B) → Checked B
+where_whole (Ok a) f = f a
+where_whole (Err x) f = Err x
 
 abbrev pub all_of : {A : Type 0} → List (Checked A) → Checked (List A)
 all_of [] = Ok []
-all_of (x ∷ xs) = then_ (joined x (all_of xs)) (λ p. Ok (p.0 ∷ p.1))
+all_of (x ∷ xs) = where_whole (joined x (all_of xs)) (λ p. Ok (p.0 ∷ p.1))
 
 -- a rule that is broken if a test says so
 abbrev pub refused : {A : Type 0} → Bool → Position → ℕ → Checked A → Checked A
@@ -53,7 +53,7 @@ lesser (Err x) (Err y) = Err (cond (first_before (first y) (first x)) y x)
 
 abbrev pub least_of_all : {A : Type 0} → List (Checked A) → Checked (List A)
 least_of_all [] = Ok []
-least_of_all (x ∷ xs) = then_ (lesser x (least_of_all xs)) (λ p. Ok (p.0 ∷ p.1))
+least_of_all (x ∷ xs) = where_whole (lesser x (least_of_all xs)) (λ p. Ok (p.0 ∷ p.1))
 
 -- What is typed may call functions. The first call of a function puts it behind those that are known before.
 pub record Typed (A : Type 0) : Type 0 where
