@@ -64,12 +64,12 @@ unless-stands : (i : ℕ) (o : Option Breaks) (v : Valued) (low high : ℕ) → 
 unless-stands i None v low high w s = s
 unless-stands i (Some b) v low high w s = w
 
-refused-stands : (i : ℕ) (b : Bool) (p : Position) (r : ℕ) (x : Checked Valued) (low high : ℕ) → K.Stands i low high p → StandsIf i low high x → StandsIf i low high (refused b p r x)
+pub refused-stands : (i : ℕ) (b : Bool) (p : Position) (r : ℕ) (x : Checked Valued) (low high : ℕ) → K.Stands i low high p → StandsIf i low high x → StandsIf i low high (refused b p r x)
 refused-stands i true p r x low high s q = s
 refused-stands i false p r x low high s q = q
 
 module _ (k : Context) where
-  place : (at low high : ℕ) → low ≤ at → at < high → K.Stands k.instance low high (position k at)
+  pub place : (at low high : ℕ) → low ≤ at → at < high → K.Stands k.instance low high (position k at)
   place at low high h m = record { instance = refl; from = h; before = m }
 
   itself : (first : ℕ) (of : SvType) (form : Form) (low high : ℕ) → low ≤ first → first < high → Stands low high (P.by_itself k first of form)

@@ -14,15 +14,16 @@ use Rattle.sv_tree.specs.declared.names.QualifiedName.{QualifiedName}
 use Rattle.sv_tree.specs.declared.operators.PartOperator.{PartOperator}
 use Rattle.sv_tree.specs.declared.operators.PartOperator.TheVariants as W
 use Rattle.sv_types.specs.declared.expression.Expr as T
+use Rattle.sv_types.specs.declared.statement.Function.{Function}
 use Rattle.sv_types.specs.declared.types.SvType.{SvType}
 use Rattle.sv_types.specs.Layouts.{width_of}
 use Rattle.expr_type.specs.Breaks.{Quiet}
 use Rattle.expr_type.specs.Typings.{Checked, Typing, whole, broken, rule, by_functions, checked, both, all, where_whole, refused}
 use Rattle.expr_type.specs.Names.{Context, position, thing, word}
-use Rattle.expr_type.specs.Operands.{Operand, Plain, Stream, Number, Valued, value, bits_in, number_within}
+use Rattle.expr_type.specs.Operands.{Operand, Plain, Stream, Number, Valued, given, has_bits, is_constant, is_value, number_of, number_within, value}
 use Rattle.expr_type.specs.Operands as V
 use Rattle.expr_type.specs.Operators.{Alternative, Only, From, binary_of, unary_of, choice_of, inside_of, concat_of, repeat_of, is_part}
-use Rattle.expr_type.specs.Selects.{Step, bound_in, width_in, index_in}
+use Rattle.expr_type.specs.Selects.{Step, bound_in, width_in, index_in, is_index}
 use Rattle.expr_type.specs.Selects as S
 use Rattle.expr_type.specs.KeywordTypes.{Dim, keyword_type}
 use Rattle.expr_type.specs.Literals as L
@@ -206,10 +207,12 @@ pattern_step (Pattern-F.«Pattern::Replication» times opening items closing) k 
     (λ n os. whole (record { times = n; items = map (λ o. record { key = InPlace; value = o }) os }))
 
 -- a key that is no name alone is a constant index
+abbrev pub is_key : Context → Valued → List Function → Checked (Option ℤ)
+is_key k v fs =
+    where_whole (is_constant k v.first fs v.expr (where_whole (has_bits k v) (is_index k))) (λ u. Ok (number_of fs u.expr))
+
 abbrev pub key_number : Context → Meaning → Typing (Option ℤ)
-key_number k e =
-    checked (index_in k (e.typed k))
-    (λ v. by_functions (λ fs. where_whole (V.is_constant k v.first v.expr fs v.expr) (λ x. Ok (V.number_of fs x))))
+key_number k e = checked (value k (e.typed k)) (λ v. by_functions (is_key k v))
 
 abbrev pub keyed_item : ItemKey → Operand → Item
 keyed_item key o = record { key = key; value = o }
@@ -275,8 +278,8 @@ abbrev pub operand : Context → Expr → Typing Operand
 operand k e = (meaning e).typed k
 
 abbrev pub given_if : Context → Option SvType → Operand → Checked T.Expr
-given_if k None o = where_whole (V.is_value k o) (λ v. Ok v.expr)
-given_if k (Some t) o = V.given k t o
+given_if k None o = where_whole (is_value k o) (λ v. Ok v.expr)
+given_if k (Some t) o = given k t o
 
 abbrev pub typed_expr : Context → Expr → Option SvType → Typing T.Expr
 typed_expr k e want = checked (operand k e) (λ o. rule (given_if k want o))

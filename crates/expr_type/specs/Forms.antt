@@ -120,10 +120,11 @@ pub record Inside : Type 0 where
 abbrev pub cast_expr : Context → ℕ → SvType → Expr → Valued
 cast_expr k first t e = by_itself k first t (F.Cast e)
 
-abbrev pub converted : Context → ℕ → SvType → Operand → Checked Valued
-converted k first t (Plain v) = refused (not (is_assignable t v.expr.of)) (position k v.first) 501 (Ok (cast_expr k first t v.expr))
-converted k first t (Pattern tick of) = where_whole (of tick t) (λ e. Ok (cast_expr k first t e))
-converted k first t (Stream v) = Err (At (position k v.first) 512)
+abbrev pub converted : Context → ℕ → ℕ → SvType → Operand → Checked Valued
+converted k first tick t (Plain v) =
+    not_too_long k tick (width_of t) (refused (not (is_assignable t v.expr.of)) (position k v.first) 501 (Ok (cast_expr k first t v.expr)))
+converted k first tick t (Pattern other of) = where_whole (of other t) (λ e. not_too_long k tick (width_of t) (Ok (cast_expr k first t e)))
+converted k first tick t (Stream v) = Err (At (position k v.first) 512)
 
 abbrev pub pattern_of_type : Context → ℕ → SvType → Operand → Checked Valued
 pattern_of_type k first t (Plain v) = Err Quiet
@@ -131,8 +132,7 @@ pattern_of_type k first t (Pattern tick of) = where_whole (of first t) (λ e. Ok
 pattern_of_type k first t (Stream v) = Err Quiet
 
 abbrev pub type_cast : Context → ℕ → SvType → Inside → Checked Valued
-type_cast k first t i =
-    where_whole (cond i.is_pattern (pattern_of_type k first t i.of) (converted k first t i.of)) (λ v. not_too_long k i.tick (width_of t) (Ok v))
+type_cast k first t i = cond i.is_pattern (pattern_of_type k first t i.of) (converted k first i.tick t i.of)
 
 -- A cast to a size keeps the sign, one to a sign the width. A pattern there has no type.
 abbrev pub not_pattern : {A : Type 0} → Context → Inside → Typing A → Typing A

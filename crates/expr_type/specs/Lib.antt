@@ -5,7 +5,6 @@ pub mod Literals
 pub mod Names
 pub mod Streams
 pub mod Operands
-pub mod Placed
 pub mod Operators
 pub mod Selects
 pub mod KeywordTypes
@@ -13,6 +12,7 @@ pub mod Forms
 pub mod Patterns
 pub mod TargetNames
 pub mod Expressions
+pub mod Placed
 pub mod Types
 pub mod Targets
 pub mod Statements

@@ -1,9 +1,15 @@
 -- Typings whose breaks stand in a part of a text, in its order.
-use Rattle.std.specs.Prelude.{ℕ, suc, ◌≤◌, ◌<◌, List, [], ◌∷◌, Ok, Err}
+use Rattle.std.specs.Prelude.{ℕ, suc, ◌≤◌, ◌<◌, List, [], ◌∷◌, None, Ok, Err}
 use Rattle.sv_types.specs.declared.statement.Function.{Function}
 use Rattle.expr_type.specs.Breaks.{Within}
 use Rattle.expr_type.specs.Typings.{Checked, Typing}
-use Rattle.expr_type.specs.Operands.{Valued}
+use Rattle.sv_types.specs.declared.types.SvType.{SvType}
+use Rattle.expr_type.specs.Names.{Context}
+use Rattle.expr_type.specs.Operands.{Operand, Plain, Pattern, Stream, Valued}
+use Rattle.sv_tree.specs.declared.expressions.Expr.{Expr-F}
+use Rattle.sv_tree.specs.declared.operators.BinaryOperator.{BinaryOperator}
+use Rattle.sv_tree.specs.declared.operators.UnaryOperator.{UnaryOperator}
+use Rattle.expr_type.specs.Expressions.{Meaning, expr_step}
 
 -- the breaks stand from one token up to, but not including, another one
 abbrev pub Placed : {A : Type 0} → ℕ → ℕ → ℕ → Checked A → Type 0
@@ -33,3 +39,33 @@ pub record Stands (low high : ℕ) (v : Valued) : Type 0 where
 abbrev pub StandsIf : ℕ → ℕ → ℕ → Checked Valued → Type 0
 StandsIf i low high (Ok v) = Stands low high v
 StandsIf i low high (Err b) = Within b i low high
+
+abbrev pub StandsTyping : ℕ → ℕ → ℕ → Typing Valued → Type 0
+StandsTyping i low high x = (fs : List Function) → StandsIf i low high (x fs).result
+
+-- an operand: a pattern's breaks stand there too, whatever it is given to
+abbrev pub OperandStands : ℕ → ℕ → ℕ → Operand → Type 0
+OperandStands i low high (Plain v) = Stands low high v
+OperandStands i low high (Pattern tick of) = (low ≤ tick) × (tick < high) × ((at : ℕ) (t : SvType) → Placed i low high (of at t))
+OperandStands i low high (Stream v) = Stands low high v
+
+abbrev pub OperandIf : ℕ → ℕ → ℕ → Checked Operand → Type 0
+OperandIf i low high (Ok o) = OperandStands i low high o
+OperandIf i low high (Err b) = Within b i low high
+
+abbrev pub OperandTyping : ℕ → ℕ → ℕ → Typing Operand → Type 0
+OperandTyping i low high x = (fs : List Function) → OperandIf i low high (x fs).result
+
+-- An expression in a part of a text, in any context: it stands there, and so do its breaks, in the order of the text.
+abbrev pub InOrder : ℕ → ℕ → Meaning → Type 0
+InOrder low high e = (k : Context) → OperandTyping k.instance low high (e.typed k)
+
+-- Expressions whose parts stand in the order of the text stand in it: operators, parentheses and numbers.
+pub record FormsKeepOrder : Type 0 where
+  pub binary : (left : Meaning) (op : BinaryOperator) (at : ℕ) (right : Meaning) (low high : ℕ) → low ≤ at → at < high → InOrder low at left → InOrder (suc at) high right → InOrder low high (expr_step (Expr-F.Binary left op at right))
+  pub unary : (op : UnaryOperator) (at : ℕ) (operand : Meaning) (high : ℕ) → InOrder (suc at) high operand → InOrder at high (expr_step (Expr-F.Unary op at operand))
+  pub parenthesized : (opening : ℕ) (inner : Meaning) (closing : ℕ) → InOrder (suc opening) closing inner → InOrder opening (suc closing) (expr_step (Expr-F.«Expr::Parenthesized» opening inner closing None))
+  pub decimal : (at : ℕ) → InOrder at (suc at) (expr_step (Expr-F.«Expr::Decimal» at))
+  pub based : (at : ℕ) → InOrder at (suc at) (expr_step (Expr-F.Based at))
+  pub sized : (size at : ℕ) → size < at → InOrder size (suc at) (expr_step (Expr-F.Sized size at))
+  pub fill : (at : ℕ) → InOrder at (suc at) (expr_step (Expr-F.Fill at))

@@ -36,6 +36,7 @@ use Rattle.sv_types.specs.declared.statement.CaseItem as T
 use Rattle.sv_types.specs.declared.statement.CaseKind.{CaseKind}
 use Rattle.sv_types.specs.declared.statement.CaseKind.TheVariants as Q
 use Rattle.sv_types.specs.declared.statement.Formal.{Formal}
+use Rattle.sv_types.specs.declared.statement.Function.{Function}
 use Rattle.sv_types.specs.declared.statement.Local.{Local}
 use Rattle.sv_types.specs.declared.statement.Stmt as R
 use Rattle.sv_types.specs.declared.statement.Stmt.TheVariants as S
@@ -48,7 +49,7 @@ use Rattle.expr_type.specs.Breaks.{At, Quiet}
 use Rattle.expr_type.specs.Typings.{Checked, Typing, whole, broken, rule, by_functions, checked, both, both_by, all, all_of, where_whole, refused, unless, at_all}
 use Rattle.expr_type.specs.Shapes.{vector, is_assignable, is_plain_to_enum}
 use Rattle.expr_type.specs.Names.{Called, Context, LocalId, position, spot, with_values, with_types, with_locals, local_id}
-use Rattle.expr_type.specs.Operands.{Operand, Plain, Pattern, Stream, Valued, given, passed, is_value, bits_in, width, is_constant, value_by}
+use Rattle.expr_type.specs.Operands.{constant_alone, constant_of, first_of, Operand, Plain, Pattern, Stream, Valued, given, passed, is_value, bits_in, width, value_by}
 use Rattle.expr_type.specs.Operators.{by_itself, expr_at, exprs, binary_of, not_too_long}
 use Rattle.expr_type.specs.Forms.{cast_expr, needed}
 use Rattle.expr_type.specs.Expressions as E
@@ -177,24 +178,18 @@ selected_type k of ss = elim (E.type_of_name k (simple_name of) (map select_mean
 ]
 
 -- Constants. One without a type has that of the one before it, else that of its value (E405 where it has none).
-abbrev pub constant_value : Context → ℕ → Option SvType → Operand → Typing ParamValue
-constant_value k at None o =
-    checked (rule (is_value k o))
-    (λ v. by_functions (λ fs. where_whole (is_constant k v.first v.expr fs v.expr.of) (λ t. Ok (record { decl = k.declared at; of = t; value = value_by fs t v.expr }))))
-constant_value k at (Some t) o =
-    checked (rule (passed k t o))
-    (λ e. by_functions (λ fs. where_whole (is_constant k (first_of o) e fs t) (λ u. Ok (record { decl = k.declared at; of = u; value = value_by fs u e }))))
-  where
-    first_of : Operand → ℕ
-    first_of (Plain v) = v.first
-    first_of (Pattern tick of) = tick
-    first_of (Stream v) = v.first
+abbrev pub param_value : Context → ℕ → SvType → List Function → Expr → Checked ParamValue
+param_value k at t fs e = Ok (record { decl = k.declared at; of = t; value = value_by fs t e })
+
+abbrev pub constant_value : Context → ℕ → Option SvType → Operand → List Function → Checked ParamValue
+constant_value k at None o fs = where_whole (is_value k o) (λ v. where_whole (constant_alone k v fs) (param_value k at v.expr.of fs))
+constant_value k at (Some t) o fs = where_whole (constant_of k t o fs) (param_value k at t fs)
 
 abbrev pub constant : Context → ℕ → Option SvType → Option Initializer → Typing Declared
 constant k at t None = broken (At (position k at) 405)
 constant k at t (Some i) =
     checked (operand k i.value)
-    (λ o. checked (constant_value k at t o) (λ v. rule (not_too_long k at (width_of v.of) (Ok (record nothing { values = v ∷ [] })))))
+    (λ o. checked (by_functions (constant_value k at t o)) (λ v. rule (not_too_long k at (width_of v.of) (Ok (record nothing { values = v ∷ [] })))))
 
 -- the type that is written, or that of the parameter before; none where the value gives it
 abbrev pub nothing_written : Option Signing → List Dimension → Bool
@@ -430,14 +425,9 @@ abbrev pub as_value : Context → Meaning → Typing Actual
 as_value k e = checked (e.typed k) (λ o. whole (record { value = Some o; target = None }))
 
 -- what isn't in the form of a target is looked at as a value, and broken at its first token
-abbrev pub first_token : Operand → ℕ
-first_token (Plain v) = v.first
-first_token (Pattern tick of) = tick
-first_token (Stream v) = v.first
-
 abbrev pub as_target : Context → Meaning → Typing Actual
 as_target k e = elim (e.as_target k) [
-  | None ↦ checked (e.typed k) (λ o. broken (At (position k (first_token o)) 501))
+  | None ↦ checked (e.typed k) (λ o. broken (At (position k (first_of o)) 501))
   | Some x ↦ checked x (λ v. whole (record { value = None; target = Some v }))
 ]
 

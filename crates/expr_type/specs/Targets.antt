@@ -37,8 +37,8 @@ joined_target k opening vs = where_whole (concat_of k opening vs) (λ v. Ok (ToP
 -- a stream that reverses its slices has whole slices alone (E511)
 abbrev pub stream_target : Context → ℕ → Bool → ℕ → List Valued → Checked Target
 stream_target k opening reversed n vs =
-    where_whole (stream_of k opening reversed n vs)
-    (λ v. refused (reversed && not (all_bits vs % n == 0)) (position k opening) 511 (Ok (ToStream v)))
+    refused (reversed && not (all_bits vs % n == 0)) (position k opening) 511
+    (where_whole (stream_of k opening reversed n vs) (λ v. Ok (ToStream v)))
 
 abbrev pub TargetMeaning : Type 0
 TargetMeaning = Context → Bool → Typing Target

@@ -3,8 +3,15 @@
 #![tactic(auto)]
 
 ghost use Rattle.expr_type.specs.Breaks.{FirstsAreLeast};
+ghost use Rattle.expr_type.specs.Placed.{FormsKeepOrder};
 
 /// Where breaks stand in the order of the text, the first of them is the least by turn and rule.
 pub fn firsts_are_least()
     ensures { FirstsAreLeast }
+{}
+
+/// Expressions whose parts stand in the order of the text stand in it, and so do their breaks: operators, parentheses and
+/// numbers.
+pub fn forms_keep_order()
+    ensures { FormsKeepOrder }
 {}
