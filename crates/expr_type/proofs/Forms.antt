@@ -1,6 +1,8 @@
 -- Expressions whose parts stand in the order of the text stand in it, form by form.
-use Rattle.std.proofs.Common.{ℕ, suc, ◌≤◌, ◌<◌, false, List, None, arith}
+use Rattle.std.proofs.Common.{ℕ, suc, ◌≤◌, ◌<◌, ◌||◌, ◌++◌, false, List, [], ◌∷◌, None, arith, map}
 use Rattle.std.specs.Prelude.{Ok, Err, nat_lt, ◌==◌}
+use Rattle.std.specs.List.{list_any}
+use Rattle.expr_type.specs.Breaks.{Within}
 use Rattle.sv_tree.specs.declared.expressions.Expr.{Expr-F}
 use Rattle.sv_tree.specs.declared.operators.BinaryOperator.{BinaryOperator}
 use Rattle.sv_tree.specs.declared.operators.UnaryOperator.{UnaryOperator}
@@ -10,15 +12,15 @@ use Rattle.expr_type.specs.Typings.{Checked, Typing, joined, applied, checked, b
 use Rattle.expr_type.specs.Names.{Context, position, word}
 use Rattle.expr_type.specs.Operands.{Operand, Plain, Pattern, Stream, Valued, value, is_value}
 use Rattle.sv_types.specs.declared.expression.Form.{Form}
-use Rattle.expr_type.specs.Operators.{binary_of, unary_of, by_itself}
+use Rattle.expr_type.specs.Operators.{binary_of, unary_of, by_itself, is_part, concat_of, choice_of, chosen_type}
 use Rattle.expr_type.specs.Forms as F
 use Rattle.expr_type.specs.Literals as L
-use Rattle.expr_type.specs.Shapes.{vector}
+use Rattle.expr_type.specs.Shapes.{vector, is_unpacked}
 use Rattle.sv_types.specs.declared.expression.Form.TheVariants as T
-use Rattle.expr_type.specs.Expressions.{Meaning, expr_step}
-use Rattle.expr_type.specs.Placed.{Placed, Stands, StandsIf, StandsTyping, OperandStands, OperandIf, OperandTyping, InOrder, FormsKeepOrder}
-use Rattle.expr_type.proofs.Placing.{wider}
-use Rattle.expr_type.proofs.Ordering.{ascend-wider, binary-stands, unary-stands, refused-stands, place}
+use Rattle.expr_type.specs.Expressions.{Arms, Meaning, arms, expr_step, part, parts}
+use Rattle.expr_type.specs.Placed.{Placed, Stands, StandsIf, StandsTyping, OperandStands, OperandIf, OperandTyping, InOrder, AllInOrder, InTurn, PlacedTyping, RoutinesInOrder, FormsKeepOrder}
+use Rattle.expr_type.proofs.Placing.{wider, placed-refused, placed-all}
+use Rattle.expr_type.proofs.Ordering.{ascend-append, ascend-wider, in-context, binary-stands, unary-stands, refused-stands, concat-stands, place}
 
 stands-wider : (v : Valued) (low high low' high' : ℕ) → low' ≤ low → high ≤ high' → Stands low high v → Stands low' high' v
 stands-wider v low high low' high' h k s = record {
@@ -91,22 +93,22 @@ module _ (k : Context) where
 -- operators and parentheses
 pub binary : (left : Meaning) (op : BinaryOperator) (at : ℕ) (right : Meaning) (low high : ℕ) → low ≤ at → at < high
     → InOrder low at left → InOrder (suc at) high right → InOrder low high (expr_step (Expr-F.Binary left op at right))
-binary left op at right low high h m p q k =
+binary left op at right low high h m p q k rs =
     plain-stands k (both (value k (left.typed k)) (value k (right.typed k)) (λ l r. rule (binary_of op k at l r))) low high
     (both-stand k (value k (left.typed k)) (value k (right.typed k)) (λ l r. rule (binary_of op k at l r)) low at high h m
-    (value-stands k (left.typed k) low at (p k)) (value-stands k (right.typed k) (suc at) high (q k))
+    (value-stands k (left.typed k) low at (p k rs)) (value-stands k (right.typed k) (suc at) high (q k rs))
     (λ a b x y fs. binary-stands k at low high a b x y op))
 
 pub unary : (op : UnaryOperator) (at : ℕ) (operand : Meaning) (high : ℕ) → InOrder (suc at) high operand → InOrder at high (expr_step (Expr-F.Unary op at operand))
-unary op at operand high p k =
+unary op at operand high p k rs =
     plain-stands k (checked (value k (operand.typed k)) (λ v. rule (unary_of op k at v))) at high
     (checked-stands k (value k (operand.typed k)) (λ v. rule (unary_of op k at v)) at high
-    (value-stands k (operand.typed k) (suc at) high (p k)) (λ v x fs. unary-stands k at high v x op))
+    (value-stands k (operand.typed k) (suc at) high (p k rs)) (λ v x fs. unary-stands k at high v x op))
 
 pub parenthesized : (opening : ℕ) (inner : Meaning) (closing : ℕ) → InOrder (suc opening) closing inner
     → InOrder opening (suc closing) (expr_step (Expr-F.«Expr::Parenthesized» opening inner closing None))
-parenthesized opening inner closing p k fs =
-    if-wider k.instance (inner.typed k fs).result (suc opening) closing opening (suc closing) (omega arith) (omega arith) (p k fs)
+parenthesized opening inner closing p k rs fs =
+    if-wider k.instance (inner.typed k fs).result (suc opening) closing opening (suc closing) (omega arith) (omega arith) (p k rs fs)
 
 -- numbers
 number-stands : (k : Context) (x : Checked Valued) (low high : ℕ) → StandsIf k.instance low high x → OperandTyping k.instance low high (F.plain (rule x))
@@ -119,13 +121,13 @@ unsized-leaf : (k : Context) (at low high : ℕ) (of : SvType) (form : Form) →
 unsized-leaf k at low high of form h m = record { from = h; before = m; operators = λ w. tt }
 
 pub decimal : (at : ℕ) → InOrder at (suc at) (expr_step (Expr-F.«Expr::Decimal» at))
-decimal at k =
+decimal at k rs =
     number-stands k (F.decimal k at) at (suc at)
     (refused-stands k.instance _ (position k at) 411 (Ok _) at (suc at) (place k at at (suc at) (omega arith) (omega arith))
     (unsized-leaf k at at (suc at) _ _ (omega arith) (omega arith)))
 
 pub based : (at : ℕ) → InOrder at (suc at) (expr_step (Expr-F.Based at))
-based at k =
+based at k rs =
     number-stands k (F.based k at) at (suc at)
     (refused-stands k.instance _ (position k at) 411 (Ok _) at (suc at) (place k at at (suc at) (omega arith) (omega arith))
     (unsized-leaf k at at (suc at) _ _ (omega arith) (omega arith)))
@@ -139,7 +141,7 @@ abbrev sized-few : Context → ℕ → ℕ → Checked Valued
 sized-few k size at = refused (nat_lt F.most_of_literal (L.decimal (word k size))) (position k size) 502 (Ok (sized-value k size at))
 
 pub sized : (size at : ℕ) → size < at → InOrder size (suc at) (expr_step (Expr-F.Sized size at))
-sized size at h k =
+sized size at h k rs =
     number-stands k (F.sized_number k size at) size (suc at)
     (refused-stands k.instance (L.decimal (word k size) == 0) (position k size) 411 (sized-few k size at) size (suc at)
     (place k size size (suc at) (omega arith) (omega arith))
@@ -148,7 +150,88 @@ sized size at h k =
     (leaf k size size (suc at) _ _ (omega arith) (omega arith))))
 
 pub fill : (at : ℕ) → InOrder at (suc at) (expr_step (Expr-F.Fill at))
-fill at k = number-stands k (F.fill k at) at (suc at) (record { from = omega arith; before = omega arith; operators = λ w. tt })
+fill at k rs = number-stands k (F.fill k at) at (suc at) (record { from = omega arith; before = omega arith; operators = λ w. tt })
+
+-- concatenations
+part-if : (k : Context) (x : Checked Valued) (gs : List Function) (low high : ℕ) → StandsIf k.instance low high x
+    → Placed k.instance low high (applied x (λ v. rule (is_part k v)) gs).result
+part-if k (Ok v) gs low high s =
+    placed-refused k.instance v.unsized (position k v.first) 501 (refused (is_unpacked v.expr.of) (position k v.first) 508 (Ok v)) low high
+    (place k v.first low high s.from s.before)
+    (placed-refused k.instance (is_unpacked v.expr.of) (position k v.first) 508 (Ok v) low high (place k v.first low high s.from s.before) tt)
+part-if k (Err b) gs low high w = w
+
+part-placed : (k : Context) (e : Meaning) (low high : ℕ) → RoutinesInOrder k → InOrder low high e → PlacedTyping k.instance low high (part k e)
+part-placed k e low high rs p fs =
+    let x = value k (e.typed k) in
+    part-if k (x fs).result (x fs).functions low high (value-stands k (e.typed k) low high (p k rs) fs)
+
+parts-in-turn : (k : Context) (es : List Meaning) (low high : ℕ) → RoutinesInOrder k → AllInOrder low high es → InTurn k.instance low high (map (part k) es)
+parts-in-turn k [] low high rs p = p
+parts-in-turn k (e ∷ es) low high rs p = (p.0, p.1, p.2, part-placed k e low p.0 rs p.3, parts-in-turn k es p.0 high rs p.4)
+
+joined-if : (k : Context) (opening closing : ℕ) (x : Checked (List Valued)) (gs : List Function) → opening < closing → Placed k.instance (suc opening) closing x
+    → StandsIf k.instance opening (suc closing) (applied x (λ vs. rule (concat_of k opening vs)) gs).result
+joined-if k opening closing (Ok vs) gs h p = concat-stands k opening (suc closing) vs (omega arith)
+joined-if k opening closing (Err b) gs h p = wider b k.instance (suc opening) closing opening (suc closing) (omega arith) (omega arith) p
+
+pub concatenation : (opening : ℕ) (items : List Meaning) (closing : ℕ) → opening < closing → AllInOrder (suc opening) closing items
+    → InOrder opening (suc closing) (expr_step (Expr-F.Concatenation opening items closing))
+concatenation opening items closing h p k rs =
+    plain-stands k (checked (parts k items) (λ vs. rule (concat_of k opening vs))) opening (suc closing)
+    (λ fs. joined-if k opening closing (parts k items fs).result (parts k items fs).functions h
+    (placed-all k.instance (map (part k) items) (suc opening) closing (parts-in-turn k items (suc opening) closing rs p) fs))
+
+-- `?:`
+choice-stands : (k : Context) (at colon low high : ℕ) (on l r : Valued) → at < colon → Stands low at on → Stands (suc at) colon l → Stands (suc colon) high r
+    → StandsIf k.instance low high (choice_of k at on l r)
+choice-stands k at colon low high on l r h x y z =
+    let from : low ≤ at = let a = x.from in let b = x.before in omega arith in
+    let to : at < high = let a = z.from in let b = z.before in omega arith in
+    let inner = in-context k on.first (chosen_type l r) (T.Choose on.expr l.expr r.expr) (λ w. l.too_wide w ++ r.too_wide w) low high x.from
+    (let b = x.before in omega arith)
+    (λ w. ascend-append (l.too_wide w) (r.too_wide w) low colon high (omega arith) (let a = z.from in let b = z.before in omega arith)
+    (ascend-wider (l.too_wide w) (suc at) colon low colon (omega arith) (omega arith) (y.operators w))
+    (ascend-wider (r.too_wide w) (suc colon) high colon high (omega arith) (omega arith) (z.operators w))) in
+    refused-stands k.instance (is_unpacked l.expr.of || is_unpacked r.expr.of) (position k at) 504 _ low high (place k at low high from to)
+    (refused-stands k.instance (list_any (λ (v : Valued). is_unpacked v.expr.of) (on ∷ [])) (position k at) 508 _ low high (place k at low high from to) inner)
+
+abbrev ArmsIf : ℕ → ℕ → ℕ → ℕ → Checked Arms → Type 0
+ArmsIf i at colon high (Ok a) = Stands (suc at) colon a.first × Stands (suc colon) high a.second
+ArmsIf i at colon high (Err b) = Within b i (suc at) high
+
+arms-if : (i : ℕ) (x y : Checked Valued) (gs : List Function) (at colon high : ℕ) → at < colon → colon < high
+    → StandsIf i (suc at) colon x → StandsIf i (suc colon) high y → ArmsIf i at colon high (applied (joined x y) (λ p. arms p.0 p.1) gs).result
+arms-if i (Ok a) (Ok b) gs at colon high h m p q = (p, q)
+arms-if i (Ok a) (Err y) gs at colon high h m p q = wider y i (suc colon) high (suc at) high (omega arith) (omega arith) q
+arms-if i (Err x) (Ok b) gs at colon high h m p q = wider x i (suc at) colon (suc at) high (omega arith) (omega arith) p
+arms-if i (Err x) (Err y) gs at colon high h m p q =
+    (colon, omega arith, omega arith, p, wider y i (suc colon) high colon high (omega arith) (omega arith) q)
+
+chosen-if : (k : Context) (x : Checked Valued) (y : Checked Arms) (gs : List Function) (at colon low high : ℕ) → low ≤ at → at < colon → colon < high
+    → StandsIf k.instance low at x → ArmsIf k.instance at colon high y
+    → StandsIf k.instance low high (applied (joined x y) (λ p. rule (choice_of k at p.0 p.1.first p.1.second)) gs).result
+chosen-if k (Ok on) (Ok a) gs at colon low high l h m p q = choice-stands k at colon low high on a.first a.second h p q.0 q.1
+chosen-if k (Ok on) (Err y) gs at colon low high l h m p q = wider y k.instance (suc at) high low high (omega arith) (omega arith) q
+chosen-if k (Err x) (Ok a) gs at colon low high l h m p q = wider x k.instance low at low high (omega arith) (omega arith) p
+chosen-if k (Err x) (Err y) gs at colon low high l h m p q =
+    (at, l, omega arith, p, wider y k.instance (suc at) high at high (omega arith) (omega arith) q)
+
+pub conditional : (test : Meaning) (question : ℕ) (first : Meaning) (colon : ℕ) (second : Meaning) (low high : ℕ) → low ≤ question → question < colon → colon < high
+    → InOrder low question test → InOrder (suc question) colon first → InOrder (suc colon) high second
+    → InOrder low high (expr_step (Expr-F.Conditional test question first colon second))
+conditional test question first colon second low high l h m p q r k rs =
+    let x = value k (test.typed k) in
+    let y = value k (first.typed k) in
+    let z = value k (second.typed k) in
+    plain-stands k (both x (both y z arms) (λ on a. rule (choice_of k question on a.first a.second))) low high
+    (λ fs.
+    let gs = (x fs).functions in
+    chosen-if k (x fs).result (both y z arms gs).result (both y z arms gs).functions question colon low high l h m
+    (value-stands k (test.typed k) low question (p k rs) fs)
+    (arms-if k.instance (y gs).result (z (y gs).functions).result (z (y gs).functions).functions question colon high h m
+    (value-stands k (first.typed k) (suc question) colon (q k rs) gs)
+    (value-stands k (second.typed k) (suc colon) high (r k rs) (y gs).functions)))
 
 pub keep-order : FormsKeepOrder
-keep-order = record { binary = binary; unary = unary; parenthesized = parenthesized; decimal = decimal; based = based; sized = sized; fill = fill }
+keep-order = record { binary = binary; unary = unary; parenthesized = parenthesized; conditional = conditional; concatenation = concatenation; decimal = decimal; based = based; sized = sized; fill = fill }

@@ -75,7 +75,7 @@ module _ (k : Context) where
   itself : (first : ℕ) (of : SvType) (form : Form) (low high : ℕ) → low ≤ first → first < high → Stands low high (P.by_itself k first of form)
   itself first of form low high h m = record { from = h; before = m; operators = λ w. tt }
 
-  in-context : (first : ℕ) (of : SvType) (form : Form) (wide : ℕ → List ℕ) (low high : ℕ) → low ≤ first → first < high
+  pub in-context : (first : ℕ) (of : SvType) (form : Form) (wide : ℕ → List ℕ) (low high : ℕ) → low ≤ first → first < high
       → ((w : ℕ) → Ascend low high (wide w)) → StandsIf k.instance low high (P.in_context k first of form wide)
   in-context first of form wide low high h m a =
       unless-stands k.instance (at_all k.instance 502 (wide (width_of of))) (P.valued k first of form wide) low high

@@ -56,15 +56,26 @@ OperandIf i low high (Err b) = Within b i low high
 abbrev pub OperandTyping : ℕ → ℕ → ℕ → Typing Operand → Type 0
 OperandTyping i low high x = (fs : List Function) → OperandIf i low high (x fs).result
 
+-- functions whose breaks stand in the order of a text of theirs
+abbrev pub RoutinesInOrder : Context → Type 0
+RoutinesInOrder k = (n : ℕ) (fs : List Function) → ((i : ℕ) × (low : ℕ) × (high : ℕ) × Placed i low high (k.routine n fs).result)
+
 -- An expression in a part of a text, in any context: it stands there, and so do its breaks, in the order of the text.
 abbrev pub InOrder : ℕ → ℕ → Meaning → Type 0
-InOrder low high e = (k : Context) → OperandTyping k.instance low high (e.typed k)
+InOrder low high e = (k : Context) → RoutinesInOrder k → OperandTyping k.instance low high (e.typed k)
 
--- Expressions whose parts stand in the order of the text stand in it: operators, parentheses and numbers.
+-- expressions that stand behind one another
+abbrev pub AllInOrder : ℕ → ℕ → List Meaning → Type 0
+AllInOrder low high [] = low ≤ high
+AllInOrder low high (e ∷ es) = (between : ℕ) × (low ≤ between) × (between ≤ high) × InOrder low between e × AllInOrder between high es
+
+-- Expressions whose parts stand in the order of the text stand in it: operators, `?:`, parentheses, concatenations and numbers.
 pub record FormsKeepOrder : Type 0 where
   pub binary : (left : Meaning) (op : BinaryOperator) (at : ℕ) (right : Meaning) (low high : ℕ) → low ≤ at → at < high → InOrder low at left → InOrder (suc at) high right → InOrder low high (expr_step (Expr-F.Binary left op at right))
   pub unary : (op : UnaryOperator) (at : ℕ) (operand : Meaning) (high : ℕ) → InOrder (suc at) high operand → InOrder at high (expr_step (Expr-F.Unary op at operand))
   pub parenthesized : (opening : ℕ) (inner : Meaning) (closing : ℕ) → InOrder (suc opening) closing inner → InOrder opening (suc closing) (expr_step (Expr-F.«Expr::Parenthesized» opening inner closing None))
+  pub conditional : (test : Meaning) (question : ℕ) (first : Meaning) (colon : ℕ) (second : Meaning) (low high : ℕ) → low ≤ question → question < colon → colon < high → InOrder low question test → InOrder (suc question) colon first → InOrder (suc colon) high second → InOrder low high (expr_step (Expr-F.Conditional test question first colon second))
+  pub concatenation : (opening : ℕ) (items : List Meaning) (closing : ℕ) → opening < closing → AllInOrder (suc opening) closing items → InOrder opening (suc closing) (expr_step (Expr-F.Concatenation opening items closing))
   pub decimal : (at : ℕ) → InOrder at (suc at) (expr_step (Expr-F.«Expr::Decimal» at))
   pub based : (at : ℕ) → InOrder at (suc at) (expr_step (Expr-F.Based at))
   pub sized : (size at : ℕ) → size < at → InOrder size (suc at) (expr_step (Expr-F.Sized size at))

@@ -10,8 +10,8 @@ pub fn firsts_are_least()
     ensures { FirstsAreLeast }
 {}
 
-/// Expressions whose parts stand in the order of the text stand in it, and so do their breaks: operators, parentheses and
-/// numbers.
+/// Expressions whose parts stand in the order of the text stand in it, and so do their breaks: operators, `?:`, parentheses,
+/// concatenations and numbers.
 pub fn forms_keep_order()
     ensures { FormsKeepOrder }
 {}
