@@ -1,23 +1,25 @@
 -- Expressions whose parts stand in the order of the text stand in it, form by form.
-use Rattle.std.proofs.Common.{ℕ, suc, ◌≤◌, ◌<◌, ◌||◌, ◌++◌, false, List, [], ◌∷◌, None, arith, map}
-use Rattle.std.specs.Prelude.{Ok, Err, nat_lt, ◌==◌}
+use Rattle.std.proofs.Common.{ℤ, Bool, true, Option, Some, cond, ℕ, suc, ◌≤◌, ◌<◌, ◌||◌, ◌++◌, false, List, [], ◌∷◌, None, arith, map}
+use Rattle.std.specs.Prelude.{pos, unsigned_abs, ◌*◌, Ok, Err, nat_lt, ◌==◌}
 use Rattle.std.specs.List.{list_any}
-use Rattle.expr_type.specs.Breaks.{Within}
+use Rattle.expr_type.specs.Breaks as K
+use Rattle.expr_type.specs.Breaks.{At, Position, Within, is_before, key_at}
+use Rattle.expr_type.specs.Streams.{holds_stream}
 use Rattle.sv_tree.specs.declared.expressions.Expr.{Expr-F}
 use Rattle.sv_tree.specs.declared.operators.BinaryOperator.{BinaryOperator}
 use Rattle.sv_tree.specs.declared.operators.UnaryOperator.{UnaryOperator}
 use Rattle.sv_types.specs.declared.statement.Function.{Function}
 use Rattle.sv_types.specs.declared.types.SvType.{SvType}
-use Rattle.expr_type.specs.Typings.{Checked, Typing, joined, applied, checked, both, rule, refused}
+use Rattle.expr_type.specs.Typings.{Checked, Typing, joined, applied, checked, both, by_functions, lesser, rule, refused, where_whole}
 use Rattle.expr_type.specs.Names.{Context, position, word}
-use Rattle.expr_type.specs.Operands.{Operand, Plain, Pattern, Stream, Valued, value, is_value}
+use Rattle.expr_type.specs.Operands.{Operand, Plain, Pattern, Stream, Number, Valued, in_range, is_number_in, is_value, names_any, number_of, number_or, number_within, stops, value}
 use Rattle.sv_types.specs.declared.expression.Form.{Form}
-use Rattle.expr_type.specs.Operators.{binary_of, unary_of, by_itself, is_part, concat_of, choice_of, chosen_type}
+use Rattle.expr_type.specs.Operators.{binary_of, unary_of, by_itself, is_part, concat_of, repeat_of, all_bits, choice_of, chosen_type}
 use Rattle.expr_type.specs.Forms as F
 use Rattle.expr_type.specs.Literals as L
-use Rattle.expr_type.specs.Shapes.{vector, is_unpacked}
+use Rattle.expr_type.specs.Shapes.{vector, most_bits, is_unpacked}
 use Rattle.sv_types.specs.declared.expression.Form.TheVariants as T
-use Rattle.expr_type.specs.Expressions.{Arms, Meaning, arms, expr_step, part, parts}
+use Rattle.expr_type.specs.Expressions.{Arms, Meaning, count, is_count, arms, expr_step, part, parts}
 use Rattle.expr_type.specs.Placed.{Placed, Stands, StandsIf, StandsTyping, OperandStands, OperandIf, OperandTyping, InOrder, AllInOrder, InTurn, PlacedTyping, RoutinesInOrder, FormsKeepOrder}
 use Rattle.expr_type.proofs.Placing.{wider, placed-refused, placed-all}
 use Rattle.expr_type.proofs.Ordering.{ascend-append, ascend-wider, in-context, binary-stands, unary-stands, refused-stands, concat-stands, place}
@@ -233,5 +235,102 @@ conditional test question first colon second low high l h m p q r k rs =
     (value-stands k (first.typed k) (suc question) colon (q k rs) gs)
     (value-stands k (second.typed k) (suc colon) high (r k rs) (y gs).functions)))
 
+-- Constant numbers: each of their breaks stands at their first token.
+abbrev pub NumberIf : ℕ → ℕ → ℕ → Checked Number → Type 0
+NumberIf i low high (Ok n) = (low ≤ n.first) × (n.first < high)
+NumberIf i low high (Err b) = Within b i low high
+
+either-within : (c : Bool) (p : Position) (r s i low high : ℕ) → K.Stands i low high p → Within (cond c (At p r) (At p s)) i low high
+either-within true p r s i low high h = h
+either-within false p r s i low high h = h
+
+number-or : (k : Context) (first : ℕ) (o : Option ℤ) (low high : ℕ) → low ≤ first → first < high → NumberIf k.instance low high (number_or k first o)
+number-or k first None low high h m = place k first low high h m
+number-or k first (Some n) low high h m = (h, m)
+
+module _ (k : Context) (v : Valued) (number : Valued → Option ℤ) (low high : ℕ) (s : Stands low high v) where
+  first-place : Position
+  first-place = position k v.first
+
+  number-by : (names unpacked streams stops : Bool)
+      → NumberIf k.instance low high (where_whole
+      (refused names (position k v.first) 406 (where_whole
+      (lesser (refused unpacked (position k v.first) 508 (Ok v)) (refused streams (position k v.first) 512 (Ok v.expr)))
+      (λ p. refused stops (position k v.first) 608 (Ok p.0))))
+      (λ u. number_or k u.first (number u)))
+  number-by true unpacked streams stops = place k v.first low high s.from s.before
+  number-by false true true stops =
+      either-within (is_before (key_at (position k v.first) 512) (key_at (position k v.first) 508)) (position k v.first) 512 508 k.instance low high
+      (place k v.first low high s.from s.before)
+  number-by false true false stops = place k v.first low high s.from s.before
+  number-by false false true stops = place k v.first low high s.from s.before
+  number-by false false false true = place k v.first low high s.from s.before
+  number-by false false false false = number-or k v.first (number v) low high s.from s.before
+
+is-number : (k : Context) (from to : ℤ) (v : Valued) (fs : List Function) (low high : ℕ) → Stands low high v → NumberIf k.instance low high (is_number_in k from to v fs)
+is-number k from to v fs low high s =
+    number-by k v (λ u. in_range from to (number_of fs u.expr)) low high s (names_any v.expr) (is_unpacked v.expr.of) (holds_stream fs v.expr) (stops fs v.expr)
+
+number-if : (k : Context) (from to : ℤ) (x : Checked Valued) (gs : List Function) (low high : ℕ) → StandsIf k.instance low high x
+    → NumberIf k.instance low high (applied x (λ v. by_functions (is_number_in k from to v)) gs).result
+number-if k from to (Ok v) gs low high s = is-number k from to v gs low high s
+number-if k from to (Err b) gs low high w = w
+
+pub number-stands-in : (k : Context) (from to : ℤ) (x : Typing Operand) (low high : ℕ) → OperandTyping k.instance low high x
+    → (fs : List Function) → NumberIf k.instance low high (number_within k from to x fs).result
+number-stands-in k from to x low high p fs =
+    number-if k from to (value k x fs).result (value k x fs).functions low high (value-stands k x low high p fs)
+
+-- replications
+count-if : (k : Context) (x : Checked Number) (gs : List Function) (low high : ℕ) → NumberIf k.instance low high x
+    → Placed k.instance low high (applied x (λ n. rule (is_count k n)) gs).result
+count-if k (Ok n) gs low high h =
+    placed-refused k.instance (unsigned_abs n.number == 0) (position k n.first) 510 (Ok (unsigned_abs n.number)) low high (place k n.first low high h.0 h.1) tt
+count-if k (Err b) gs low high w = w
+
+count-placed : (k : Context) (e : Meaning) (low high : ℕ) → RoutinesInOrder k → InOrder low high e → PlacedTyping k.instance low high (count k e)
+count-placed k e low high rs p fs =
+    let x = number_within k (pos 0) F.most_of_size (e.typed k) in
+    count-if k (x fs).result (x fs).functions low high (number-stands-in k (pos 0) F.most_of_size (e.typed k) low high (p k rs) fs)
+
+repeated-if : (k : Context) (opening inner high : ℕ) (x : Checked ℕ) (y : Checked (List Valued)) (gs : List Function) → opening < inner → inner < high
+    → Placed k.instance (suc opening) inner x → Placed k.instance (suc inner) high y
+    → StandsIf k.instance opening high (applied (joined x y) (λ p. rule (repeat_of k opening p.0 p.1)) gs).result
+repeated-if k opening inner high (Ok n) (Ok vs) gs h m p q =
+    refused-stands k.instance (nat_lt most_bits (n * all_bits vs)) (position k opening) 701 (Ok _) opening high
+    (place k opening opening high (omega arith) (omega arith)) (leaf k opening opening high _ _ (omega arith) (omega arith))
+repeated-if k opening inner high (Ok n) (Err y) gs h m p q = wider y k.instance (suc inner) high opening high (omega arith) (omega arith) q
+repeated-if k opening inner high (Err x) (Ok vs) gs h m p q = wider x k.instance (suc opening) inner opening high (omega arith) (omega arith) p
+repeated-if k opening inner high (Err x) (Err y) gs h m p q = (
+  inner,
+  omega arith,
+  omega arith,
+  wider x k.instance (suc opening) inner opening inner (omega arith) (omega arith) p,
+  wider y k.instance (suc inner) high inner high (omega arith) (omega arith) q,
+)
+
+pub replication : (opening : ℕ) (times : Meaning) (inner : ℕ) (items : List Meaning) (inner_closing closing : ℕ) → opening < inner → inner < inner_closing → inner_closing < closing
+    → InOrder (suc opening) inner times → AllInOrder (suc inner) inner_closing items
+    → InOrder opening (suc closing) (expr_step (Expr-F.«Expr::Replication» opening times inner items inner_closing closing))
+replication opening times inner items inner_closing closing h m l p q k rs =
+    plain-stands k (both (count k times) (parts k items) (λ n vs. rule (repeat_of k opening n vs))) opening (suc closing)
+    (λ fs.
+    let gs = (count k times fs).functions in
+    repeated-if k opening inner (suc closing) (count k times fs).result (parts k items gs).result (parts k items gs).functions h (omega arith)
+    (count-placed k times (suc opening) inner rs p fs)
+    (placed-wider k.instance (parts k items gs).result (suc inner) inner_closing (suc inner) (suc closing) (omega arith) (omega arith)
+    (placed-all k.instance (map (part k) items) (suc inner) inner_closing (parts-in-turn k items (suc inner) inner_closing rs q) gs)))
+
 pub keep-order : FormsKeepOrder
-keep-order = record { binary = binary; unary = unary; parenthesized = parenthesized; conditional = conditional; concatenation = concatenation; decimal = decimal; based = based; sized = sized; fill = fill }
+keep-order = record {
+  binary = binary;
+  unary = unary;
+  parenthesized = parenthesized;
+  conditional = conditional;
+  concatenation = concatenation;
+  replication = replication;
+  decimal = decimal;
+  based = based;
+  sized = sized;
+  fill = fill;
+}

@@ -69,13 +69,15 @@ abbrev pub AllInOrder : ℕ → ℕ → List Meaning → Type 0
 AllInOrder low high [] = low ≤ high
 AllInOrder low high (e ∷ es) = (between : ℕ) × (low ≤ between) × (between ≤ high) × InOrder low between e × AllInOrder between high es
 
--- Expressions whose parts stand in the order of the text stand in it: operators, `?:`, parentheses, concatenations and numbers.
+-- Expressions whose parts stand in the order of the text stand in it: operators, `?:`, parentheses, concatenations, replications and
+-- numbers.
 pub record FormsKeepOrder : Type 0 where
   pub binary : (left : Meaning) (op : BinaryOperator) (at : ℕ) (right : Meaning) (low high : ℕ) → low ≤ at → at < high → InOrder low at left → InOrder (suc at) high right → InOrder low high (expr_step (Expr-F.Binary left op at right))
   pub unary : (op : UnaryOperator) (at : ℕ) (operand : Meaning) (high : ℕ) → InOrder (suc at) high operand → InOrder at high (expr_step (Expr-F.Unary op at operand))
   pub parenthesized : (opening : ℕ) (inner : Meaning) (closing : ℕ) → InOrder (suc opening) closing inner → InOrder opening (suc closing) (expr_step (Expr-F.«Expr::Parenthesized» opening inner closing None))
   pub conditional : (test : Meaning) (question : ℕ) (first : Meaning) (colon : ℕ) (second : Meaning) (low high : ℕ) → low ≤ question → question < colon → colon < high → InOrder low question test → InOrder (suc question) colon first → InOrder (suc colon) high second → InOrder low high (expr_step (Expr-F.Conditional test question first colon second))
   pub concatenation : (opening : ℕ) (items : List Meaning) (closing : ℕ) → opening < closing → AllInOrder (suc opening) closing items → InOrder opening (suc closing) (expr_step (Expr-F.Concatenation opening items closing))
+  pub replication : (opening : ℕ) (times : Meaning) (inner : ℕ) (items : List Meaning) (inner_closing closing : ℕ) → opening < inner → inner < inner_closing → inner_closing < closing → InOrder (suc opening) inner times → AllInOrder (suc inner) inner_closing items → InOrder opening (suc closing) (expr_step (Expr-F.«Expr::Replication» opening times inner items inner_closing closing))
   pub decimal : (at : ℕ) → InOrder at (suc at) (expr_step (Expr-F.«Expr::Decimal» at))
   pub based : (at : ℕ) → InOrder at (suc at) (expr_step (Expr-F.Based at))
   pub sized : (size at : ℕ) → size < at → InOrder size (suc at) (expr_step (Expr-F.Sized size at))
