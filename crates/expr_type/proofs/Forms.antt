@@ -1,28 +1,36 @@
 -- Expressions whose parts stand in the order of the text stand in it, form by form.
 use Rattle.std.proofs.Common.{ℤ, Bool, true, Option, Some, cond, ℕ, suc, ◌≤◌, ◌<◌, ◌||◌, ◌++◌, false, List, [], ◌∷◌, None, arith, map}
-use Rattle.std.specs.Prelude.{pos, unsigned_abs, ◌*◌, Ok, Err, nat_lt, ◌==◌}
+use Rattle.std.specs.Prelude.{pos, ◌-ℤ◌, unsigned_abs, ◌*◌, Ok, Err, nat_lt, ◌==◌}
 use Rattle.std.specs.List.{list_any}
 use Rattle.expr_type.specs.Breaks as K
-use Rattle.expr_type.specs.Breaks.{At, Position, Within, is_before, key_at}
+use Rattle.expr_type.specs.Breaks.{At, Quiet, Position, Within, is_before, key_at}
 use Rattle.expr_type.specs.Streams.{holds_stream}
 use Rattle.sv_tree.specs.declared.expressions.Expr.{Expr-F}
 use Rattle.sv_tree.specs.declared.operators.BinaryOperator.{BinaryOperator}
 use Rattle.sv_tree.specs.declared.operators.UnaryOperator.{UnaryOperator}
 use Rattle.sv_types.specs.declared.statement.Function.{Function}
 use Rattle.sv_types.specs.declared.types.SvType.{SvType}
-use Rattle.expr_type.specs.Typings.{Checked, Typing, joined, applied, checked, both, by_functions, lesser, rule, refused, where_whole}
-use Rattle.expr_type.specs.Names.{Context, position, word}
-use Rattle.expr_type.specs.Operands.{Operand, Plain, Pattern, Stream, Number, Valued, in_range, is_number_in, is_value, names_any, number_of, number_or, number_within, stops, value}
+use Rattle.expr_type.specs.Typings.{Checked, Typing, joined, applied, checked, both, broken, by_functions, lesser, rule, whole, refused, where_whole}
+use Rattle.expr_type.specs.Names.{Context, Thing, member_in, position, thing, word}
+use Rattle.expr_type.specs.Names as N
+use Rattle.expr_type.specs.Selects.{Step, Member, Index, Part, Slide, index_in, is_index, part_type, path, stepped}
+use Rattle.expr_type.specs.Forms.{SelectMeaning}
+use Rattle.sv_tree.specs.Extents.{qualified_first}
+use Rattle.sv_tree.specs.declared.expressions.Select.{Select-F}
+use Rattle.sv_tree.specs.declared.names.QualifiedName.{QualifiedName}
+use Rattle.sv_types.specs.declared.frame.SignalId.{SignalId}
+use Rattle.sv_types.specs.Layouts.{width_of}
+use Rattle.expr_type.specs.Operands.{Operand, Plain, Pattern, Stream, Number, Valued, bits_in, has_bits, width, in_range, is_number_in, is_value, names_any, number_of, number_or, number_within, stops, value}
 use Rattle.sv_types.specs.declared.expression.Form.{Form}
 use Rattle.expr_type.specs.Operators.{binary_of, unary_of, by_itself, is_part, concat_of, repeat_of, all_bits, choice_of, chosen_type}
 use Rattle.expr_type.specs.Forms as F
 use Rattle.expr_type.specs.Literals as L
 use Rattle.expr_type.specs.Shapes.{vector, most_bits, is_unpacked}
 use Rattle.sv_types.specs.declared.expression.Form.TheVariants as T
-use Rattle.expr_type.specs.Expressions.{Arms, Meaning, count, is_count, arms, expr_step, part, parts}
-use Rattle.expr_type.specs.Placed.{Placed, Stands, StandsIf, StandsTyping, OperandStands, OperandIf, OperandTyping, InOrder, AllInOrder, InTurn, PlacedTyping, RoutinesInOrder, FormsKeepOrder}
+use Rattle.expr_type.specs.Expressions.{Arms, Meaning, count, is_count, arms, expr_step, part, parts, select_step}
+use Rattle.expr_type.specs.Placed.{Placed, Stands, StandsIf, StandsTyping, OperandStands, OperandIf, OperandTyping, InOrder, AllInOrder, StepStands, StepIf, MemberStands, SelectInOrder, SelectsInOrder, InTurn, PlacedTyping, RoutinesInOrder, FormsKeepOrder}
 use Rattle.expr_type.proofs.Placing.{wider, placed-refused, placed-all}
-use Rattle.expr_type.proofs.Ordering.{ascend-append, ascend-wider, in-context, binary-stands, unary-stands, refused-stands, concat-stands, place}
+use Rattle.expr_type.proofs.Ordering.{ascend-append, ascend-wider, member-stands, element-stands, part-stands, selected, in-context, binary-stands, unary-stands, refused-stands, concat-stands, place}
 
 stands-wider : (v : Valued) (low high low' high' : ℕ) → low' ≤ low → high ≤ high' → Stands low high v → Stands low' high' v
 stands-wider v low high low' high' h k s = record {
@@ -321,6 +329,122 @@ replication opening times inner items inner_closing closing h m l p q k rs =
     (placed-wider k.instance (parts k items gs).result (suc inner) inner_closing (suc inner) (suc closing) (omega arith) (omega arith)
     (placed-all k.instance (map (part k) items) (suc inner) inner_closing (parts-in-turn k items (suc inner) inner_closing rs q) gs)))
 
+-- names with selects behind them
+standing-wider : (i : ℕ) (x : Checked Valued) (low high low' high' : ℕ) → low' ≤ low → high ≤ high' → StandsIf i low high x → StandsIf i low' high' x
+standing-wider i (Ok v) low high low' high' h k s = stands-wider v low high low' high' h k s
+standing-wider i (Err b) low high low' high' h k w = wider b i low high low' high' h k w
+
+stepped-stands : (k : Context) (v : Valued) (t : Step) (low between high : ℕ) → between ≤ high → Stands low between v → StepStands between high t
+    → StandsIf k.instance low high (stepped k v t)
+stepped-stands k v (Member name) low between high h s t =
+    member-stands k name low high v (stands-wider v low between low name (omega arith) t.0 s) t.1
+stepped-stands k v (Index opening i) low between high h s t =
+    element-stands k opening low high v (stands-wider v low between low opening (omega arith) t.0 s) t.1 i
+stepped-stands k v (Part opening left right) low between high h s t =
+    part-stands k opening low high v (stands-wider v low between low opening (omega arith) t.0 s) (let a = t.1 in let b = t.2 in omega arith) left right t.1 t.2
+stepped-stands k v (Slide opening up i n) low between high h s t =
+    let x = stands-wider v low between low opening (omega arith) t.0 s in
+    refused-stands k.instance (is_unpacked v.expr.of) (position k opening) 508 _ low high
+    (place k opening low high (let a = s.from in let b = s.before in let c = t.0 in omega arith) t.1)
+    (selected k opening low high v x t.1 (part_type v.expr.of (n.number -ℤ pos 1) (pos 0)) (T.Slide v.expr i.expr (unsigned_abs n.number) up)
+    (width_of (part_type v.expr.of (n.number -ℤ pos 1) (pos 0))))
+
+step-if : (k : Context) (x : Checked Valued) (t : Checked Step) (gs : List Function) (low between high : ℕ) → low ≤ between → between ≤ high
+    → StandsIf k.instance low between x → StepIf k.instance between high t
+    → StandsIf k.instance low high (applied (joined x t) (λ p. rule (stepped k p.0 p.1)) gs).result
+step-if k (Ok v) (Ok t) gs low between high h m p q = stepped-stands k v t low between high m p q
+step-if k (Ok v) (Err y) gs low between high h m p q = wider y k.instance between high low high h (omega arith) q
+step-if k (Err x) (Ok t) gs low between high h m p q = wider x k.instance low between low high (omega arith) m p
+step-if k (Err x) (Err y) gs low between high h m p q = (between, h, m, p, q)
+
+path-stands : (k : Context) (ss : List SelectMeaning) (x : Typing Valued) (low between high : ℕ) → RoutinesInOrder k → low ≤ between
+    → StandsTyping k.instance low between x → SelectsInOrder between high ss → StandsTyping k.instance low high (path k x (F.steps k ss))
+path-stands k [] x low between high rs h p q = λ fs. standing-wider k.instance (x fs).result low between low high (omega arith) q (p fs)
+path-stands k (s ∷ ss) x low between high rs h p q =
+    path-stands k ss (both x (s.step k) (λ v t. rule (stepped k v t))) low q.0 high rs (let a = q.1 in omega arith)
+    (λ fs. step-if k (x fs).result (s.step k (x fs).functions).result (s.step k (x fs).functions).functions low between q.0 h q.1
+    (p fs) (q.3.step k rs (x fs).functions))
+    q.4
+
+member-or : (k : Context) (first at : ℕ) (o : Option SignalId) (low high : ℕ) → low ≤ first → first < high → low ≤ at → at < high
+    → StandsIf k.instance low high (F.signal_or k first at o)
+member-or k first at None low high h m n l = place k at low high n l
+member-or k first at (Some s) low high h m n l = leaf k first low high s.of (T.Signal s.signal) h m
+
+interface-by : (k : Context) (first n : ℕ) (s : SelectMeaning) (ss : List SelectMeaning) (low between high : ℕ) → RoutinesInOrder k → low ≤ first → first < between
+    → (o : Option ℕ) → MemberStands low between o → SelectsInOrder between high ss
+    → StandsTyping k.instance low high (elim o [
+      | None ↦ broken Quiet
+      | Some at ↦ path k (rule (F.signal_or k first at (member_in n (word k at) k.signals))) (F.steps k ss)
+    ])
+interface-by k first n s ss low between high rs h m None q r = λ fs. tt
+interface-by k first n s ss low between high rs h m (Some at) q r =
+    path-stands k ss (rule (F.signal_or k first at (member_in n (word k at) k.signals))) low between high rs (omega arith)
+    (λ fs. member-or k first at (member_in n (word k at) k.signals) low between h m q.0 q.1) r
+
+lower-member : (low low' high : ℕ) (o : Option ℕ) → low' ≤ low → MemberStands low high o → MemberStands low' high o
+lower-member low low' high None h m = tt
+lower-member low low' high (Some at) h m = (omega arith, m.1)
+
+interface-stands : (k : Context) (first n : ℕ) (ss : List SelectMeaning) (from high : ℕ) → RoutinesInOrder k → first < from → SelectsInOrder from high ss
+    → StandsTyping k.instance first high (F.of_interface k first n ss)
+interface-stands k first n [] from high rs h q = λ fs. tt
+interface-stands k first n (s ∷ ss) from high rs h q =
+    interface-by k first n s ss first q.0 high rs (omega arith) (let a = q.1 in omega arith) s.member
+    (lower-member from first q.0 s.member (omega arith) q.3.member) q.4
+
+thing-stands : (k : Context) (first : ℕ) (ss : List SelectMeaning) (from high : ℕ) (t : Thing) → RoutinesInOrder k → first < from → SelectsInOrder from high ss
+    → StandsTyping k.instance first high (F.by_thing k first ss t)
+thing-stands k first ss from high (N.Signal n t) rs h q =
+    path-stands k ss (whole (by_itself k first t (T.Signal n))) first from high rs (omega arith) (λ fs. leaf k first first from t (T.Signal n) (omega arith) h) q
+thing-stands k first ss from high (N.Local n t) rs h q =
+    path-stands k ss (whole (by_itself k first t (T.Local n))) first from high rs (omega arith) (λ fs. leaf k first first from t (T.Local n) (omega arith) h) q
+thing-stands k first ss from high (N.Constant t v) rs h q =
+    path-stands k ss (whole (by_itself k first t (T.Constant v))) first from high rs (omega arith) (λ fs. leaf k first first from t (T.Constant v) (omega arith) h) q
+thing-stands k first ss from high (N.TypeName t) rs h q = λ fs. tt
+thing-stands k first ss from high (N.Interface n) rs h q = interface-stands k first n ss from high rs h q
+thing-stands k first ss from high (N.Other n) rs h q = λ fs. tt
+thing-stands k first ss from high N.Nothing rs h q = λ fs. tt
+
+pub name : (of : QualifiedName) (selects : List SelectMeaning) (high : ℕ) → qualified_first of ≤ of.name → SelectsInOrder (suc of.name) high selects
+    → InOrder (qualified_first of) high (expr_step (Expr-F.«Expr::Name» of selects None))
+name of selects high h q k rs =
+    plain-stands k (F.named k of selects) (qualified_first of) high
+    (thing-stands k (qualified_first of) selects (suc of.name) high (thing k of) rs (omega arith) q)
+
+pub member : (dot name : ℕ) → dot < name → SelectInOrder dot (suc name) (select_step (Select-F.Member dot name))
+member dot name h = record { step = λ k rs fs. (omega arith, omega arith); member = (omega arith, omega arith) }
+
+bits-if : (k : Context) (x : Checked Valued) (gs : List Function) (low high : ℕ) → StandsIf k.instance low high x
+    → StandsIf k.instance low high (applied x (λ v. rule (has_bits k v)) gs).result
+bits-if k (Ok v) gs low high s = refused-stands k.instance (is_unpacked v.expr.of) (position k v.first) 508 (Ok v) low high (place k v.first low high s.from s.before) s
+bits-if k (Err b) gs low high w = w
+
+index-if : (k : Context) (x : Checked Valued) (gs : List Function) (low high : ℕ) → StandsIf k.instance low high x
+    → StandsIf k.instance low high (applied x (λ v. rule (is_index k v)) gs).result
+index-if k (Ok v) gs low high s = refused-stands k.instance (nat_lt 64 (width v)) (position k v.first) 507 (Ok v) low high (place k v.first low high s.from s.before) s
+index-if k (Err b) gs low high w = w
+
+index-stands : (k : Context) (x : Typing Operand) (low high : ℕ) → OperandTyping k.instance low high x → StandsTyping k.instance low high (index_in k x)
+index-stands k x low high p fs =
+    let y = value k x in
+    index-if k (bits_in k x fs).result (bits_in k x fs).functions low high
+    (bits-if k (y fs).result (y fs).functions low high (value-stands k x low high p fs))
+
+index-step : (k : Context) (x : Checked Valued) (gs : List Function) (opening high : ℕ) → opening < high → StandsIf k.instance (suc opening) high x
+    → StepIf k.instance opening (suc high) (applied x (λ v. rule (Ok (Index opening v))) gs).result
+index-step k (Ok v) gs opening high h s = (omega arith, omega arith)
+index-step k (Err b) gs opening high h w = wider b k.instance (suc opening) high opening (suc high) (omega arith) (omega arith) w
+
+pub index : (opening : ℕ) (e : Meaning) (closing : ℕ) → opening < closing → InOrder (suc opening) closing e
+    → SelectInOrder opening (suc closing) (select_step (Select-F.Index opening e closing))
+index opening e closing h p = record {
+  step = λ k rs fs.
+      index-step k (index_in k (e.typed k) fs).result (index_in k (e.typed k) fs).functions opening closing h
+      (index-stands k (e.typed k) (suc opening) closing (p k rs) fs);
+  member = tt;
+}
+
 pub keep-order : FormsKeepOrder
 keep-order = record {
   binary = binary;
@@ -329,6 +453,9 @@ keep-order = record {
   conditional = conditional;
   concatenation = concatenation;
   replication = replication;
+  name = name;
+  member = member;
+  index = index;
   decimal = decimal;
   based = based;
   sized = sized;

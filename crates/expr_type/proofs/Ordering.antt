@@ -221,7 +221,7 @@ module _ (k : Context) where
     select-within : low ≤ at
     select-within = let a = x.from in let b = x.before in omega arith
 
-    selected : (of : SvType) (form : Form) (w : ℕ) → StandsIf k.instance low high (P.not_too_long k at w (Ok (P.by_itself k v.first of form)))
+    pub selected : (of : SvType) (form : Form) (w : ℕ) → StandsIf k.instance low high (P.not_too_long k at w (Ok (P.by_itself k v.first of form)))
     selected of form w =
         refused-stands k.instance (nat_lt most_bits w) (position k at) 701 _ low high (place at low high select-within h)
         (itself v.first of form low high x.from (let b = x.before in omega arith))

@@ -1,5 +1,5 @@
 -- Typings whose breaks stand in a part of a text, in its order.
-use Rattle.std.specs.Prelude.{ℕ, suc, ◌≤◌, ◌<◌, List, [], ◌∷◌, None, Ok, Err}
+use Rattle.std.specs.Prelude.{ℕ, suc, ◌≤◌, ◌<◌, List, [], ◌∷◌, Option, Some, None, Ok, Err}
 use Rattle.sv_types.specs.declared.statement.Function.{Function}
 use Rattle.expr_type.specs.Breaks.{Within}
 use Rattle.expr_type.specs.Typings.{Checked, Typing}
@@ -9,7 +9,12 @@ use Rattle.expr_type.specs.Operands.{Operand, Plain, Pattern, Stream, Valued}
 use Rattle.sv_tree.specs.declared.expressions.Expr.{Expr-F}
 use Rattle.sv_tree.specs.declared.operators.BinaryOperator.{BinaryOperator}
 use Rattle.sv_tree.specs.declared.operators.UnaryOperator.{UnaryOperator}
-use Rattle.expr_type.specs.Expressions.{Meaning, expr_step}
+use Rattle.sv_tree.specs.Extents.{qualified_first}
+use Rattle.sv_tree.specs.declared.expressions.Select.{Select-F}
+use Rattle.sv_tree.specs.declared.names.QualifiedName.{QualifiedName}
+use Rattle.expr_type.specs.Selects.{Step, Member, Index, Part, Slide}
+use Rattle.expr_type.specs.Forms.{SelectMeaning}
+use Rattle.expr_type.specs.Expressions.{Meaning, expr_step, select_step}
 
 -- the breaks stand from one token up to, but not including, another one
 abbrev pub Placed : {A : Type 0} → ℕ → ℕ → ℕ → Checked A → Type 0
@@ -69,8 +74,31 @@ abbrev pub AllInOrder : ℕ → ℕ → List Meaning → Type 0
 AllInOrder low high [] = low ≤ high
 AllInOrder low high (e ∷ es) = (between : ℕ) × (low ≤ between) × (between ≤ high) × InOrder low between e × AllInOrder between high es
 
--- Expressions whose parts stand in the order of the text stand in it: operators, `?:`, parentheses, concatenations, replications and
--- numbers.
+-- selects that stand behind one another, each with the member that it names
+abbrev pub StepStands : ℕ → ℕ → Step → Type 0
+StepStands low high (Member name) = (low ≤ name) × (name < high)
+StepStands low high (Index opening v) = (low ≤ opening) × (opening < high)
+StepStands low high (Part opening left right) = (low ≤ opening) × (opening < left.first) × (left.first < high)
+StepStands low high (Slide opening up v n) = (low ≤ opening) × (opening < high)
+
+abbrev pub StepIf : ℕ → ℕ → ℕ → Checked Step → Type 0
+StepIf i low high (Ok t) = StepStands low high t
+StepIf i low high (Err b) = Within b i low high
+
+abbrev pub MemberStands : ℕ → ℕ → Option ℕ → Type 0
+MemberStands low high None = Unit {0}
+MemberStands low high (Some at) = (low ≤ at) × (at < high)
+
+pub record SelectInOrder (low high : ℕ) (s : SelectMeaning) : Type 0 where
+  pub step : (k : Context) → RoutinesInOrder k → (fs : List Function) → StepIf k.instance low high (s.step k fs).result
+  pub member : MemberStands low high s.member
+
+abbrev pub SelectsInOrder : ℕ → ℕ → List SelectMeaning → Type 0
+SelectsInOrder low high [] = low ≤ high
+SelectsInOrder low high (s ∷ ss) = (between : ℕ) × (low ≤ between) × (between ≤ high) × SelectInOrder low between s × SelectsInOrder between high ss
+
+-- Expressions whose parts stand in the order of the text stand in it: operators, `?:`, parentheses, concatenations, replications,
+-- names with the selects behind them, and numbers.
 pub record FormsKeepOrder : Type 0 where
   pub binary : (left : Meaning) (op : BinaryOperator) (at : ℕ) (right : Meaning) (low high : ℕ) → low ≤ at → at < high → InOrder low at left → InOrder (suc at) high right → InOrder low high (expr_step (Expr-F.Binary left op at right))
   pub unary : (op : UnaryOperator) (at : ℕ) (operand : Meaning) (high : ℕ) → InOrder (suc at) high operand → InOrder at high (expr_step (Expr-F.Unary op at operand))
@@ -78,6 +106,9 @@ pub record FormsKeepOrder : Type 0 where
   pub conditional : (test : Meaning) (question : ℕ) (first : Meaning) (colon : ℕ) (second : Meaning) (low high : ℕ) → low ≤ question → question < colon → colon < high → InOrder low question test → InOrder (suc question) colon first → InOrder (suc colon) high second → InOrder low high (expr_step (Expr-F.Conditional test question first colon second))
   pub concatenation : (opening : ℕ) (items : List Meaning) (closing : ℕ) → opening < closing → AllInOrder (suc opening) closing items → InOrder opening (suc closing) (expr_step (Expr-F.Concatenation opening items closing))
   pub replication : (opening : ℕ) (times : Meaning) (inner : ℕ) (items : List Meaning) (inner_closing closing : ℕ) → opening < inner → inner < inner_closing → inner_closing < closing → InOrder (suc opening) inner times → AllInOrder (suc inner) inner_closing items → InOrder opening (suc closing) (expr_step (Expr-F.«Expr::Replication» opening times inner items inner_closing closing))
+  pub name : (of : QualifiedName) (selects : List SelectMeaning) (high : ℕ) → qualified_first of ≤ of.name → SelectsInOrder (suc of.name) high selects → InOrder (qualified_first of) high (expr_step (Expr-F.«Expr::Name» of selects None))
+  pub member : (dot name : ℕ) → dot < name → SelectInOrder dot (suc name) (select_step (Select-F.Member dot name))
+  pub index : (opening : ℕ) (index : Meaning) (closing : ℕ) → opening < closing → InOrder (suc opening) closing index → SelectInOrder opening (suc closing) (select_step (Select-F.Index opening index closing))
   pub decimal : (at : ℕ) → InOrder at (suc at) (expr_step (Expr-F.«Expr::Decimal» at))
   pub based : (at : ℕ) → InOrder at (suc at) (expr_step (Expr-F.Based at))
   pub sized : (size at : ℕ) → size < at → InOrder size (suc at) (expr_step (Expr-F.Sized size at))
