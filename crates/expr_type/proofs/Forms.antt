@@ -28,7 +28,7 @@ use Rattle.expr_type.specs.Literals as L
 use Rattle.expr_type.specs.Shapes.{vector, most_bits, is_unpacked}
 use Rattle.sv_types.specs.declared.expression.Form.TheVariants as T
 use Rattle.expr_type.specs.Expressions.{Arms, Meaning, count, is_count, arms, expr_step, part, parts, select_step}
-use Rattle.expr_type.specs.Placed.{Placed, Stands, StandsIf, StandsTyping, OperandStands, OperandIf, OperandTyping, InOrder, AllInOrder, StepStands, StepIf, MemberStands, SelectInOrder, SelectsInOrder, InTurn, PlacedTyping, RoutinesInOrder, FormsKeepOrder}
+use Rattle.expr_type.specs.Placed.{Placed, Stands, StandsIf, StandsTyping, OperandStands, OperandIf, OperandTyping, InOrder, AllInOrder, StepStands, StepIf, MemberStands, SelectInOrder, SelectsInOrder, InTurn, PlacedTyping, RoutinesInOrder}
 use Rattle.expr_type.proofs.Placing.{wider, placed-refused, placed-all}
 use Rattle.expr_type.proofs.Ordering.{ascend-append, ascend-wider, member-stands, element-stands, part-stands, selected, in-context, binary-stands, unary-stands, refused-stands, concat-stands, place}
 
@@ -39,7 +39,7 @@ stands-wider v low high low' high' h k s = record {
   operators = λ w. ascend-wider (v.too_wide w) low high low' high' h k (s.operators w);
 }
 
-placed-wider : {A : Type 0} (i : ℕ) (x : Checked A) (low high low' high' : ℕ) → low' ≤ low → high ≤ high' → Placed i low high x → Placed i low' high' x
+pub placed-wider : {A : Type 0} (i : ℕ) (x : Checked A) (low high low' high' : ℕ) → low' ≤ low → high ≤ high' → Placed i low high x → Placed i low' high' x
 placed-wider i (Ok a) low high low' high' h k w = tt
 placed-wider i (Err b) low high low' high' h k w = wider b i low high low' high' h k w
 
@@ -70,7 +70,7 @@ module _ (k : Context) where
   plain-if (Ok v) gs low high s = s
   plain-if (Err b) gs low high w = w
 
-  plain-stands : (x : Typing Valued) (low high : ℕ) → StandsTyping k.instance low high x → OperandTyping k.instance low high (F.plain x)
+  pub plain-stands : (x : Typing Valued) (low high : ℕ) → StandsTyping k.instance low high x → OperandTyping k.instance low high (F.plain x)
   plain-stands x low high s fs = plain-if (x fs).result (x fs).functions low high (s fs)
 
   -- what is made of two operands with a token between them, and of one
@@ -124,7 +124,7 @@ parenthesized opening inner closing p k rs fs =
 number-stands : (k : Context) (x : Checked Valued) (low high : ℕ) → StandsIf k.instance low high x → OperandTyping k.instance low high (F.plain (rule x))
 number-stands k x low high s = plain-stands k (rule x) low high (λ fs. s)
 
-leaf : (k : Context) (at low high : ℕ) (of : SvType) (form : Form) → low ≤ at → at < high → Stands low high (by_itself k at of form)
+pub leaf : (k : Context) (at low high : ℕ) (of : SvType) (form : Form) → low ≤ at → at < high → Stands low high (by_itself k at of form)
 leaf k at low high of form h m = record { from = h; before = m; operators = λ w. tt }
 
 unsized-leaf : (k : Context) (at low high : ℕ) (of : SvType) (form : Form) → low ≤ at → at < high → Stands low high (F.unsized (by_itself k at of form))
@@ -443,21 +443,4 @@ index opening e closing h p = record {
       index-step k (index_in k (e.typed k) fs).result (index_in k (e.typed k) fs).functions opening closing h
       (index-stands k (e.typed k) (suc opening) closing (p k rs) fs);
   member = tt;
-}
-
-pub keep-order : FormsKeepOrder
-keep-order = record {
-  binary = binary;
-  unary = unary;
-  parenthesized = parenthesized;
-  conditional = conditional;
-  concatenation = concatenation;
-  replication = replication;
-  name = name;
-  member = member;
-  index = index;
-  decimal = decimal;
-  based = based;
-  sized = sized;
-  fill = fill;
 }

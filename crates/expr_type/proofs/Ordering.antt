@@ -47,7 +47,7 @@ ascend-over at w low high h k = by (nat_lt most_arithmetic w)
     by false = tt
 
 -- breaks at such tokens
-abbrev WithinIf : Option Breaks → ℕ → ℕ → ℕ → Type 0
+abbrev pub WithinIf : Option Breaks → ℕ → ℕ → ℕ → Type 0
 WithinIf None i low high = Unit {0}
 WithinIf (Some b) i low high = Within b i low high
 
@@ -56,7 +56,7 @@ and-within i rule t None low high h k w = record { instance = refl; from = h; be
 and-within i rule t (Some b) low high h k w =
     (suc t, omega arith, omega arith, record { instance = refl; from = h; before = omega arith }, w)
 
-all-within : (i rule : ℕ) (ts : List ℕ) (low high : ℕ) → Ascend low high ts → WithinIf (at_all i rule ts) i low high
+pub all-within : (i rule : ℕ) (ts : List ℕ) (low high : ℕ) → Ascend low high ts → WithinIf (at_all i rule ts) i low high
 all-within i rule [] low high a = tt
 all-within i rule (t ∷ ts) low high a = and-within i rule t (at_all i rule ts) low high a.0 a.1 (all-within i rule ts (suc t) high a.2)
 

@@ -98,7 +98,7 @@ SelectsInOrder low high [] = low ≤ high
 SelectsInOrder low high (s ∷ ss) = (between : ℕ) × (low ≤ between) × (between ≤ high) × SelectInOrder low between s × SelectsInOrder between high ss
 
 -- Expressions whose parts stand in the order of the text stand in it: operators, `?:`, parentheses, concatenations, replications,
--- names with the selects behind them, and numbers.
+-- names with the selects behind them, calls, and numbers.
 pub record FormsKeepOrder : Type 0 where
   pub binary : (left : Meaning) (op : BinaryOperator) (at : ℕ) (right : Meaning) (low high : ℕ) → low ≤ at → at < high → InOrder low at left → InOrder (suc at) high right → InOrder low high (expr_step (Expr-F.Binary left op at right))
   pub unary : (op : UnaryOperator) (at : ℕ) (operand : Meaning) (high : ℕ) → InOrder (suc at) high operand → InOrder at high (expr_step (Expr-F.Unary op at operand))
@@ -107,6 +107,7 @@ pub record FormsKeepOrder : Type 0 where
   pub concatenation : (opening : ℕ) (items : List Meaning) (closing : ℕ) → opening < closing → AllInOrder (suc opening) closing items → InOrder opening (suc closing) (expr_step (Expr-F.Concatenation opening items closing))
   pub replication : (opening : ℕ) (times : Meaning) (inner : ℕ) (items : List Meaning) (inner_closing closing : ℕ) → opening < inner → inner < inner_closing → inner_closing < closing → InOrder (suc opening) inner times → AllInOrder (suc inner) inner_closing items → InOrder opening (suc closing) (expr_step (Expr-F.«Expr::Replication» opening times inner items inner_closing closing))
   pub name : (of : QualifiedName) (selects : List SelectMeaning) (high : ℕ) → qualified_first of ≤ of.name → SelectsInOrder (suc of.name) high selects → InOrder (qualified_first of) high (expr_step (Expr-F.«Expr::Name» of selects None))
+  pub call : (of : QualifiedName) (opening : ℕ) (arguments : List Meaning) (closing : ℕ) → qualified_first of ≤ of.name → of.name < opening → opening < closing → AllInOrder (suc opening) closing arguments → InOrder (qualified_first of) (suc closing) (expr_step (Expr-F.Call of opening arguments closing None))
   pub member : (dot name : ℕ) → dot < name → SelectInOrder dot (suc name) (select_step (Select-F.Member dot name))
   pub index : (opening : ℕ) (index : Meaning) (closing : ℕ) → opening < closing → InOrder (suc opening) closing index → SelectInOrder opening (suc closing) (select_step (Select-F.Index opening index closing))
   pub decimal : (at : ℕ) → InOrder at (suc at) (expr_step (Expr-F.«Expr::Decimal» at))

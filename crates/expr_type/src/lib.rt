@@ -11,7 +11,8 @@ pub fn firsts_are_least()
 {}
 
 /// Expressions whose parts stand in the order of the text stand in it, and so do their breaks: operators, `?:`, parentheses,
-/// concatenations, replications, names with members and indices behind them, and numbers.
+/// concatenations, replications, names with members and indices behind them, calls, and numbers. A function that is first needed
+/// breaks behind its call.
 pub fn forms_keep_order()
     ensures { FormsKeepOrder }
 {}

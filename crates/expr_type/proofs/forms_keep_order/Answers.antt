@@ -1,4 +1,4 @@
-use Rattle.expr_type.proofs.Forms.{keep-order}
+use Rattle.expr_type.proofs.KeepOrder.{keep-order}
 use Rattle.expr_type.proofs.forms_keep_order.Goals as goal
 
 pub returns : goal.returns
