@@ -32,8 +32,9 @@ fn list_one(
     to.push(n)
 }
 
-// The signals among these numbers, each once.
-fn without_repeats(
+/// The signals among these numbers, each once. Each signal has its mark, below `mark`; the listed ones get this one. Or want of
+/// memory.
+pub fn without_repeats(
     alloc: Global,
     numbers: &[u64],
     mark: usize,
