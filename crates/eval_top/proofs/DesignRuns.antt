@@ -15,8 +15,8 @@ use Rattle.stim_rows.specs.declared.shape.Port.{Port}
 use Rattle.text_shape.specs.Shapes as shapes
 use Rattle.cycle_dst.specs.Designs as designs
 use Rattle.cycle_dst.specs.Designs.{widths_of}
-use Rattle.cycle_dst.specs.declared.run.RunFail.{RunFail}
-use Rattle.cycle_dst.specs.declared.run.RunFail.TheVariants.{Memory, Unsettled}
+use Rattle.cycle_dst.specs.declared.fails.RunFail.{RunFail}
+use Rattle.cycle_dst.specs.declared.fails.RunFail.TheVariants.{Memory, Unsettled}
 use Rattle.eval_top.specs.Running.{inputs_of, HasTrace, shown}
 use Rattle.eval_top.specs.Parts.{stop_of, TraceGives}
 use Rattle.eval_top.proofs.Fitting.{items-same}

@@ -12,8 +12,8 @@ use Rattle.v_tree.specs.Rules.{FitsTop}
 use Rattle.stim_rows.specs.declared.shape.Shape.{Shape}
 use Rattle.stim_rows.specs.RowFiles.{RowsText}
 use Rattle.stim_rows.specs.Departures.{RowsBreak, row_limit}
-use Rattle.cycle_dst.specs.declared.run.RunFail.{RunFail}
-use Rattle.cycle_dst.specs.declared.run.RunFail.TheVariants.{Memory, Unsettled}
+use Rattle.cycle_dst.specs.declared.fails.RunFail.{RunFail}
+use Rattle.cycle_dst.specs.declared.fails.RunFail.TheVariants.{Memory, Unsettled}
 use Rattle.eval_top.specs.declared.run.Stop.{Stop}
 use Rattle.eval_top.specs.declared.run.Stop.TheVariants as S
 use Rattle.eval_top.specs.Asking.{refusal_at}
