@@ -1,5 +1,5 @@
 -- The combinational processes and the edge processes, collected one by one.
-use Rattle.std.proofs.Common.{◌≡◌, ℕ, ◌+◌, ◌<◌, ◌≤◌, Bool, true, false, cond, List, [], ◌∷◌, ◌++◌, length, take, map, flat_map, get_or, slice_index, Option, Some, None, slice_get, refl, sym, ap, ◌∙◌, subst, arith}
+use Rattle.std.proofs.Common.{◌≡◌, ℕ, ◌+◌, ◌<◌, ◌≤◌, true, false, cond, List, [], ◌∷◌, ◌++◌, length, take, map, flat_map, slice_index, Some, None, slice_get, refl, sym, ap, ◌∙◌, subst, arith}
 use Rattle.std.proofs.lemmas.List.{append-nil, length-map}
 use Rattle.std.proofs.lemmas.Option.{get_or_from_slice_get}
 use Rattle.b4_core.specs.declared.bit.Bit4.{Bit4}
@@ -7,7 +7,6 @@ use Rattle.row_machine.specs.Machine as M
 use Rattle.row_machine.specs.Settle.{differs}
 use Rattle.round_runner.proofs.Elements.{element}
 use Rattle.round_runner.specs.Stores.{holding, widths}
-use Rattle.v_tree.specs.declared.items.VDesign.{VDesign}
 use Rattle.v_tree.specs.declared.statements.VBranch.{VBranch}
 use Rattle.v_meaning.specs.Scopes.{Scope}
 use Rattle.v_meaning.specs.Statements.{doing_of}
@@ -19,19 +18,18 @@ use Rattle.v_stores.specs.Waits.{is_named, named_places}
 use Rattle.v_processes.specs.declared.process.Does.{Does}
 use Rattle.v_processes.specs.declared.process.Does.TheVariants as D
 use Rattle.v_processes.specs.declared.process.Proc.{Proc}
-use Rattle.v_processes.specs.Processes.{does_in, process_at, processes_at, items_at, edge_of}
+use Rattle.v_processes.specs.Processes.{does_in, process_at, items_at, edge_of}
 use Rattle.v_steps.proofs.Instances.{process-by-table}
-use Rattle.v_zero.specs.Laws.{ListsNames, TriggeredByListed}
+use Rattle.v_zero.specs.Laws.{TriggeredByListed}
 use Rattle.v_zero.specs.Zero.{Listed}
 use Rattle.v_zero.proofs.Listing.{names-listed}
 use Rattle.cycle_dst.specs.declared.combs.Comb.{Comb}
 use Rattle.cycle_dst.specs.declared.ground.Ground.{Ground}
 use Rattle.cycle_dst.specs.Circuits.{CombMade, CombOf, EdgeOf, EdgeIs, comb_at, edge_at, edges_in, waits_for_edges}
-use Rattle.cycle_dst.specs.Designs.{widths_of}
 use Rattle.cycle_dst.specs.Grounds.{Below, CombsOf, EdgesOf, IsGround, Made, NamesListed, StarMade, StarOf, combs_among, edges_among, own_of, widths_in, machine_in}
 use Rattle.cycle_dst.specs.Pairs.{Pairs}
 use Rattle.cycle_dst.proofs.Kept.{always-made, no-comb, star-made, edge-made}
-use Rattle.cycle_dst.proofs.Pairs.{no-pairs, pairs-push, flat-next, flat-all, flat-map}
+use Rattle.cycle_dst.proofs.Pairs.{pairs-push, flat-next, flat-all, flat-map}
 use Rattle.cycle_dst.proofs.Running.{comb-of, edge-of}
 
 pub below-more : (marks : List ℕ) (n m : ℕ) → Below marks n → n ≤ m → Below marks m
@@ -84,7 +82,7 @@ names-of-star g k p t body mark named marks names ground here table star is long
       let doing : does_in p.does (scope_of p.first (items_of t)) ≡ record { starts = on_change; scope = scope_of p.first (items_of t); does = doing_of body } = star.does p here (scope_of p.first (items_of t)) in
       let by_table = process-by-table g.tables.now g.design.now.modules p t ground.tables table in
       let names_are : named ≡ (process_at g.design.now.modules q).does.names (process_at g.design.now.modules q).scope
-          = is ∙ ap (λ (x : Process). x.does.names x.scope) (sym doing ∙ by_table ∙ ap (process_at g.design.now.modules) same) in
+      = is ∙ ap (λ (x : Process). x.does.names x.scope) (sym doing ∙ by_table ∙ ap (process_at g.design.now.modules) same) in
       listed.same m (few-marks m few) ∙ ap (λ ns. is_named ns m) names_are;
 }
   where

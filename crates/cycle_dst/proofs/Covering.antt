@@ -1,5 +1,5 @@
 -- The bits that processes may write, as marks.
-use Rattle.std.proofs.Common.{◌≡◌, ℕ, zero, suc, ◌+◌, ◌<◌, ◌≤◌, Bool, true, false, ◌||◌, List, [], ◌∷◌, ◌++◌, length, map, flat_map, get_or, Option, Some, None, slice_get, refl, sym, ap, ◌∙◌, subst, inl, inr, arith}
+use Rattle.std.proofs.Common.{◌≡◌, ℕ, zero, suc, ◌+◌, ◌<◌, ◌≤◌, Bool, true, false, ◌||◌, List, [], ◌∷◌, ◌++◌, length, flat_map, get_or, refl, sym, ap, ◌∙◌, subst, inl, inr, arith}
 use Rattle.std.specs.List.{list_any}
 use Rattle.std.proofs.lemmas.Bool.{cases_lt}
 use Rattle.std.proofs.lemmas.Option.{get_or_from_slice_get}
@@ -8,22 +8,19 @@ use Rattle.row_machine.specs.Valuation.{Place}
 use Rattle.round_runner.proofs.Elements.{element}
 use Rattle.v_meaning.specs.Scopes.{Use}
 use Rattle.v_meaning.specs.Statements.{covered, covers}
-use Rattle.v_meaning.specs.Machine.{is_written}
-use Rattle.v_meaning.specs.Modules.{Process, parts}
+use Rattle.v_meaning.specs.Modules.{Process}
 use Rattle.v_meaning.specs.Values.{is_empty}
 use Rattle.v_exec.specs.Modules.{callee_in}
 use Rattle.v_constants.specs.Constants.{AreQuiet}
 use Rattle.v_eval.specs.declared.scopes.Scope.{Scope}
 use Rattle.v_modules.specs.declared.table.Table.{Table}
 use Rattle.v_processes.specs.declared.process.Proc.{Proc}
-use Rattle.v_drives.specs.Designs.{AllByTable, ByTable, all_made, process_made}
+use Rattle.v_drives.specs.Designs.{AllByTable, all_made, process_made}
 use Rattle.v_drives.specs.Quiet.{AreQuietIn}
 use Rattle.v_drives.specs.Rows.{AreCovered, AreMarks}
-use Rattle.v_writes.specs.Writes.{made}
-use Rattle.v_zero.specs.Zero.{marked}
 use Rattle.cycle_dst.specs.declared.ground.Ground.{Ground}
 use Rattle.cycle_dst.specs.Circuits.{Runnable}
-use Rattle.cycle_dst.specs.Grounds.{IsGround, own_of, processes_in, widths_in}
+use Rattle.cycle_dst.specs.Grounds.{processes_in, widths_in}
 use Rattle.cycle_dst.specs.Written.{MarksAre, MarksOf}
 
 -- what can be run has a table

@@ -1,5 +1,5 @@
 -- A run of a design has no trace where its machine has none.
-use Rattle.std.proofs.Common.{◌≡◌, ℕ, List, [], Ok, Err, refl, sym, ap, subst, ◌∙◌}
+use Rattle.std.proofs.Common.{◌≡◌, ℕ, List, Err, sym, ap, subst, ◌∙◌}
 use Rattle.b4_core.specs.declared.bit.Bit4.{Bit4}
 use Rattle.round_runner.specs.Rows as rounds
 use Rattle.round_runner.specs.declared.rows.RunFail as R

@@ -3,21 +3,20 @@ use Rattle.std.proofs.Common.{◌≡◌, ℕ, zero, suc, ◌+◌, ◌<◌, ◌�
 use Rattle.std.specs.List.{list_any}
 use Rattle.std.proofs.lemmas.Bool.{false≢true, and_parts, eqb-true, eq-eqb, ltb-true, lt-ltb}
 use Rattle.std.proofs.lemmas.Bool.Decides.{nat_tests}
-use Rattle.std.proofs.lemmas.List.{length-map, append-nil}
+use Rattle.std.proofs.lemmas.List.{length-map}
 use Rattle.std.proofs.lemmas.Option.{slice_get-map, slice_get_within, get_or_from_slice_get}
 use Rattle.row_machine.specs.Valuation.{Place, Member, has}
 use Rattle.row_machine.specs.Places as P
 use Rattle.row_machine.proofs.Basics.{has-member, member-has, member-any, any-member, true_or_false}
 use Rattle.row_machine.proofs.Members.{append-member, member-front, member-back, member-filter, filter-member, member-map, map-member}
-use Rattle.round_runner.specs.Parts.{InputsAre}
 use Rattle.v_tree.specs.Names.{Name}
 use Rattle.v_tree.specs.Rules.{Keeps, module_named, module_names, modules_broken}
 use Rattle.v_tree.specs.Scopes.{repeated}
 use Rattle.v_tree.specs.declared.items.VDesign.{VDesign}
 use Rattle.v_tree.specs.declared.items.VModule.{VModule}
 use Rattle.v_meaning.specs.Scopes.{named}
-use Rattle.v_meaning.specs.Modules.{Signal, Parts, signals, items_of, numbered, kind_of, parts, parts_from, own_parts, joined_parts, signal_count}
-use Rattle.v_meaning.specs.Machine.{machine, size, is_input, of_signal, places_from, is_top_input}
+use Rattle.v_meaning.specs.Modules.{Signal, signals, items_of, numbered, kind_of, parts, parts_from}
+use Rattle.v_meaning.specs.Machine.{machine, size, is_input, places_from, is_top_input}
 use Rattle.v_modules.proofs.Once.{once, right-empty}
 use Rattle.cycle_dst.specs.Designs.{top_ports, top_inputs, widths_of}
 use Rattle.cycle_dst.specs.Inputs.{InputsOfTops}

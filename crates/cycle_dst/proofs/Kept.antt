@@ -1,17 +1,15 @@
 -- What is kept of single processes.
-use Rattle.std.proofs.Common.{◌≡◌, ℕ, Bool, true, false, cond, filter, List, [], ◌∷◌, length, map, Some, None, slice_get, refl, sym, ap, ◌∙◌, subst}
+use Rattle.std.proofs.Common.{◌≡◌, ℕ, Bool, true, false, cond, filter, List, [], ◌∷◌, length, map, Some, None, refl, sym, ap, ◌∙◌}
 use Rattle.std.specs.List.{list_any}
 use Rattle.row_machine.specs.Valuation.{Place}
 use Rattle.row_machine.specs.Machine as M
 use Rattle.v_tree.specs.Names.{Name}
 use Rattle.v_tree.specs.declared.items.VDesign.{VDesign}
-use Rattle.v_meaning.specs.Modules.{EdgeOn, Process, Parts, always_on, on_change, on_edges, signals, items_of, parts}
+use Rattle.v_meaning.specs.Modules.{EdgeOn, always_on, on_change, on_edges, signals, items_of, parts}
 use Rattle.v_meaning.specs.Machine.{comb, comb_of, star, edge, edge_of_process, has_edge, is_triggered, names_of}
 use Rattle.v_stores.specs.Waits.{all_places, is_named, named_places}
-use Rattle.v_processes.specs.declared.process.Does.{Does}
-use Rattle.v_processes.specs.declared.process.Does.TheVariants as D
 use Rattle.v_processes.specs.declared.process.Proc.{Proc}
-use Rattle.v_processes.specs.Processes.{does_in, process_at, edge_of}
+use Rattle.v_processes.specs.Processes.{process_at, edge_of}
 use Rattle.cycle_dst.specs.Designs.{widths_of}
 use Rattle.cycle_dst.specs.declared.combs.Comb.{Comb}
 use Rattle.cycle_dst.specs.Circuits.{CombIs, CombMade, EdgeIs, comb_at, edge_at, edges_in}
@@ -50,12 +48,18 @@ pub star-made : (e : VDesign) (top : Name) (p : Proc) (k : ℕ) (c : Comb) (name
     → CombMade e top p k (Some c) (comb_at e top p)
 star-made e top p k c named starts at zero waits names =
     let own = length (signals (items_of e.modules top)) in
-    let q = process_at e.modules p in
-    (at, (star own (parts e.modules top) q, ap (λ s. comb_of own (parts e.modules top) s q) starts, record {
-      from_zero = zero;
-      waits = by (is_triggered own (parts e.modules top) q) c.waits (names_of own (parts e.modules top) q) (waits ∙ ap (λ b. cond b [] named) zero) names;
-      assigns = λ v. refl;
-    }))
+    let q = process_at e.modules p in (
+      at,
+      (
+        star own (parts e.modules top) q,
+        ap (λ s. comb_of own (parts e.modules top) s q) starts,
+        record {
+          from_zero = zero;
+          waits = by (is_triggered own (parts e.modules top) q) c.waits (names_of own (parts e.modules top) q) (waits ∙ ap (λ b. cond b [] named) zero) names;
+          assigns = λ v. refl;
+        },
+      ),
+    )
   where
     by : (b : Bool) (ns : List ℕ) (qs : List Place) → ns ≡ cond b [] named → qs ≡ named_places named (widths_of e top) → cond b [] qs ≡ named_places ns (widths_of e top)
     by true ns qs e1 f = sym (ap (λ l. named_places l (widths_of e top)) e1 ∙ none-waited (widths_of e top))
@@ -66,8 +70,11 @@ pub edge-made : (e : VDesign) (top : Name) (p : Proc) (es : List EdgeOn) → (pr
     → (m : M.EdgeProcess) × (edge_at e top p ≡ m ∷ []) × EdgeIs e p m
 edge-made e top p es starts is =
     let own = length (signals (items_of e.modules top)) in
-    let q = process_at e.modules p in
-    (edge own (parts e.modules top) es q, ap (λ s. edge_of_process own (parts e.modules top) s q) starts, record {
-      runs = λ v w. ap (λ l. list_any (has_edge v w) l) is;
-      updates = λ v. refl;
-    })
+    let q = process_at e.modules p in (
+      edge own (parts e.modules top) es q,
+      ap (λ s. edge_of_process own (parts e.modules top) s q) starts,
+      record {
+        runs = λ v w. ap (λ l. list_any (has_edge v w) l) is;
+        updates = λ v. refl;
+      },
+    )

@@ -1,5 +1,5 @@
 -- What the rules on declarations and port lists say of inputs (IEEE 1364-2005 clauses 12.3.2 and 12.3.3).
-use Rattle.std.proofs.Common.{◌≡◌, ℕ, zero, suc, ◌+◌, Bool, true, false, not, ◌&&◌, ◌||◌, cond, List, [], ◌∷◌, ◌++◌, Option, None, Some, slice_get, refl, sym, ap, ◌∙◌, subst, inl, inr, arith}
+use Rattle.std.proofs.Common.{◌≡◌, ℕ, zero, suc, ◌+◌, Bool, true, false, not, ◌&&◌, ◌||◌, cond, List, [], ◌∷◌, ◌++◌, None, Some, slice_get, refl, sym, ap, ◌∙◌, subst, inl, inr, arith}
 use Rattle.std.proofs.lemmas.Bool.{false≢true, or_cases}
 use Rattle.std.proofs.lemmas.Slice.Eq.{bytes_eq-Decides}
 use Rattle.std.specs.Str.{bytes_eq}
@@ -16,7 +16,7 @@ use Rattle.v_tree.specs.declared.items.VRegRest.TheVariants as R
 use Rattle.v_tree.specs.declared.items.VSignal.{VSignal}
 use Rattle.v_tree.specs.declared.items.VSignal.TheVariants.{Input, Output, OutputReg, Wire, Reg}
 use Rattle.v_meaning.specs.Scopes.{Named, named}
-use Rattle.v_meaning.specs.Modules.{Signal, Kind, signal, signals, items_of, numbered, kind_of}
+use Rattle.v_meaning.specs.Modules.{Signal, signal, signals, items_of, numbered, kind_of}
 use Rattle.v_meaning.specs.Machine.{is_input}
 use Rattle.v_modules.specs.Named.{names_of_signals}
 use Rattle.v_modules.specs.Tables.{NamesStandOnce}

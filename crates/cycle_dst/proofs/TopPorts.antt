@@ -1,12 +1,11 @@
 -- The inputs of the top, by the number of its module.
-use Rattle.std.proofs.Common.{◌≡◌, ℕ, zero, suc, ◌+◌, Bool, true, false, cond, List, [], ◌∷◌, ◌++◌, map, filter, flat_map, Option, Some, None, slice_get, refl, sym, ap, ◌∙◌, arith}
+use Rattle.std.proofs.Common.{◌≡◌, ℕ, suc, ◌+◌, Bool, true, false, cond, List, [], ◌∷◌, ◌++◌, map, filter, flat_map, Option, Some, None, slice_get, refl, sym, ap, ◌∙◌, arith}
 use Rattle.std.specs.Str.{bytes_eq}
 use Rattle.v_tree.specs.Names.{Name}
 use Rattle.v_tree.specs.Rules.{module_named}
-use Rattle.v_tree.specs.declared.items.VItem.{VItem}
 use Rattle.v_tree.specs.declared.items.VModule.{VModule}
 use Rattle.v_meaning.specs.Scopes.{named}
-use Rattle.v_meaning.specs.Modules.{Signal, signals, numbered, kind_of, items_of}
+use Rattle.v_meaning.specs.Modules.{signals, kind_of, items_of}
 use Rattle.v_meaning.specs.Machine.{is_input}
 use Rattle.v_rules.specs.Tables.{numbers_from, no_numbers}
 use Rattle.v_modules.specs.Tables as T

@@ -1,11 +1,9 @@
 -- A design that can be run has what is asked of its ground.
-use Rattle.std.proofs.Common.{◌≡◌, ◌≤◌, ◌^◌, ℕ, zero, suc, Bool, Bor, List, [], ◌∷◌, ◌++◌, take, map, length, Some, slice_get, refl, sym, ap, ◌∙◌, subst, arith}
+use Rattle.std.proofs.Common.{◌≡◌, ℕ, zero, suc, Bool, Bor, List, [], ◌∷◌, ◌++◌, take, map, length, refl, sym, ap, ◌∙◌, subst, arith}
 use Rattle.std.proofs.lemmas.List.{length-map}
 use Rattle.std.proofs.lemmas.Option.{slice_get_within}
 use Rattle.b4_core.specs.declared.bit.Bit4.{Bit4}
-use Rattle.row_machine.specs.Valuation.{Place}
 use Rattle.round_runner.specs.Stores.{Holds, holding, widths}
-use Rattle.v_tree.specs.Names.{Name}
 use Rattle.v_tree.specs.declared.items.VModule.{VModule}
 use Rattle.v_rules.specs.Tables.{Tables}
 use Rattle.v_meaning.specs.Machine as V

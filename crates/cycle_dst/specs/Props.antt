@@ -1,8 +1,8 @@
 -- What is kept of a circuit is known in one way.
-use Rattle.std.proofs.Common.{◌≡◌, ◌≤◌, ℕ, List, [], ◌∷◌}
+use Rattle.std.proofs.Common.{ℕ, List, [], ◌∷◌}
 use mathlib.Core.HLevel.{×_prop, Unit-prop}
 use denote.Struct.Props as logic
-use Rattle.v_meaning.specs.Scopes.{Named, Scope, all_bits, is_signal}
+use Rattle.v_meaning.specs.Scopes.{Named, Scope}
 use Rattle.v_exec.specs.Inside.{NamesFit}
 use Rattle.v_processes.specs.declared.process.Does.{Does}
 use Rattle.v_processes.specs.declared.process.Does.TheVariants as D

@@ -58,7 +58,9 @@ pub struct Circuit<'a, 't> {
 
 impl Processes for Circuit<'_, '_> {
     ghost machine = { λ c. machine_of c.design.now c.top.now };
+
     ghost shape = { λ c. widths_of c.design.now c.top.now };
+
     ghost inputs = { λ c. top_inputs c.design.now c.top.now };
 
     fn combs(&self) -> usize {

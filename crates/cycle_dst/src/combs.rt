@@ -11,8 +11,4 @@ pub struct Comb {
     pub from_zero: bool,
     /// The signals that it waits for.
     pub waits: Items<usize>,
-    /// The signals that it reads, where this is known.
-    pub reads: Option<Items<usize>>,
-    /// The signals that it may write, where this is known.
-    pub writes: Option<Items<usize>>,
 }

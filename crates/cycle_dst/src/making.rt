@@ -24,8 +24,6 @@ fn always(alloc: Global, k: usize) -> Comb
         process: k,
         from_zero: true,
         waits: Items::new(alloc),
-        reads: None,
-        writes: None,
     }
 }
 
@@ -48,8 +46,6 @@ fn on_change(alloc: Global, ground: Ground<'_, '_>, k: usize, names: Signals) ->
         process: k,
         from_zero,
         waits: waits_of(alloc, from_zero, names),
-        reads: None,
-        writes: None,
     }
 }
 
@@ -171,11 +167,7 @@ fn at_edges(does: &Does<'_>) -> bool
 }
 
 // Adds the number of a process, if it runs at edges.
-fn add_edge(
-    ground: Ground<'_, '_>,
-    k: usize,
-    edges: &mut Items<usize>,
-) -> Result<(), AllocError>
+fn add_edge(ground: Ground<'_, '_>, k: usize, edges: &mut Items<usize>) -> Result<(), AllocError>
     requires ground { IsGround ground }
     requires there { k < length ground.procs.now }
     ensures { OnOk result (EdgeAdded ground.entry k edges.old edges.new) }

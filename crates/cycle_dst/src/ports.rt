@@ -24,11 +24,7 @@ fn signal_named(table: &Table<'_>, name: &Text) -> usize
 }
 
 // Adds the signal that a name stands for, if it is an input.
-fn add_input(
-    table: &Table<'_>,
-    name: &Text,
-    to: &mut Items<usize>,
-) -> Result<(), AllocError>
+fn add_input(table: &Table<'_>, name: &Text, to: &mut Items<usize>) -> Result<(), AllocError>
     ensures { OnOk result (to.new ≡ to.old ++ input_named (signals (items_of table.now)) name.now) }
 {
     if names_input(table, name) {

@@ -54,11 +54,7 @@ fn run_circuit(
 
 // What the signals hold by themselves when the first row is settled, by the bits that processes may write.
 #[tactic(auto, using(crate::proofs::Wholly::starting))]
-fn start_by(
-    alloc: Global,
-    ground: Ground<'_, '_>,
-    marks: &[Marks],
-) -> Result<Vec<Vec4>, AllocError>
+fn start_by(alloc: Global, ground: Ground<'_, '_>, marks: &[Marks]) -> Result<Vec<Vec4>, AllocError>
     requires ground { IsGround ground }
     requires marks { MarksOf ground marks.now }
     ensures { IfOk result (λ v. Holds (widths_in ground.entry) (machine_in ground.entry).start v.items) }
@@ -69,11 +65,7 @@ fn start_by(
 }
 
 // What the signals hold by themselves when the first row is settled.
-fn start_of(
-    alloc: Global,
-    ground: Ground<'_, '_>,
-    row: &BitRow,
-) -> Result<Vec<Vec4>, AllocError>
+fn start_of(alloc: Global, ground: Ground<'_, '_>, row: &BitRow) -> Result<Vec<Vec4>, AllocError>
     requires ground { IsGround ground }
     requires row { row.now.widths ≡ widths_in ground }
     ensures { IfOk result (λ v. Holds (widths_in ground.entry) (machine_in ground.entry).start v.items) }
@@ -130,11 +122,7 @@ fn run_processes(
 }
 
 // Runs a design, by what its signals hold at first.
-fn run_ground(
-    alloc: Global,
-    ground: Ground<'_, '_>,
-    rows: &Rows,
-) -> Result<Trace, RunFail>
+fn run_ground(alloc: Global, ground: Ground<'_, '_>, rows: &Rows) -> Result<Trace, RunFail>
     requires ground { IsGround ground }
     requires rows { RowsFit ground.design.now ground.top.now rows.now }
     ensures { RunGives ground.entry.design.now ground.entry.top.now rows.now result }
@@ -254,12 +242,7 @@ fn run_numbered(
 
 /// The trace of the rows by rounds of the design, with the module `top` as its top (IEEE 1364-2005 clause 11): what each signal
 /// holds after each row. Answers `RunFail::Unsettled` where there is none, and `RunFail::Memory` for want of memory alone.
-pub fn run(
-    alloc: Global,
-    design: &VDesign,
-    top: &Text,
-    rows: &Rows,
-) -> Result<Trace, RunFail>
+pub fn run(alloc: Global, design: &VDesign, top: &Text, rows: &Rows) -> Result<Trace, RunFail>
     requires keeps { Keeps design.now }
     requires fits { FitsTop design.now top.now }
     requires few { few_of_design design.now ≡ true }

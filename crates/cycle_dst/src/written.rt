@@ -67,11 +67,7 @@ pub fn row_in(alloc: Global, store: &[Vec4]) -> Result<BitRow, AllocError>
 
 /// How many bits the combinational processes may write, each counted by itself. Or want of memory.
 #[tactic(auto, using(crate::proofs::Covering::counting))]
-pub fn written_in(
-    alloc: Global,
-    ground: Ground<'_, '_>,
-    row: &BitRow,
-) -> Result<u64, AllocError>
+pub fn written_in(alloc: Global, ground: Ground<'_, '_>, row: &BitRow) -> Result<u64, AllocError>
     requires ground { IsGround ground }
     requires row { row.now.widths ≡ widths_in ground }
     ensures { IfOk result (λ n. n ≡ written_bits (machine_in ground.entry).combs) }
@@ -104,11 +100,7 @@ fn writes_in(alloc: Global, ground: Ground<'_, '_>) -> Result<Writes, AllocError
 }
 
 // Of each bit of each signal whether a set of bits has it.
-fn all_marks(
-    alloc: Global,
-    row: &BitRow,
-    set: &[Span],
-) -> Result<Items<Marks>, AllocError>
+fn all_marks(alloc: Global, row: &BitRow, set: &[Span]) -> Result<Items<Marks>, AllocError>
     requires { IsSet set.now }
     ensures { IfOk result (λ ms. (us : List Use) → AreCovered row.now.widths us set.now → MarksAre row.now.widths us ms) }
 {
@@ -120,11 +112,7 @@ fn all_marks(
 }
 
 // Of each bit of each signal whether writes name it.
-fn marks_by(
-    alloc: Global,
-    row: &BitRow,
-    writes: &Writes,
-) -> Result<Items<Marks>, AllocError>
+fn marks_by(alloc: Global, row: &BitRow, writes: &Writes) -> Result<Items<Marks>, AllocError>
     ensures { IfOk result (MarksAre row.now.widths (map use_in writes.now)) }
 {
     let set = written_set(alloc, row, writes.as_slice())?;

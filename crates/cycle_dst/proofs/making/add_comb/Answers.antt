@@ -1,5 +1,5 @@
-use Rattle.std.proofs.Common.{◌+◌, take, None, Some, ◌∙◌, ap, sym, subst, IfOk}
-use Rattle.cycle_dst.specs.Grounds.{Made, CombAdded, CombsOf, combs_among}
+use Rattle.std.proofs.Common.{◌+◌, take, sym, subst}
+use Rattle.cycle_dst.specs.Grounds.{Made, CombsOf, combs_among}
 use Rattle.cycle_dst.proofs.Collected.{comb-more, comb-none}
 use Rattle.cycle_dst.proofs.Running.{where-ok}
 use Rattle.cycle_dst.proofs.making.add_comb.Goals as goal
@@ -14,8 +14,8 @@ returns-in-Some-clause-added c =
     let g = c.args.ground in
     where-ok c.push.result
     (λ is. record {
-    added = λ before.
-        subst (λ cs. CombsOf g cs (combs_among g (take (c.args.k + 1) g.procs.now))) (sym is)
-        (comb-more g c.requires.ground c.args.k c.args.combs.now c.in-Some.comb c.requires.there (subst (Made g c.args.k) c.in-Some.is c.in_ok-comb_of.ensures.made) before);
+      added = λ before.
+          subst (λ cs. CombsOf g cs (combs_among g (take (c.args.k + 1) g.procs.now))) (sym is)
+          (comb-more g c.requires.ground c.args.k c.args.combs.now c.in-Some.comb c.requires.there (subst (Made g c.args.k) c.in-Some.is c.in_ok-comb_of.ensures.made) before);
     })
     c.push.ensures.ok

@@ -1,4 +1,4 @@
-use Rattle.std.proofs.Common.{get_or, ◌∙◌, ap, sym, subst, refl, arith}
+use Rattle.std.proofs.Common.{get_or, ◌∙◌, ap}
 use Rattle.std.proofs.lemmas.Option.{slice_get-get_or}
 use Rattle.v_eval.specs.Scopes.{scope_of}
 use Rattle.v_meaning.specs.Statements.{doing_of}

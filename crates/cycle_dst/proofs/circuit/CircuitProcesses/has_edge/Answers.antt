@@ -1,8 +1,7 @@
-use Rattle.std.proofs.Common.{◌≡◌, ◌<◌, length, get_or, Some, slice_get}
+use Rattle.std.proofs.Common.{get_or}
 use Rattle.std.proofs.lemmas.Option.{slice_get-get_or}
 use Rattle.v_meaning.specs.Machine.{machine}
-use Rattle.cycle_dst.specs.Circuits.{CombOf, EdgeOf}
-use Rattle.cycle_dst.specs.Designs.{widths_of}
+use Rattle.cycle_dst.specs.Circuits.{EdgeOf}
 use Rattle.cycle_dst.proofs.Running.{pair-below, edge-there, edge-told}
 use Rattle.cycle_dst.proofs.circuit.CircuitProcesses.has_edge.Goals as goal
 

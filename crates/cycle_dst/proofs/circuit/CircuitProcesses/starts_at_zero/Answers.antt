@@ -1,7 +1,7 @@
-use Rattle.std.proofs.Common.{◌≡◌, ◌<◌, length, get_or, Some, slice_get}
+use Rattle.std.proofs.Common.{get_or}
 use Rattle.std.proofs.lemmas.Option.{slice_get-get_or}
 use Rattle.v_meaning.specs.Machine.{machine}
-use Rattle.cycle_dst.specs.Circuits.{CombOf, EdgeOf}
+use Rattle.cycle_dst.specs.Circuits.{CombOf}
 use Rattle.cycle_dst.specs.Designs.{widths_of}
 use Rattle.cycle_dst.proofs.Running.{pair-below, comb-zero}
 use Rattle.cycle_dst.proofs.circuit.CircuitProcesses.starts_at_zero.Goals as goal
