@@ -1,5 +1,5 @@
 use Rattle.eval_top.proofs.Promises.{of-run, on-done, on-refused, on-usage, on-memory, on-file-fault, on-sink-fault, on-unsettled, usage-comes, stage-comes, refusal-comes, run-comes, lines-come, unsettled-comes}
-use Rattle.eval_top.proofs.main_call.run_main.Goals as goal
+use Rattle.eval_top.proofs.main_call.eval_main.Goals as goal
 
 pub returns-clause-done : goal.returns-clause-done
 returns-clause-done g c = on-done _ _ (of-run c.answer.ensures.runs)
