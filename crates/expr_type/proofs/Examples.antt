@@ -59,6 +59,7 @@ text ws ds = record {
   finds = λ q. number_from 0 ds (word_in (slice_get (tokens ws) q.name));
   declared = λ at. 100 + at;
   is_interface = λ n. false;
+  stands = λ n. true;
   is_net = λ n. false;
   is_net_member = λ n m. false;
   result = None;

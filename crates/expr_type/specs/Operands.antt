@@ -88,6 +88,15 @@ passed k t (Plain v) = is_given k t v
 passed k t (Pattern tick of) = of tick t
 passed k t (Stream v) = Err (At (position k v.first) 512)
 
+-- an operand where no stream can stand
+abbrev pub no_stream : Context → Operand → Checked Operand
+no_stream k (Plain v) = Ok (Plain v)
+no_stream k (Pattern tick of) = Ok (Pattern tick of)
+no_stream k (Stream v) = Err (At (position k v.first) 512)
+
+abbrev pub unstreamed : Context → Typing Operand → Typing Operand
+unstreamed k x = checked x (λ o. rule (no_stream k o))
+
 -- Constants. They name no signal and no local (E406), call no function that holds a stream (E512), and are valued within
 -- 65,536 turns of each loop and 2^20 statements (E608). Other rules on them stand between these.
 abbrev pub nothing_held : List Function → Around
