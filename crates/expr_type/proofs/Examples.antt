@@ -226,3 +226,25 @@ called = record {
 too-many : (k : Context) (o : Operand) → call_of k 3 3 called (o ∷ []) ≡ Err (At (position k 3) 405)
 unfolding called
 too-many k o = refl
+
+-- `(a) + b` begins with its parenthesis: for an enum it is broken there, and `(a)` at the `a`.
+abbrev parentheses : Context
+parentheses =
+    text (codes "e" ∷ codes "=" ∷ codes "(" ∷ codes "a" ∷ codes ")" ∷ codes "+" ∷ codes "a" ∷ [])
+    (declares (codes "a") (vector 2 false) ∷ declares (codes "e") colour ∷ [])
+
+abbrev enclosed : Meaning
+enclosed = expr_step (Expr-F.«Expr::Parenthesized» 2 (name 3) 4 None)
+
+in-parentheses : given_to parentheses 0 1 enclosed ≡ at 3 503
+unfolding X.out-SvType denote.Hole.Carrier.out
+in-parentheses = refl
+
+abbrev begins_in : Checked Valued → Option ℕ
+begins_in (Ok v) = Some v.first
+begins_in (Err b) = None
+
+behind-parentheses : begins_in (value parentheses ((expr_step (Expr-F.Binary enclosed N.LogicalAnd 5 (name 6))).typed parentheses) []).result ≡ Some 2
+unfolding X.out-SvType denote.Hole.Carrier.out
+behind-parentheses = refl
+

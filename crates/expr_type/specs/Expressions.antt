@@ -20,7 +20,7 @@ use Rattle.sv_types.specs.Layouts.{width_of}
 use Rattle.expr_type.specs.Breaks.{Quiet}
 use Rattle.expr_type.specs.Typings.{Checked, Typing, whole, broken, rule, by_functions, checked, both, all, where_whole, refused}
 use Rattle.expr_type.specs.Names.{Context, position, thing, word}
-use Rattle.expr_type.specs.Operands.{Operand, Plain, Stream, Number, Valued, given, has_bits, is_constant, is_value, number_of, number_within, unstreamed, value}
+use Rattle.expr_type.specs.Operands.{Operand, Plain, Stream, Number, Valued, given, has_bits, is_constant, is_value, number_of, number_within, parenthesized, unstreamed, value}
 use Rattle.expr_type.specs.Operands as V
 use Rattle.expr_type.specs.Operators.{Alternative, Only, From, binary_of, unary_of, choice_of, inside_of, concat_of, repeat_of, is_part}
 use Rattle.expr_type.specs.Selects.{Step, bound_in, width_in, index_in, is_index}
@@ -172,7 +172,8 @@ expr_step (Expr-F.Sized size digits) = of_value (λ k. rule (F.sized_number k si
 expr_step (Expr-F.SizeCast size cast) = of_value (λ k. F.by_written_size k size (cast k))
 expr_step (Expr-F.Based digits) = of_value (λ k. rule (F.based k digits))
 expr_step (Expr-F.Fill digit) = of_value (λ k. rule (F.fill k digit))
-expr_step (Expr-F.«Expr::Parenthesized» opening inner closing None) = of_operand inner.typed
+expr_step (Expr-F.«Expr::Parenthesized» opening inner closing None) =
+    of_operand (λ k. checked (inner.typed k) (λ o. whole (parenthesized opening o)))
 expr_step (Expr-F.«Expr::Parenthesized» opening inner closing (Some cast)) = of_value (λ k. F.by_size k opening (inner.typed k) (cast k))
 expr_step (Expr-F.«Expr::Replication» opening times inner_opening items inner_closing closing) =
     of_value (λ k. both (count k times) (parts k items) (λ n vs. rule (repeat_of k opening n vs)))

@@ -19,10 +19,11 @@ use Rattle.expr_type.specs.Shapes.{most_bits, is_unpacked, is_assignable, is_pla
 use Rattle.expr_type.specs.Streams.{holds_stream}
 use Rattle.expr_type.specs.Names.{Context, position}
 
--- A typed expression; its first token, parentheses round the whole left out; whether it is a number without a size; and the
--- operators in it that do arithmetic on more than 128 bits in a context of some width. In one of its own width none does.
+-- A typed expression; its first token, parentheses round the whole left out, and with them; whether it is a number without a size;
+-- and the operators in it that do arithmetic on more than 128 bits in a context of some width. In one of its own width none does.
 pub record Valued : Type 0 where
   pub first : ℕ
+  pub begins : ℕ
   pub unsized : Bool
   pub expr : Expr
   pub too_wide : ℕ → List ℕ
@@ -41,6 +42,12 @@ abbrev pub is_value : Context → Operand → Checked Valued
 is_value k (Plain v) = Ok v
 is_value k (Pattern tick of) = Err (At (position k tick) 505)
 is_value k (Stream v) = Err (At (position k v.first) 512)
+
+-- in parentheses
+abbrev pub parenthesized : ℕ → Operand → Operand
+parenthesized opening (Plain v) = Plain (record v { begins = opening })
+parenthesized opening (Pattern tick of) = Pattern tick of
+parenthesized opening (Stream v) = Stream v
 
 abbrev pub first_of : Operand → ℕ
 first_of (Plain v) = v.first
