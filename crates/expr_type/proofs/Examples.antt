@@ -19,17 +19,20 @@ use Rattle.expr_type.specs.Selects.{is_index}
 use Rattle.sv_types.specs.declared.expression.Expr.{Expr}
 use Rattle.sv_types.specs.declared.statement.FunctionKind.TheVariants.{Plain}
 use Rattle.sv_types.specs.declared.statement.Stmt.TheVariants as S
-use Rattle.expr_type.specs.Names.{Called, Context, word_in, position}
+use Rattle.expr_type.specs.Names.{Called, Context, Other, word_in, position}
 use Rattle.expr_type.specs.Operands.{Operand, Pattern, Stream, is_value, is_streamed, Valued, value, width}
-use Rattle.expr_type.specs.Operators.{by_itself, valued, in_context, over, binary_of}
-use Rattle.expr_type.proofs.Widths.{sign-vector, width-4, width-129}
+use Rattle.expr_type.specs.Operators.{by_itself, expr_at, valued, in_context, over, binary_of}
+use Rattle.expr_type.proofs.Widths.{sign-vector, width-4, width-8, width-129}
 use Rattle.b4_core.specs.declared.operators.BinOp.TheVariants as B
 use Rattle.sv_types.specs.declared.expression.Form.{Form}
 use Rattle.sv_types.specs.declared.expression.Form.TheVariants as F
 use Rattle.sv_types.specs.Layouts.{width_of}
 use Rattle.expr_type.specs.Expressions.{Meaning, is_count, expr_step}
 use Rattle.expr_type.specs.Targets.{ToPath}
-use Rattle.expr_type.specs.Statements.{assignment}
+use Rattle.expr_type.specs.Patterns.{named_key}
+use Rattle.expr_type.specs.Statements.{CaseFound, always, assignment, case_stmt, widened}
+use Rattle.sv_types.specs.declared.statement.CaseKind.TheVariants as C
+use Rattle.b4_core.specs.Vectors.{vec}
 use Rattle.expr_type.specs.TargetNames.{named_target}
 
 -- words as the tokens of a text, and signals by name
@@ -248,3 +251,29 @@ behind-parentheses : begins_in (value parentheses ((expr_step (Expr-F.Binary enc
 unfolding X.out-SvType denote.Hole.Carrier.out
 behind-parentheses = refl
 
+-- The first value of a loop has the width of its variable: eight bits stand as an arm of a `?:` of 32 bits.
+abbrev eight : Context → Expr
+eight k = (by_itself k 5 (vector 8 false) (F.Signal 0)).expr
+
+abbrev wide_arm : Context → Expr
+wide_arm k =
+    expr_at k 5 (vector 32 (sign_of (vector 8 false)))
+    (F.Choose (always k 5) (eight k) (expr_at k 5 (vector 32 (sign_of (vector 8 false))) (F.Literal (vec 32 (pos 0)) false)))
+
+first-widened : (k : Context) → widened k 5 32 (eight k) ≡ wide_arm k
+first-widened k = ap (λ n. cond (nat_lt n 32) (wide_arm k) (eight k)) (width-8 false)
+
+-- An operator in the selector of a `case` that a value makes too wide is broken also where a statement behind it is.
+abbrev selector : Valued
+selector = valued braces 1 one_bit (F.Signal 0) (λ w. 2 ∷ [])
+
+abbrev broken_item : CaseFound
+broken_item = record { is_default = false; values = Ok (selector ∷ []); body = Err (At (position braces 4) 501) }
+
+case-by-values : first_break (rule (case_stmt braces C.Plain (Ok selector) (broken_item ∷ []))) ≡ at 2 502
+unfolding X.out-SvType denote.Hole.Carrier.out
+case-by-values = refl
+
+-- a key that is the name of a function, in a pattern of an array
+key-of-function : named_key (record braces { stands = λ n. false }) 3 (Other 0) ≡ Err (At (position braces 3) 404)
+key-of-function = refl
