@@ -20,7 +20,7 @@ use Rattle.sv_types.specs.declared.expression.Expr.{Expr}
 use Rattle.sv_types.specs.declared.statement.FunctionKind.TheVariants.{Plain}
 use Rattle.sv_types.specs.declared.statement.Stmt.TheVariants as S
 use Rattle.expr_type.specs.Names.{Called, Context, Other, word_in, position}
-use Rattle.expr_type.specs.Operands.{Operand, Pattern, Stream, is_value, is_streamed, Valued, value, width}
+use Rattle.expr_type.specs.Operands.{Operand, Pattern, Stream, is_constant_value, is_value, names_any, is_streamed, Valued, value, width}
 use Rattle.expr_type.specs.Operators.{by_itself, expr_at, valued, in_context, over, binary_of}
 use Rattle.expr_type.proofs.Widths.{sign-vector, width-4, width-8, width-129}
 use Rattle.b4_core.specs.declared.operators.BinOp.TheVariants as B
@@ -277,3 +277,7 @@ case-by-values = refl
 -- a key that is the name of a function, in a pattern of an array
 key-of-function : named_key (record braces { stands = λ n. false }) 3 (Other 0) ≡ Err (At (position braces 3) 404)
 key-of-function = refl
+
+-- a stream of a signal as a constant
+constant-streamed : (k : Context) (v : Valued) → names_any v.expr ≡ true → is_constant_value k (Stream v) ≡ Err (At (position k v.first) 406)
+constant-streamed k v h = ap (λ b. refused b (position k v.first) 406 (Err (At (position k v.first) 512))) h

@@ -20,7 +20,7 @@ use Rattle.sv_tree.specs.declared.expressions.Select.{Select-F}
 use Rattle.sv_tree.specs.declared.names.QualifiedName.{QualifiedName}
 use Rattle.sv_types.specs.declared.frame.SignalId.{SignalId}
 use Rattle.sv_types.specs.Layouts.{width_of}
-use Rattle.expr_type.specs.Operands.{Operand, Plain, Pattern, Stream, Number, Valued, bits_in, has_bits, width, in_range, is_number_in, is_value, names_any, number_of, number_or, number_within, stops, value}
+use Rattle.expr_type.specs.Operands.{Operand, Plain, Pattern, Stream, Number, Valued, bits_in, constant_in, has_bits, is_constant_value, width, in_range, is_number_in, is_value, names_any, number_of, number_or, number_within, stops, value}
 use Rattle.expr_type.specs.Operands as V
 use Rattle.sv_types.specs.declared.expression.Form.{Form}
 use Rattle.expr_type.specs.Operators.{binary_of, unary_of, by_itself, is_part, concat_of, repeat_of, all_bits, choice_of, chosen_type}
@@ -295,10 +295,23 @@ number-if : (k : Context) (from to : ℤ) (x : Checked Valued) (gs : List Functi
 number-if k from to (Ok v) gs low high s = is-number k from to v gs low high s
 number-if k from to (Err b) gs low high w = w
 
+-- a constant by its first token, whatever it is
+constant-stream : (k : Context) (v : Valued) (b : Bool) (low high : ℕ) → Stands low high v
+    → StandsIf k.instance low high (refused b (position k v.first) 406 (Err (At (position k v.first) 512)))
+constant-stream k v true low high s = place k v.first low high s.from s.before
+constant-stream k v false low high s = place k v.first low high s.from s.before
+
+constant-if : (k : Context) (x : Checked Operand) (gs : List Function) (low high : ℕ) → OperandIf k.instance low high x
+    → StandsIf k.instance low high (applied x (λ o. rule (is_constant_value k o)) gs).result
+constant-if k (Ok (Plain v)) gs low high s = s
+constant-if k (Ok (Pattern tick of)) gs low high s = place k tick low high s.0 s.1
+constant-if k (Ok (Stream v)) gs low high s = constant-stream k v (names_any v.expr) low high s
+constant-if k (Err b) gs low high w = w
+
 pub number-stands-in : (k : Context) (from to : ℤ) (x : Typing Operand) (low high : ℕ) → OperandTyping k.instance low high x
     → (fs : List Function) → NumberIf k.instance low high (number_within k from to x fs).result
 number-stands-in k from to x low high p fs =
-    number-if k from to (value k x fs).result (value k x fs).functions low high (value-stands k x low high p fs)
+    number-if k from to (constant_in k x fs).result (constant_in k x fs).functions low high (constant-if k (x fs).result (x fs).functions low high (p fs))
 
 -- replications
 count-if : (k : Context) (x : Checked Number) (gs : List Function) (low high : ℕ) → NumberIf k.instance low high x

@@ -20,7 +20,7 @@ use Rattle.sv_types.specs.Layouts.{width_of}
 use Rattle.expr_type.specs.Breaks.{Quiet}
 use Rattle.expr_type.specs.Typings.{Checked, Typing, whole, broken, rule, by_functions, checked, both, all, where_whole, refused}
 use Rattle.expr_type.specs.Names.{Context, position, thing, word}
-use Rattle.expr_type.specs.Operands.{Operand, Plain, Stream, Number, Valued, given, has_bits, is_constant, is_value, number_of, number_within, parenthesized, unstreamed, value}
+use Rattle.expr_type.specs.Operands.{Operand, Plain, Stream, Number, Valued, constant_in, given, has_bits, is_constant, is_value, number_of, number_within, parenthesized, unstreamed, value}
 use Rattle.expr_type.specs.Operands as V
 use Rattle.expr_type.specs.Operators.{Alternative, Only, From, binary_of, unary_of, choice_of, inside_of, concat_of, repeat_of, is_part}
 use Rattle.expr_type.specs.Selects.{Step, bound_in, width_in, index_in, is_index}
@@ -217,7 +217,7 @@ is_key k v fs =
     where_whole (is_constant k v.first fs v.expr (where_whole (has_bits k v) (is_index k))) (λ u. Ok (number_of fs u.expr))
 
 abbrev pub key_number : Context → Meaning → Typing (Option ℤ)
-key_number k e = checked (value k (e.typed k)) (λ v. by_functions (is_key k v))
+key_number k e = checked (constant_in k (e.typed k)) (λ v. by_functions (is_key k v))
 
 abbrev pub keyed_item : ItemKey → Operand → Item
 keyed_item key o = record { key = key; value = o }

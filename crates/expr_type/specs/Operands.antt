@@ -112,6 +112,18 @@ nothing_held fs = record { now = λ q. X; holds = λ n. false; callee = callees 
 abbrev pub names_any : Expr → Bool
 names_any e = not (length (meaning e).names == 0)
 
+-- a stream as a constant
+abbrev pub constant_stream : {A : Type 0} → Context → Valued → Checked A
+constant_stream k v = refused (names_any v.expr) (position k v.first) 406 (Err (At (position k v.first) 512))
+
+abbrev pub is_constant_value : Context → Operand → Checked Valued
+is_constant_value k (Plain v) = Ok v
+is_constant_value k (Pattern tick of) = Err (At (position k tick) 505)
+is_constant_value k (Stream v) = constant_stream k v
+
+abbrev pub constant_in : Context → Typing Operand → Typing Valued
+constant_in k x = checked x (λ o. rule (is_constant_value k o))
+
 abbrev pub stops : List Function → Expr → Bool
 stops fs e = elim ((meaning e).values (nothing_held fs) (record { left = Some (2 ^ 20); stop = None })).stop [ None ↦ false | Some s ↦ true ]
 
@@ -148,7 +160,7 @@ is_number_in k low high v fs =
     where_whole (is_constant k v.first fs v.expr (has_bits k v)) (λ u. number_or k u.first (in_range low high (number_of fs u.expr)))
 
 abbrev pub number_within : Context → ℤ → ℤ → Typing Operand → Typing Number
-number_within k low high x = checked (value k x) (λ v. by_functions (is_number_in k low high v))
+number_within k low high x = checked (constant_in k x) (λ v. by_functions (is_number_in k low high v))
 
 -- a constant that is given to a type, and one that is a value of its own
 abbrev pub constant_given : Context → SvType → Valued → List Function → Checked Expr
@@ -160,7 +172,7 @@ constant_pattern k tick x fs = where_whole x (λ e. is_constant k tick fs e (Ok 
 abbrev pub constant_of : Context → SvType → Operand → List Function → Checked Expr
 constant_of k t (Plain v) fs = constant_given k t v fs
 constant_of k t (Pattern tick of) fs = constant_pattern k tick (of tick t) fs
-constant_of k t (Stream v) fs = Err (At (position k v.first) 512)
+constant_of k t (Stream v) fs = constant_stream k v
 
 abbrev pub constant_alone : Context → Valued → List Function → Checked Expr
 constant_alone k v fs = is_constant k v.first fs v.expr (Ok v.expr)

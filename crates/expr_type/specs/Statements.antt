@@ -50,7 +50,7 @@ use Rattle.expr_type.specs.Breaks.{At, Quiet}
 use Rattle.expr_type.specs.Typings.{Checked, Typing, whole, broken, rule, by_functions, checked, both, both_by, all, all_of, joined, lesser, looked_at, where_whole, refused, unless, at_all}
 use Rattle.expr_type.specs.Shapes.{one_bit, vector, sign_of, is_assignable, is_plain_to_enum}
 use Rattle.expr_type.specs.Names.{Called, Context, LocalId, position, spot, with_values, with_types, with_locals, local_id}
-use Rattle.expr_type.specs.Operands.{constant_alone, constant_of, first_of, Operand, Plain, Pattern, Stream, Valued, given, no_stream, passed, unstreamed, is_value, bits_in, width, value_by}
+use Rattle.expr_type.specs.Operands.{is_constant_value, constant_alone, constant_of, first_of, Operand, Plain, Pattern, Stream, Valued, given, no_stream, passed, unstreamed, is_value, bits_in, width, value_by}
 use Rattle.expr_type.specs.Operators.{by_itself, expr_at, exprs, binary_of, not_too_long}
 use Rattle.expr_type.specs.Forms.{cast_expr, needed}
 use Rattle.expr_type.specs.Expressions as E
@@ -183,7 +183,7 @@ abbrev pub param_value : Context → ℕ → SvType → List Function → Expr �
 param_value k at t fs e = Ok (record { decl = k.declared at; of = t; value = value_by fs t e })
 
 abbrev pub constant_value : Context → ℕ → Option SvType → Operand → List Function → Checked ParamValue
-constant_value k at None o fs = where_whole (is_value k o) (λ v. where_whole (constant_alone k v fs) (param_value k at v.expr.of fs))
+constant_value k at None o fs = where_whole (is_constant_value k o) (λ v. where_whole (constant_alone k v fs) (param_value k at v.expr.of fs))
 constant_value k at (Some t) o fs = where_whole (constant_of k t o fs) (param_value k at t fs)
 
 abbrev pub constant : Context → ℕ → Option SvType → Option Initializer → Typing Declared

@@ -28,7 +28,7 @@ use Rattle.expr_type.specs.Breaks.{Quiet}
 use Rattle.expr_type.specs.Typings.{Checked, Typing, whole, broken, rule, by_functions, checked, both, both_by, all, refused}
 use Rattle.expr_type.specs.Shapes.{sign_of, is_unpacked}
 use Rattle.expr_type.specs.Names.{Context, position, thing, word, with_values}
-use Rattle.expr_type.specs.Operands.{value, is_number_in}
+use Rattle.expr_type.specs.Operands.{constant_in, is_number_in}
 use Rattle.expr_type.specs.Operators.{not_too_long}
 use Rattle.expr_type.specs.KeywordTypes.{Dim, keyword_type, implicit_type, unpacked}
 use Rattle.expr_type.specs.Forms.{dimensioned, type_of_thing}
@@ -82,7 +82,7 @@ written_value k base at before None =
     let n = next_value before in
     rule (refused (not (int_le (least_value base) n && int_le n (most_value base))) (position k at) 411 (Ok n))
 written_value k base at before (Some i) =
-    checked (value k (operand k i.value))
+    checked (constant_in k (operand k i.value))
     (λ v. checked (by_functions (is_number_in k (least_value base) (most_value base) v)) (λ n. whole n.number))
 
 abbrev pub is_taken : List NameValue → ℤ → Bool
