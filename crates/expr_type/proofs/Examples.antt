@@ -5,6 +5,7 @@ use Rattle.std.specs.Str.{bytes_eq}
 use Rattle.sv_source.specs.declared.token.Kind.TheVariants.{Name}
 use Rattle.sv_source.specs.declared.token.Token.{Token}
 use Rattle.sv_tree.specs.declared.expressions.Expr.{Expr-F}
+use Rattle.sv_tree.specs.declared.expressions.Select.{Select-F}
 use Rattle.sv_tree.specs.declared.operators.AssignmentOperator.TheVariants as A
 use Rattle.sv_tree.specs.declared.operators.BinaryOperator.TheVariants as N
 use Rattle.sv_types.specs.declared.frame.SignalId.{SignalId}
@@ -27,13 +28,13 @@ use Rattle.b4_core.specs.declared.operators.BinOp.TheVariants as B
 use Rattle.sv_types.specs.declared.expression.Form.{Form}
 use Rattle.sv_types.specs.declared.expression.Form.TheVariants as F
 use Rattle.sv_types.specs.Layouts.{width_of}
-use Rattle.expr_type.specs.Expressions.{Meaning, is_count, expr_step}
+use Rattle.expr_type.specs.Expressions.{Meaning, is_count, expr_step, select_step}
 use Rattle.expr_type.specs.Targets.{ToPath}
 use Rattle.expr_type.specs.Patterns.{named_key}
 use Rattle.expr_type.specs.Statements.{CaseFound, always, assignment, case_stmt, widened}
 use Rattle.sv_types.specs.declared.statement.CaseKind.TheVariants as C
 use Rattle.b4_core.specs.Vectors.{vec}
-use Rattle.expr_type.specs.TargetNames.{named_target}
+use Rattle.expr_type.specs.TargetNames.{actual_target, named_target}
 
 -- words as the tokens of a text, and signals by name
 abbrev tokens : List (List ℕ) → List Token
@@ -281,3 +282,10 @@ key-of-function = refl
 -- a stream of a signal as a constant
 constant-streamed : (k : Context) (v : Valued) → names_any v.expr ≡ true → is_constant_value k (Stream v) ≡ Err (At (position k v.first) 406)
 constant-streamed k v h = ap (λ b. refused b (position k v.first) 406 (Err (At (position k v.first) 512))) h
+
+-- `b.v` as the actual of an output, where `v` is a net of the interface `b`
+abbrev at_interface : Context
+at_interface = record braces { signals = []; finds = λ q. Some 0; is_interface = λ n. true; is_net_member = λ n m. true }
+
+actual-net : first_break (actual_target at_interface (record { scope = None; name = 1 }) (select_step (Select-F.Member 2 3) ∷ [])) ≡ at 1 501
+actual-net = refl

@@ -30,7 +30,7 @@ use Rattle.expr_type.specs.Literals as L
 use Rattle.expr_type.specs.Forms as F
 use Rattle.expr_type.specs.Forms.{Inside, SelectMeaning}
 use Rattle.expr_type.specs.Patterns.{Item, ItemKey, InPlace, ByDefault, Named, Numbered, Parts, fitted}
-use Rattle.expr_type.specs.TargetNames.{named_target, packed_target}
+use Rattle.expr_type.specs.TargetNames.{actual_target, packed_target}
 
 -- An expression: as a value; as a type, if it is one; the name that it is, if it is one alone; and as a target.
 pub record Meaning : Type 0 where
@@ -201,7 +201,7 @@ expr_step (Expr-F.«Expr::Name» of selects None) =
       typed = λ k. F.plain (F.named k of selects);
       as_type = λ k. type_of_name k of selects;
       alone = name_alone of selects;
-      as_target = λ k. Some (named_target k true of selects);
+      as_target = λ k. Some (actual_target k of selects);
     }
 expr_step (Expr-F.«Expr::Name» of selects (Some cast)) = of_value (λ k. cast_to_name k of selects cast)
 
