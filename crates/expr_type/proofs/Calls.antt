@@ -14,10 +14,10 @@ use Rattle.expr_type.specs.Breaks.{Breaks, Within}
 use Rattle.expr_type.specs.Typings.{Checked, joined, applied, all, all_of, at_all, lesser, rule, unless, where_whole, whole}
 use Rattle.expr_type.specs.Shapes.{is_assignable, is_plain_to_enum}
 use Rattle.expr_type.specs.Names.{Called, Context, position}
-use Rattle.expr_type.specs.Operands.{Operand, Plain, Pattern, Stream, Valued, is_given, is_plain, passed, sized, width}
+use Rattle.expr_type.specs.Operands.{Operand, Plain, Pattern, Stream, Valued, is_given, is_plain, no_stream, passed, sized, unstreamed, width}
 use Rattle.expr_type.specs.Operators.{by_itself}
 use Rattle.expr_type.specs.Forms as F
-use Rattle.expr_type.specs.Expressions.{Meaning, expr_step}
+use Rattle.expr_type.specs.Expressions.{Meaning, actuals, expr_step}
 use Rattle.expr_type.specs.Placed.{Placed, PlacedTyping, Stands, StandsIf, OperandStands, OperandIf, RoutinesInOrder, InOrder, AllInOrder}
 use Rattle.expr_type.proofs.Placing.{wider, placed-joined, placed-then, placed-refused, placed-lesser, placed-from}
 use Rattle.expr_type.proofs.Ordering.{WithinIf, all-within, place, refused-stands}
@@ -39,14 +39,23 @@ argument-if i (Ok o) (Err y) gs low between high h m p q = wider y i between hig
 argument-if i (Err x) (Ok os) gs low between high h m p q = wider x i low between low high (omega arith) m p
 argument-if i (Err x) (Err y) gs low between high h m p q = (between, h, m, p, q)
 
+-- an actual is no stream
+unstreamed-if : (k : Context) (x : Checked Operand) (gs : List Function) (low high : ℕ) → OperandIf k.instance low high x
+    → OperandIf k.instance low high (applied x (λ o. rule (no_stream k o)) gs).result
+unstreamed-if k (Ok (Plain v)) gs low high s = s
+unstreamed-if k (Ok (Pattern tick of)) gs low high s = s
+unstreamed-if k (Ok (Stream v)) gs low high s = place k v.first low high s.from s.before
+unstreamed-if k (Err b) gs low high w = w
+
 arguments-stand : (k : Context) (es : List Meaning) (low high : ℕ) → RoutinesInOrder k → AllInOrder low high es → (fs : List Function)
-    → ArgumentsIf k.instance low high (all (map (λ (e : Meaning). e.typed k) es) fs).result
+    → ArgumentsIf k.instance low high (all (actuals k es) fs).result
 arguments-stand k [] low high rs p fs = p
 arguments-stand k (e ∷ es) low high rs p fs =
-    let x = e.typed k in
-    let xs = all (map (λ (d : Meaning). d.typed k) es) in
+    let x = unstreamed k (e.typed k) in
+    let xs = all (actuals k es) in
     let gs = (x fs).functions in
-    argument-if k.instance (x fs).result (xs gs).result (xs gs).functions low p.0 high p.1 p.2 (p.3 k rs fs) (arguments-stand k es p.0 high rs p.4 gs)
+    argument-if k.instance (x fs).result (xs gs).result (xs gs).functions low p.0 high p.1 p.2
+    (unstreamed-if k (e.typed k fs).result (e.typed k fs).functions low p.0 (p.3 k rs fs)) (arguments-stand k es p.0 high rs p.4 gs)
 
 -- what is passed to a formal
 unless-placed : {A : Type 0} (i : ℕ) (o : Option Breaks) (a : A) (low high : ℕ) → WithinIf o i low high → Placed i low high (unless o a)
@@ -110,10 +119,10 @@ needed-placed k at (Some n) rs = placed-from k.instance (position k at) (k.routi
 pub call : (of : QualifiedName) (opening : ℕ) (arguments : List Meaning) (closing : ℕ) → qualified_first of ≤ of.name → of.name < opening → opening < closing
     → AllInOrder (suc opening) closing arguments → InOrder (qualified_first of) (suc closing) (expr_step (Expr-F.Call of opening arguments closing None))
 call of opening arguments closing h m n q k rs =
-    plain-stands k (F.call k of (map (λ (e : Meaning). e.typed k) arguments)) (qualified_first of) (suc closing)
+    plain-stands k (F.call k of (actuals k arguments)) (qualified_first of) (suc closing)
     (λ fs.
     let x = F.needed k of.name (k.finds of) in
-    let y = all (map (λ (e : Meaning). e.typed k) arguments) in
+    let y = all (actuals k arguments) in
     let gs = (x fs).functions in
     call-if k (qualified_first of) of.name opening closing (x fs).result (y gs).result (y gs).functions h m n
     (needed-placed k of.name (k.finds of) rs fs) (arguments-stand k arguments (suc opening) closing rs q gs))

@@ -5,6 +5,7 @@ use Rattle.std.specs.Str.{bytes_eq}
 use Rattle.sv_source.specs.declared.token.Kind.TheVariants.{Name}
 use Rattle.sv_source.specs.declared.token.Token.{Token}
 use Rattle.sv_tree.specs.declared.expressions.Expr.{Expr-F}
+use Rattle.sv_tree.specs.declared.expressions.Select.{Select-F}
 use Rattle.sv_tree.specs.declared.operators.AssignmentOperator.TheVariants as A
 use Rattle.sv_tree.specs.declared.operators.BinaryOperator.TheVariants as N
 use Rattle.sv_types.specs.declared.frame.SignalId.{SignalId}
@@ -19,18 +20,21 @@ use Rattle.expr_type.specs.Selects.{is_index}
 use Rattle.sv_types.specs.declared.expression.Expr.{Expr}
 use Rattle.sv_types.specs.declared.statement.FunctionKind.TheVariants.{Plain}
 use Rattle.sv_types.specs.declared.statement.Stmt.TheVariants as S
-use Rattle.expr_type.specs.Names.{Called, Context, word_in, position}
-use Rattle.expr_type.specs.Operands.{Operand, Pattern, Stream, is_value, is_streamed, Valued, value, width}
-use Rattle.expr_type.specs.Operators.{by_itself, valued, in_context, over, binary_of}
-use Rattle.expr_type.proofs.Widths.{sign-vector, width-4, width-129}
+use Rattle.expr_type.specs.Names.{Called, Context, Other, word_in, position}
+use Rattle.expr_type.specs.Operands.{Operand, Pattern, Stream, is_constant_value, is_value, names_any, is_streamed, Valued, value, width}
+use Rattle.expr_type.specs.Operators.{by_itself, expr_at, valued, in_context, over, binary_of}
+use Rattle.expr_type.proofs.Widths.{sign-vector, width-4, width-8, width-129}
 use Rattle.b4_core.specs.declared.operators.BinOp.TheVariants as B
 use Rattle.sv_types.specs.declared.expression.Form.{Form}
 use Rattle.sv_types.specs.declared.expression.Form.TheVariants as F
 use Rattle.sv_types.specs.Layouts.{width_of}
-use Rattle.expr_type.specs.Expressions.{Meaning, is_count, expr_step}
+use Rattle.expr_type.specs.Expressions.{Meaning, is_count, expr_step, select_step}
 use Rattle.expr_type.specs.Targets.{ToPath}
-use Rattle.expr_type.specs.Statements.{assignment}
-use Rattle.expr_type.specs.TargetNames.{named_target}
+use Rattle.expr_type.specs.Patterns.{named_key}
+use Rattle.expr_type.specs.Statements.{CaseFound, always, assignment, case_stmt, widened}
+use Rattle.sv_types.specs.declared.statement.CaseKind.TheVariants as C
+use Rattle.b4_core.specs.Vectors.{vec}
+use Rattle.expr_type.specs.TargetNames.{actual_target, named_target}
 
 -- words as the tokens of a text, and signals by name
 abbrev tokens : List (List ℕ) → List Token
@@ -59,6 +63,7 @@ text ws ds = record {
   finds = λ q. number_from 0 ds (word_in (slice_get (tokens ws) q.name));
   declared = λ at. 100 + at;
   is_interface = λ n. false;
+  stands = λ n. true;
   is_net = λ n. false;
   is_net_member = λ n m. false;
   result = None;
@@ -225,3 +230,62 @@ called = record {
 too-many : (k : Context) (o : Operand) → call_of k 3 3 called (o ∷ []) ≡ Err (At (position k 3) 405)
 unfolding called
 too-many k o = refl
+
+-- `(a) + b` begins with its parenthesis: for an enum it is broken there, and `(a)` at the `a`.
+abbrev parentheses : Context
+parentheses =
+    text (codes "e" ∷ codes "=" ∷ codes "(" ∷ codes "a" ∷ codes ")" ∷ codes "+" ∷ codes "a" ∷ [])
+    (declares (codes "a") (vector 2 false) ∷ declares (codes "e") colour ∷ [])
+
+abbrev enclosed : Meaning
+enclosed = expr_step (Expr-F.«Expr::Parenthesized» 2 (name 3) 4 None)
+
+in-parentheses : given_to parentheses 0 1 enclosed ≡ at 3 503
+unfolding X.out-SvType denote.Hole.Carrier.out
+in-parentheses = refl
+
+abbrev begins_in : Checked Valued → Option ℕ
+begins_in (Ok v) = Some v.first
+begins_in (Err b) = None
+
+behind-parentheses : begins_in (value parentheses ((expr_step (Expr-F.Binary enclosed N.LogicalAnd 5 (name 6))).typed parentheses) []).result ≡ Some 2
+unfolding X.out-SvType denote.Hole.Carrier.out
+behind-parentheses = refl
+
+-- The first value of a loop has the width of its variable: eight bits stand as an arm of a `?:` of 32 bits.
+abbrev eight : Context → Expr
+eight k = (by_itself k 5 (vector 8 false) (F.Signal 0)).expr
+
+abbrev wide_arm : Context → Expr
+wide_arm k =
+    expr_at k 5 (vector 32 (sign_of (vector 8 false)))
+    (F.Choose (always k 5) (eight k) (expr_at k 5 (vector 32 (sign_of (vector 8 false))) (F.Literal (vec 32 (pos 0)) false)))
+
+first-widened : (k : Context) → widened k 5 32 (eight k) ≡ wide_arm k
+first-widened k = ap (λ n. cond (nat_lt n 32) (wide_arm k) (eight k)) (width-8 false)
+
+-- An operator in the selector of a `case` that a value makes too wide is broken also where a statement behind it is.
+abbrev selector : Valued
+selector = valued braces 1 one_bit (F.Signal 0) (λ w. 2 ∷ [])
+
+abbrev broken_item : CaseFound
+broken_item = record { is_default = false; values = Ok (selector ∷ []); body = Err (At (position braces 4) 501) }
+
+case-by-values : first_break (rule (case_stmt braces C.Plain (Ok selector) (broken_item ∷ []))) ≡ at 2 502
+unfolding X.out-SvType denote.Hole.Carrier.out
+case-by-values = refl
+
+-- a key that is the name of a function, in a pattern of an array
+key-of-function : named_key (record braces { stands = λ n. false }) 3 (Other 0) ≡ Err (At (position braces 3) 404)
+key-of-function = refl
+
+-- a stream of a signal as a constant
+constant-streamed : (k : Context) (v : Valued) → names_any v.expr ≡ true → is_constant_value k (Stream v) ≡ Err (At (position k v.first) 406)
+constant-streamed k v h = ap (λ b. refused b (position k v.first) 406 (Err (At (position k v.first) 512))) h
+
+-- `b.v` as the actual of an output, where `v` is a net of the interface `b`
+abbrev at_interface : Context
+at_interface = record braces { signals = []; finds = λ q. Some 0; is_interface = λ n. true; is_net_member = λ n m. true }
+
+actual-net : first_break (actual_target at_interface (record { scope = None; name = 1 }) (select_step (Select-F.Member 2 3) ∷ [])) ≡ at 1 501
+actual-net = refl

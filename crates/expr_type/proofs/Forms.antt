@@ -20,7 +20,8 @@ use Rattle.sv_tree.specs.declared.expressions.Select.{Select-F}
 use Rattle.sv_tree.specs.declared.names.QualifiedName.{QualifiedName}
 use Rattle.sv_types.specs.declared.frame.SignalId.{SignalId}
 use Rattle.sv_types.specs.Layouts.{width_of}
-use Rattle.expr_type.specs.Operands.{Operand, Plain, Pattern, Stream, Number, Valued, bits_in, has_bits, width, in_range, is_number_in, is_value, names_any, number_of, number_or, number_within, stops, value}
+use Rattle.expr_type.specs.Operands.{Operand, Plain, Pattern, Stream, Number, Valued, bits_in, constant_in, has_bits, is_constant_value, width, in_range, is_number_in, is_value, names_any, number_of, number_or, number_within, stops, value}
+use Rattle.expr_type.specs.Operands as V
 use Rattle.sv_types.specs.declared.expression.Form.{Form}
 use Rattle.expr_type.specs.Operators.{binary_of, unary_of, by_itself, is_part, concat_of, repeat_of, all_bits, choice_of, chosen_type}
 use Rattle.expr_type.specs.Forms as F
@@ -34,6 +35,8 @@ use Rattle.expr_type.proofs.Ordering.{ascend-append, ascend-wider, member-stands
 
 stands-wider : (v : Valued) (low high low' high' : ℕ) → low' ≤ low → high ≤ high' → Stands low high v → Stands low' high' v
 stands-wider v low high low' high' h k s = record {
+  begins = let a = s.begins in omega arith;
+  inner = s.inner;
   from = let a = s.from in omega arith;
   before = let a = s.before in omega arith;
   operators = λ w. ascend-wider (v.too_wide w) low high low' high' h k (s.operators w);
@@ -49,9 +52,18 @@ operand-wider i (Pattern tick of) low high low' high' h k s =
     (omega arith, omega arith, λ at t. placed-wider i (of at t) low high low' high' h k (s.2 at t))
 operand-wider i (Stream v) low high low' high' h k s = stands-wider v low high low' high' h k s
 
-if-wider : (i : ℕ) (x : Checked Operand) (low high low' high' : ℕ) → low' ≤ low → high ≤ high' → OperandIf i low high x → OperandIf i low' high' x
-if-wider i (Ok o) low high low' high' h k s = operand-wider i o low high low' high' h k s
-if-wider i (Err b) low high low' high' h k w = wider b i low high low' high' h k w
+in-parentheses : (i opening closing : ℕ) (x : Checked Operand) (gs : List Function) → OperandIf i (suc opening) closing x
+    → OperandIf i opening (suc closing) (applied x (λ o. whole (V.parenthesized opening o)) gs).result
+in-parentheses i opening closing (Ok (Plain v)) gs s = record {
+  begins = omega arith;
+  inner = let a = s.from in omega arith;
+  from = let a = s.from in omega arith;
+  before = let a = s.before in omega arith;
+  operators = λ w. ascend-wider (v.too_wide w) (suc opening) closing opening (suc closing) (omega arith) (omega arith) (s.operators w);
+}
+in-parentheses i opening closing (Ok (Pattern tick of)) gs s = operand-wider i (Pattern tick of) (suc opening) closing opening (suc closing) (omega arith) (omega arith) s
+in-parentheses i opening closing (Ok (Stream v)) gs s = operand-wider i (Stream v) (suc opening) closing opening (suc closing) (omega arith) (omega arith) s
+in-parentheses i opening closing (Err b) gs w = wider b i (suc opening) closing opening (suc closing) (omega arith) (omega arith) w
 
 module _ (k : Context) where
   -- an operand that nothing is given to, and a value as an operand
@@ -117,18 +129,17 @@ unary op at operand high p k rs =
 
 pub parenthesized : (opening : ℕ) (inner : Meaning) (closing : ℕ) → InOrder (suc opening) closing inner
     → InOrder opening (suc closing) (expr_step (Expr-F.«Expr::Parenthesized» opening inner closing None))
-parenthesized opening inner closing p k rs fs =
-    if-wider k.instance (inner.typed k fs).result (suc opening) closing opening (suc closing) (omega arith) (omega arith) (p k rs fs)
+parenthesized opening inner closing p k rs fs = in-parentheses k.instance opening closing (inner.typed k fs).result (inner.typed k fs).functions (p k rs fs)
 
 -- numbers
 number-stands : (k : Context) (x : Checked Valued) (low high : ℕ) → StandsIf k.instance low high x → OperandTyping k.instance low high (F.plain (rule x))
 number-stands k x low high s = plain-stands k (rule x) low high (λ fs. s)
 
 pub leaf : (k : Context) (at low high : ℕ) (of : SvType) (form : Form) → low ≤ at → at < high → Stands low high (by_itself k at of form)
-leaf k at low high of form h m = record { from = h; before = m; operators = λ w. tt }
+leaf k at low high of form h m = record { begins = h; inner = omega arith; from = h; before = m; operators = λ w. tt }
 
 unsized-leaf : (k : Context) (at low high : ℕ) (of : SvType) (form : Form) → low ≤ at → at < high → Stands low high (F.unsized (by_itself k at of form))
-unsized-leaf k at low high of form h m = record { from = h; before = m; operators = λ w. tt }
+unsized-leaf k at low high of form h m = record { begins = h; inner = omega arith; from = h; before = m; operators = λ w. tt }
 
 pub decimal : (at : ℕ) → InOrder at (suc at) (expr_step (Expr-F.«Expr::Decimal» at))
 decimal at k rs =
@@ -160,7 +171,7 @@ sized size at h k rs =
     (leaf k size size (suc at) _ _ (omega arith) (omega arith))))
 
 pub fill : (at : ℕ) → InOrder at (suc at) (expr_step (Expr-F.Fill at))
-fill at k rs = number-stands k (F.fill k at) at (suc at) (record { from = omega arith; before = omega arith; operators = λ w. tt })
+fill at k rs = number-stands k (F.fill k at) at (suc at) (record { begins = omega arith; inner = omega arith; from = omega arith; before = omega arith; operators = λ w. tt })
 
 -- concatenations
 part-if : (k : Context) (x : Checked Valued) (gs : List Function) (low high : ℕ) → StandsIf k.instance low high x
@@ -198,8 +209,8 @@ choice-stands : (k : Context) (at colon low high : ℕ) (on l r : Valued) → at
 choice-stands k at colon low high on l r h x y z =
     let from : low ≤ at = let a = x.from in let b = x.before in omega arith in
     let to : at < high = let a = z.from in let b = z.before in omega arith in
-    let inner = in-context k on.first (chosen_type l r) (T.Choose on.expr l.expr r.expr) (λ w. l.too_wide w ++ r.too_wide w) low high x.from
-    (let b = x.before in omega arith)
+    let inner = in-context k on.begins (chosen_type l r) (T.Choose on.expr l.expr r.expr) (λ w. l.too_wide w ++ r.too_wide w) low high x.begins
+    (let a = x.inner in let b = x.before in omega arith)
     (λ w. ascend-append (l.too_wide w) (r.too_wide w) low colon high (omega arith) (let a = z.from in let b = z.before in omega arith)
     (ascend-wider (l.too_wide w) (suc at) colon low colon (omega arith) (omega arith) (y.operators w))
     (ascend-wider (r.too_wide w) (suc colon) high colon high (omega arith) (omega arith) (z.operators w))) in
@@ -284,10 +295,23 @@ number-if : (k : Context) (from to : ℤ) (x : Checked Valued) (gs : List Functi
 number-if k from to (Ok v) gs low high s = is-number k from to v gs low high s
 number-if k from to (Err b) gs low high w = w
 
+-- a constant by its first token, whatever it is
+constant-stream : (k : Context) (v : Valued) (b : Bool) (low high : ℕ) → Stands low high v
+    → StandsIf k.instance low high (refused b (position k v.first) 406 (Err (At (position k v.first) 512)))
+constant-stream k v true low high s = place k v.first low high s.from s.before
+constant-stream k v false low high s = place k v.first low high s.from s.before
+
+constant-if : (k : Context) (x : Checked Operand) (gs : List Function) (low high : ℕ) → OperandIf k.instance low high x
+    → StandsIf k.instance low high (applied x (λ o. rule (is_constant_value k o)) gs).result
+constant-if k (Ok (Plain v)) gs low high s = s
+constant-if k (Ok (Pattern tick of)) gs low high s = place k tick low high s.0 s.1
+constant-if k (Ok (Stream v)) gs low high s = constant-stream k v (names_any v.expr) low high s
+constant-if k (Err b) gs low high w = w
+
 pub number-stands-in : (k : Context) (from to : ℤ) (x : Typing Operand) (low high : ℕ) → OperandTyping k.instance low high x
     → (fs : List Function) → NumberIf k.instance low high (number_within k from to x fs).result
 number-stands-in k from to x low high p fs =
-    number-if k from to (value k x fs).result (value k x fs).functions low high (value-stands k x low high p fs)
+    number-if k from to (constant_in k x fs).result (constant_in k x fs).functions low high (constant-if k (x fs).result (x fs).functions low high (p fs))
 
 -- replications
 count-if : (k : Context) (x : Checked Number) (gs : List Function) (low high : ℕ) → NumberIf k.instance low high x

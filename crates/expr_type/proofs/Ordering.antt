@@ -73,14 +73,14 @@ module _ (k : Context) where
   place at low high h m = record { instance = refl; from = h; before = m }
 
   itself : (first : ℕ) (of : SvType) (form : Form) (low high : ℕ) → low ≤ first → first < high → Stands low high (P.by_itself k first of form)
-  itself first of form low high h m = record { from = h; before = m; operators = λ w. tt }
+  itself first of form low high h m = record { begins = h; inner = omega arith; from = h; before = m; operators = λ w. tt }
 
   pub in-context : (first : ℕ) (of : SvType) (form : Form) (wide : ℕ → List ℕ) (low high : ℕ) → low ≤ first → first < high
       → ((w : ℕ) → Ascend low high (wide w)) → StandsIf k.instance low high (P.in_context k first of form wide)
   in-context first of form wide low high h m a =
       unless-stands k.instance (at_all k.instance 502 (wide (width_of of))) (P.valued k first of form wide) low high
       (all-within k.instance 502 (wide (width_of of)) low high (a (width_of of)))
-      (record { from = h; before = m; operators = a })
+      (record { begins = h; inner = omega arith; from = h; before = m; operators = a })
 
   checked-at : (ts : List ℕ) (first : ℕ) (of : SvType) (form : Form) (low high : ℕ) → low ≤ first → first < high
       → Ascend low high ts → StandsIf k.instance low high (unless (at_all k.instance 502 ts) (P.by_itself k first of form))
@@ -90,11 +90,11 @@ module _ (k : Context) where
 
   -- an operator between two operands
   module _ (at low high : ℕ) (l r : Valued) (x : Stands low at l) (y : Stands (suc at) high r) where
-    from-first : low ≤ l.first
-    from-first = x.from
+    from-first : low ≤ l.begins
+    from-first = x.begins
 
-    before-end : l.first < high
-    before-end = let a = x.before in let b = y.from in let c = y.before in omega arith
+    before-end : l.begins < high
+    before-end = let d = x.inner in let a = x.before in let b = y.from in let c = y.before in omega arith
 
     at-within : low ≤ at
     at-within = let a = x.from in let b = x.before in omega arith
@@ -114,36 +114,36 @@ module _ (k : Context) where
         (ascend-over at v at (suc at) (omega arith) (omega arith)) (y.operators w))
 
     bitwise : (op : BinOp) → StandsIf k.instance low high (P.bitwise op k at l r)
-    bitwise op = in-context l.first (P.both_type l r) (F.Binary op l.expr r.expr) (λ w. l.too_wide w ++ r.too_wide w) low high from-first before-end operands
+    bitwise op = in-context l.begins (P.both_type l r) (F.Binary op l.expr r.expr) (λ w. l.too_wide w ++ r.too_wide w) low high from-first before-end operands
 
     arithmetic : (op : BinOp) → StandsIf k.instance low high (P.arithmetic op k at l r)
     arithmetic op =
-        in-context l.first (P.both_type l r) (F.Binary op l.expr r.expr) (λ w. l.too_wide w ++ (P.over at w ++ r.too_wide w)) low high from-first before-end
+        in-context l.begins (P.both_type l r) (F.Binary op l.expr r.expr) (λ w. l.too_wide w ++ (P.over at w ++ r.too_wide w)) low high from-first before-end
         (λ w. with-operator w w)
 
     equality : (op : EqOp) (negated : Bool) → StandsIf k.instance low high (P.equality op negated k at l r)
     equality op negated =
-        checked-at (l.too_wide (P.both_wide l r) ++ r.too_wide (P.both_wide l r)) l.first _ (F.Equal op negated l.expr r.expr) low high from-first before-end
+        checked-at (l.too_wide (P.both_wide l r) ++ r.too_wide (P.both_wide l r)) l.begins _ (F.Equal op negated l.expr r.expr) low high from-first before-end
         (operands (P.both_wide l r))
 
     order : (op : OrdOp) → StandsIf k.instance low high (P.order op k at l r)
     order op =
-        checked-at (l.too_wide (P.both_wide l r) ++ (P.over at (P.both_wide l r) ++ r.too_wide (P.both_wide l r))) l.first _ (F.Order op l.expr r.expr) low high
+        checked-at (l.too_wide (P.both_wide l r) ++ (P.over at (P.both_wide l r) ++ r.too_wide (P.both_wide l r))) l.begins _ (F.Order op l.expr r.expr) low high
         from-first before-end (with-operator (P.both_wide l r) (P.both_wide l r))
 
     shift : (op : ShiftOp) → StandsIf k.instance low high (P.shift op k at l r)
     shift op =
-        in-context l.first (P.same_type l) (F.Shift op l.expr r.expr) l.too_wide low high from-first before-end
+        in-context l.begins (P.same_type l) (F.Shift op l.expr r.expr) l.too_wide low high from-first before-end
         (λ w. ascend-wider (l.too_wide w) low at low high (omega arith) (let e = at-before in omega arith) (x.operators w))
 
     power : StandsIf k.instance low high (P.power k at l r)
     power =
-        in-context l.first (P.same_type l) (F.Power l.expr r.expr) (λ w. l.too_wide w ++ P.over at (max w (width r))) low high from-first before-end
+        in-context l.begins (P.same_type l) (F.Power l.expr r.expr) (λ w. l.too_wide w ++ P.over at (max w (width r))) low high from-first before-end
         (λ w. ascend-append (l.too_wide w) (P.over at (max w (width r))) low at high at-within (let e = at-before in omega arith) (x.operators w)
         (ascend-over at (max w (width r)) at high (omega arith) at-before))
 
     logical : (form : Expr → Expr → Form) → StandsIf k.instance low high (P.logical form k at l r)
-    logical form = itself l.first _ (form l.expr r.expr) low high from-first before-end
+    logical form = itself l.begins _ (form l.expr r.expr) low high from-first before-end
 
     by-operator : (op : BinaryOperator) → StandsIf k.instance low high (P.by_operator op k at l r)
     by-operator N.LogicalOr = logical F.Either
@@ -186,10 +186,10 @@ module _ (k : Context) where
     operand w = ascend-wider (v.too_wide w) (suc at) high at high (omega arith) (omega arith) (x.operators w)
 
     plus-by : (o : Option ℕ) → StandsIf k.instance at high (elim o [
-      | None ↦ Ok (record v { first = at; unsized = false })
+      | None ↦ Ok (record v { first = at; begins = at; unsized = false })
       | Some n ↦ Ok (P.by_itself k at (P.same_type v) (F.Cast v.expr))
     ])
-    plus-by None = record { from = omega arith; before = operator-before; operators = operand }
+    plus-by None = record { begins = omega arith; inner = omega arith; from = omega arith; before = operator-before; operators = operand }
     plus-by (Some n) = itself at _ (F.Cast v.expr) at high (omega arith) operator-before
 
     by-prefix : (op : UnaryOperator) → StandsIf k.instance at high (P.by_prefix op k at v)

@@ -28,6 +28,10 @@ pub width-4 : (s : Bool) → width_of (vector 4 s) ≡ 4
 unfolding repeated
 width-4 s = ap (λ (l : Layout). length l.two_state) (layout-vector 4 s)
 
+pub width-8 : (s : Bool) → width_of (vector 8 s) ≡ 8
+unfolding repeated
+width-8 s = ap (λ (l : Layout). length l.two_state) (layout-vector 8 s)
+
 pub width-129 : (s : Bool) → width_of (vector 129 s) ≡ 129
 unfolding repeated
 width-129 s = ap (λ (l : Layout). length l.two_state) (layout-vector 129 s)

@@ -20,7 +20,7 @@ use Rattle.sv_types.specs.Layouts.{width_of}
 use Rattle.expr_type.specs.Breaks.{Quiet}
 use Rattle.expr_type.specs.Typings.{Checked, Typing, whole, broken, rule, by_functions, checked, both, all, where_whole, refused}
 use Rattle.expr_type.specs.Names.{Context, position, thing, word}
-use Rattle.expr_type.specs.Operands.{Operand, Plain, Stream, Number, Valued, given, has_bits, is_constant, is_value, number_of, number_within, value}
+use Rattle.expr_type.specs.Operands.{Operand, Plain, Stream, Number, Valued, constant_in, given, has_bits, is_constant, is_value, number_of, number_within, parenthesized, unstreamed, value}
 use Rattle.expr_type.specs.Operands as V
 use Rattle.expr_type.specs.Operators.{Alternative, Only, From, binary_of, unary_of, choice_of, inside_of, concat_of, repeat_of, is_part}
 use Rattle.expr_type.specs.Selects.{Step, bound_in, width_in, index_in, is_index}
@@ -30,7 +30,7 @@ use Rattle.expr_type.specs.Literals as L
 use Rattle.expr_type.specs.Forms as F
 use Rattle.expr_type.specs.Forms.{Inside, SelectMeaning}
 use Rattle.expr_type.specs.Patterns.{Item, ItemKey, InPlace, ByDefault, Named, Numbered, Parts, fitted}
-use Rattle.expr_type.specs.TargetNames.{named_target, packed_target}
+use Rattle.expr_type.specs.TargetNames.{actual_target, packed_target}
 
 -- An expression: as a value; as a type, if it is one; the name that it is, if it is one alone; and as a target.
 pub record Meaning : Type 0 where
@@ -150,6 +150,10 @@ pub record Arms : Type 0 where
 abbrev pub arms : Valued → Valued → Typing Arms
 arms first second = whole (record { first = first; second = second })
 
+-- what is passed in a call
+abbrev pub actuals : Context → List Meaning → List (Typing Operand)
+actuals k es = map (λ (e : Meaning). unstreamed k (e.typed k)) es
+
 abbrev pub stream : Context → Valued → Typing Operand
 stream k v = whole (Stream v)
 
@@ -168,7 +172,8 @@ expr_step (Expr-F.Sized size digits) = of_value (λ k. rule (F.sized_number k si
 expr_step (Expr-F.SizeCast size cast) = of_value (λ k. F.by_written_size k size (cast k))
 expr_step (Expr-F.Based digits) = of_value (λ k. rule (F.based k digits))
 expr_step (Expr-F.Fill digit) = of_value (λ k. rule (F.fill k digit))
-expr_step (Expr-F.«Expr::Parenthesized» opening inner closing None) = of_operand inner.typed
+expr_step (Expr-F.«Expr::Parenthesized» opening inner closing None) =
+    of_operand (λ k. checked (inner.typed k) (λ o. whole (parenthesized opening o)))
 expr_step (Expr-F.«Expr::Parenthesized» opening inner closing (Some cast)) = of_value (λ k. F.by_size k opening (inner.typed k) (cast k))
 expr_step (Expr-F.«Expr::Replication» opening times inner_opening items inner_closing closing) =
     of_value (λ k. both (count k times) (parts k items) (λ n vs. rule (repeat_of k opening n vs)))
@@ -188,22 +193,22 @@ expr_step (Expr-F.Type of packed (Some cast)) =
 expr_step (Expr-F.SigningCast signing cast) = of_value (λ k. F.by_sign k (signing_token signing) (F.is_signed_by signing) (cast k))
 expr_step (Expr-F.SystemCall name opening argument closing) =
     of_value (λ k. F.system_call k name (argument.as_type k) (argument.typed k))
-expr_step (Expr-F.Call of opening arguments closing None) = of_value (λ k. F.call k of (map (λ (e : Meaning). e.typed k) arguments))
+expr_step (Expr-F.Call of opening arguments closing None) = of_value (λ k. F.call k of (actuals k arguments))
 expr_step (Expr-F.Call of opening arguments closing (Some cast)) =
-    of_value (λ k. F.by_size k (qualified_first of) (F.plain (F.call k of (map (λ (e : Meaning). e.typed k) arguments))) (cast k))
+    of_value (λ k. F.by_size k (qualified_first of) (F.plain (F.call k of (actuals k arguments))) (cast k))
 expr_step (Expr-F.«Expr::Name» of selects None) =
     record {
       typed = λ k. F.plain (F.named k of selects);
       as_type = λ k. type_of_name k of selects;
       alone = name_alone of selects;
-      as_target = λ k. Some (named_target k true of selects);
+      as_target = λ k. Some (actual_target k of selects);
     }
 expr_step (Expr-F.«Expr::Name» of selects (Some cast)) = of_value (λ k. cast_to_name k of selects cast)
 
 abbrev pub pattern_step : Pattern-F CastMeaning DimensionMeaning Meaning PatternMeaning ItemMeaning SelectMeaning SliceMeaning RangeMeaning → PatternMeaning
 pattern_step (Pattern-F.Items items) k = checked (all (map (λ (i : ItemMeaning). i k) items)) (λ is. whole (record { times = 1; items = is }))
 pattern_step (Pattern-F.«Pattern::Replication» times opening items closing) k =
-    both (count k times) (all (map (λ (e : Meaning). e.typed k) items))
+    both (count k times) (all (map (λ (e : Meaning). unstreamed k (e.typed k)) items))
     (λ n os. whole (record { times = n; items = map (λ o. record { key = InPlace; value = o }) os }))
 
 -- a key that is no name alone is a constant index
@@ -212,18 +217,18 @@ is_key k v fs =
     where_whole (is_constant k v.first fs v.expr (where_whole (has_bits k v) (is_index k))) (λ u. Ok (number_of fs u.expr))
 
 abbrev pub key_number : Context → Meaning → Typing (Option ℤ)
-key_number k e = checked (value k (e.typed k)) (λ v. by_functions (is_key k v))
+key_number k e = checked (constant_in k (e.typed k)) (λ v. by_functions (is_key k v))
 
 abbrev pub keyed_item : ItemKey → Operand → Item
 keyed_item key o = record { key = key; value = o }
 
 abbrev pub pattern_item_step : PatternItem-F CastMeaning DimensionMeaning Meaning PatternMeaning ItemMeaning SelectMeaning SliceMeaning RangeMeaning → ItemMeaning
-pattern_item_step (PatternItem-F.Default keyword colon item) k = checked (item.typed k) (λ o. whole (keyed_item ByDefault o))
+pattern_item_step (PatternItem-F.Default keyword colon item) k = checked (unstreamed k (item.typed k)) (λ o. whole (keyed_item ByDefault o))
 pattern_item_step (PatternItem-F.Keyed key colon item) k = elim key.alone [
-  | Some of ↦ checked (item.typed k) (λ o. whole (keyed_item (Named of) o))
-  | None ↦ both (key_number k key) (item.typed k) (λ n o. whole (keyed_item (Numbered n) o))
+  | Some of ↦ checked (unstreamed k (item.typed k)) (λ o. whole (keyed_item (Named of) o))
+  | None ↦ both (key_number k key) (unstreamed k (item.typed k)) (λ n o. whole (keyed_item (Numbered n) o))
 ]
-pattern_item_step (PatternItem-F.«PatternItem::Value» item) k = checked (item.typed k) (λ o. whole (keyed_item InPlace o))
+pattern_item_step (PatternItem-F.«PatternItem::Value» item) k = checked (unstreamed k (item.typed k)) (λ o. whole (keyed_item InPlace o))
 
 -- selects, and what they are as dimensions of a type
 abbrev pub part_step : PartOperator → Context → ℕ → Meaning → Meaning → Typing Step

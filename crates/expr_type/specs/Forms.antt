@@ -128,7 +128,7 @@ converted k first tick t (Stream v) = Err (At (position k v.first) 512)
 
 abbrev pub pattern_of_type : Context → ℕ → SvType → Operand → Checked Valued
 pattern_of_type k first t (Plain v) = Err Quiet
-pattern_of_type k first t (Pattern tick of) = where_whole (of first t) (λ e. Ok (record { first = first; unsized = false; expr = e; too_wide = λ w. [] }))
+pattern_of_type k first t (Pattern tick of) = where_whole (of first t) (λ e. Ok (record { first = first; begins = first; unsized = false; expr = e; too_wide = λ w. [] }))
 pattern_of_type k first t (Stream v) = Err Quiet
 
 abbrev pub type_cast : Context → ℕ → SvType → Inside → Checked Valued

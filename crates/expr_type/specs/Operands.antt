@@ -19,10 +19,11 @@ use Rattle.expr_type.specs.Shapes.{most_bits, is_unpacked, is_assignable, is_pla
 use Rattle.expr_type.specs.Streams.{holds_stream}
 use Rattle.expr_type.specs.Names.{Context, position}
 
--- A typed expression; its first token, parentheses round the whole left out; whether it is a number without a size; and the
--- operators in it that do arithmetic on more than 128 bits in a context of some width. In one of its own width none does.
+-- A typed expression; its first token, parentheses round the whole left out, and with them; whether it is a number without a size;
+-- and the operators in it that do arithmetic on more than 128 bits in a context of some width. In one of its own width none does.
 pub record Valued : Type 0 where
   pub first : ℕ
+  pub begins : ℕ
   pub unsized : Bool
   pub expr : Expr
   pub too_wide : ℕ → List ℕ
@@ -41,6 +42,12 @@ abbrev pub is_value : Context → Operand → Checked Valued
 is_value k (Plain v) = Ok v
 is_value k (Pattern tick of) = Err (At (position k tick) 505)
 is_value k (Stream v) = Err (At (position k v.first) 512)
+
+-- in parentheses
+abbrev pub parenthesized : ℕ → Operand → Operand
+parenthesized opening (Plain v) = Plain (record v { begins = opening })
+parenthesized opening (Pattern tick of) = Pattern tick of
+parenthesized opening (Stream v) = Stream v
 
 abbrev pub first_of : Operand → ℕ
 first_of (Plain v) = v.first
@@ -88,6 +95,15 @@ passed k t (Plain v) = is_given k t v
 passed k t (Pattern tick of) = of tick t
 passed k t (Stream v) = Err (At (position k v.first) 512)
 
+-- an operand where no stream can stand
+abbrev pub no_stream : Context → Operand → Checked Operand
+no_stream k (Plain v) = Ok (Plain v)
+no_stream k (Pattern tick of) = Ok (Pattern tick of)
+no_stream k (Stream v) = Err (At (position k v.first) 512)
+
+abbrev pub unstreamed : Context → Typing Operand → Typing Operand
+unstreamed k x = checked x (λ o. rule (no_stream k o))
+
 -- Constants. They name no signal and no local (E406), call no function that holds a stream (E512), and are valued within
 -- 65,536 turns of each loop and 2^20 statements (E608). Other rules on them stand between these.
 abbrev pub nothing_held : List Function → Around
@@ -95,6 +111,18 @@ nothing_held fs = record { now = λ q. X; holds = λ n. false; callee = callees 
 
 abbrev pub names_any : Expr → Bool
 names_any e = not (length (meaning e).names == 0)
+
+-- a stream as a constant
+abbrev pub constant_stream : {A : Type 0} → Context → Valued → Checked A
+constant_stream k v = refused (names_any v.expr) (position k v.first) 406 (Err (At (position k v.first) 512))
+
+abbrev pub is_constant_value : Context → Operand → Checked Valued
+is_constant_value k (Plain v) = Ok v
+is_constant_value k (Pattern tick of) = Err (At (position k tick) 505)
+is_constant_value k (Stream v) = constant_stream k v
+
+abbrev pub constant_in : Context → Typing Operand → Typing Valued
+constant_in k x = checked x (λ o. rule (is_constant_value k o))
 
 abbrev pub stops : List Function → Expr → Bool
 stops fs e = elim ((meaning e).values (nothing_held fs) (record { left = Some (2 ^ 20); stop = None })).stop [ None ↦ false | Some s ↦ true ]
@@ -132,7 +160,7 @@ is_number_in k low high v fs =
     where_whole (is_constant k v.first fs v.expr (has_bits k v)) (λ u. number_or k u.first (in_range low high (number_of fs u.expr)))
 
 abbrev pub number_within : Context → ℤ → ℤ → Typing Operand → Typing Number
-number_within k low high x = checked (value k x) (λ v. by_functions (is_number_in k low high v))
+number_within k low high x = checked (constant_in k x) (λ v. by_functions (is_number_in k low high v))
 
 -- a constant that is given to a type, and one that is a value of its own
 abbrev pub constant_given : Context → SvType → Valued → List Function → Checked Expr
@@ -144,7 +172,7 @@ constant_pattern k tick x fs = where_whole x (λ e. is_constant k tick fs e (Ok 
 abbrev pub constant_of : Context → SvType → Operand → List Function → Checked Expr
 constant_of k t (Plain v) fs = constant_given k t v fs
 constant_of k t (Pattern tick of) fs = constant_pattern k tick (of tick t) fs
-constant_of k t (Stream v) fs = Err (At (position k v.first) 512)
+constant_of k t (Stream v) fs = constant_stream k v
 
 abbrev pub constant_alone : Context → Valued → List Function → Checked Expr
 constant_alone k v fs = is_constant k v.first fs v.expr (Ok v.expr)

@@ -35,7 +35,7 @@ abbrev pub expr_at : Context → ℕ → SvType → Form → Expr
 expr_at k first of form = record { of = of; spot = spot k first; form = form }
 
 abbrev pub valued : Context → ℕ → SvType → Form → (ℕ → List ℕ) → Valued
-valued k first of form too_wide = record { first = first; unsized = false; expr = expr_at k first of form; too_wide = too_wide }
+valued k first of form too_wide = record { first = first; begins = first; unsized = false; expr = expr_at k first of form; too_wide = too_wide }
 
 -- an expression whose operands are valued alone
 abbrev pub by_itself : Context → ℕ → SvType → Form → Valued
@@ -70,31 +70,31 @@ same_type v = vector (width v) (is_signed v)
 
 -- Operators on bits, by numbers, on truth values, and of comparison. Both operands of a comparison have the larger width.
 abbrev pub bitwise : BinOp → Context → ℕ → Valued → Valued → Checked Valued
-bitwise op k at l r = in_context k l.first (both_type l r) (F.Binary op l.expr r.expr) (λ w. l.too_wide w ++ r.too_wide w)
+bitwise op k at l r = in_context k l.begins (both_type l r) (F.Binary op l.expr r.expr) (λ w. l.too_wide w ++ r.too_wide w)
 
 abbrev pub arithmetic : BinOp → Context → ℕ → Valued → Valued → Checked Valued
 arithmetic op k at l r =
-    in_context k l.first (both_type l r) (F.Binary op l.expr r.expr) (λ w. l.too_wide w ++ (over at w ++ r.too_wide w))
+    in_context k l.begins (both_type l r) (F.Binary op l.expr r.expr) (λ w. l.too_wide w ++ (over at w ++ r.too_wide w))
 
 abbrev pub logical : (Expr → Expr → Form) → Context → ℕ → Valued → Valued → Checked Valued
-logical form k at l r = Ok (by_itself k l.first one_bit (form l.expr r.expr))
+logical form k at l r = Ok (by_itself k l.begins one_bit (form l.expr r.expr))
 
 abbrev pub equality : EqOp → Bool → Context → ℕ → Valued → Valued → Checked Valued
 equality op negated k at l r =
     let w = both_wide l r in
-    unless (at_all k.instance 502 (l.too_wide w ++ r.too_wide w)) (by_itself k l.first one_bit (F.Equal op negated l.expr r.expr))
+    unless (at_all k.instance 502 (l.too_wide w ++ r.too_wide w)) (by_itself k l.begins one_bit (F.Equal op negated l.expr r.expr))
 
 abbrev pub order : OrdOp → Context → ℕ → Valued → Valued → Checked Valued
 order op k at l r =
     let w = both_wide l r in
-    unless (at_all k.instance 502 (l.too_wide w ++ (over at w ++ r.too_wide w))) (by_itself k l.first one_bit (F.Order op l.expr r.expr))
+    unless (at_all k.instance 502 (l.too_wide w ++ (over at w ++ r.too_wide w))) (by_itself k l.begins one_bit (F.Order op l.expr r.expr))
 
 -- the right operand of a shift and of a power is valued alone
 abbrev pub shift : ShiftOp → Context → ℕ → Valued → Valued → Checked Valued
-shift op k at l r = in_context k l.first (same_type l) (F.Shift op l.expr r.expr) l.too_wide
+shift op k at l r = in_context k l.begins (same_type l) (F.Shift op l.expr r.expr) l.too_wide
 
 abbrev pub power : Context → ℕ → Valued → Valued → Checked Valued
-power k at l r = in_context k l.first (same_type l) (F.Power l.expr r.expr) (λ w. l.too_wide w ++ over at (max w (width r)))
+power k at l r = in_context k l.begins (same_type l) (F.Power l.expr r.expr) (λ w. l.too_wide w ++ over at (max w (width r)))
 
 abbrev pub by_operator : BinaryOperator → Context → ℕ → Valued → Valued → Checked Valued
 by_operator N.LogicalOr = logical F.Either
@@ -130,7 +130,7 @@ binary_of op k at l r = taking k at (l ∷ r ∷ []) (by_operator op k at l r)
 -- Operators before an operand. `+` gives its operand; of an enum it gives the vector of its bits.
 abbrev pub plus : Context → ℕ → Valued → Checked Valued
 plus k at v = elim (enum_of v.expr.of) [
-  | None ↦ Ok (record v { first = at; unsized = false })
+  | None ↦ Ok (record v { first = at; begins = at; unsized = false })
   | Some n ↦ Ok (by_itself k at (same_type v) (F.Cast v.expr))
 ]
 
@@ -159,7 +159,7 @@ chosen_type l r = cond (is_same_enum (enum_of l.expr.of) (enum_of r.expr.of)) l.
 abbrev pub choice_of : Context → ℕ → Valued → Valued → Valued → Checked Valued
 choice_of k at on l r =
     refused (is_unpacked l.expr.of || is_unpacked r.expr.of) (position k at) 504
-    (taking k at (on ∷ []) (in_context k on.first (chosen_type l r) (F.Choose on.expr l.expr r.expr) (λ w. l.too_wide w ++ r.too_wide w)))
+    (taking k at (on ∷ []) (in_context k on.begins (chosen_type l r) (F.Choose on.expr l.expr r.expr) (λ w. l.too_wide w ++ r.too_wide w)))
 
 -- Concatenations. A part is no number without a size (E501).
 abbrev pub is_part : Context → Valued → Checked Valued
@@ -215,4 +215,4 @@ inside_of k at v as' =
     (unless
     (at_all k.instance 502
     (v.too_wide (most (map (compared v) as')) ++ (over at (most (map (ordered v) as')) ++ flat_map (wide_in v) as')))
-    (by_itself k v.first one_bit (F.Inside v.expr (map choice as'))))
+    (by_itself k v.begins one_bit (F.Inside v.expr (map choice as'))))

@@ -48,7 +48,7 @@ is_default (Numbered n) = false
 
 -- The key of an item in a pattern of a type, if it stands for anything there.
 abbrev pub has_members : SvType → Bool
-has_members t = elim (out-SvType t) [ SvType-F.Struct id packed s ms ↦ true | other ↦ false ]
+has_members t = elim (out-SvType t) [ SvType-F.Struct id packed s ms ↦ true | SvType-F.Union id s ms ↦ true | other ↦ false ]
 
 abbrev pub key_of_number : Option ℤ → Option Key
 key_of_number None = None
@@ -63,7 +63,7 @@ named_key k at (Local n t) = Err (At (position k at) 406)
 named_key k at (Constant t v) = constant_key k (by_itself k at t (F.Constant v))
 named_key k at (TypeName t) = Err (At (position k at) 404)
 named_key k at (Interface n) = Err (At (position k at) 404)
-named_key k at (Other n) = Err Quiet
+named_key k at (Other n) = cond (k.stands n) (Err Quiet) (Err (At (position k at) 404))
 named_key k at Nothing = Ok None
 
 abbrev pub key_in : Context → SvType → ItemKey → Checked (Option Key)

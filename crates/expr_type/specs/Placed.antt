@@ -34,8 +34,10 @@ abbrev pub Ascend : ℕ → ℕ → List ℕ → Type 0
 Ascend low high [] = Unit {0}
 Ascend low high (at ∷ ats) = (low ≤ at) × (at < high) × Ascend (suc at) high ats
 
--- a typed expression of a part of a text: its first token and the operators in it stand there
+-- a typed expression of a part of a text: its first token, with parentheses and without, and the operators in it stand there
 pub record Stands (low high : ℕ) (v : Valued) : Type 0 where
+  pub begins : low ≤ v.begins
+  pub inner : v.begins ≤ v.first
   pub from : low ≤ v.first
   pub before : v.first < high
   pub operators : (w : ℕ) → Ascend low high (v.too_wide w)

@@ -1,6 +1,7 @@
 -- Statements as they are typed (IEEE 1800-2017 clauses 9.3, 10.4, 11.4.1, 11.4.2, 12.4 to 12.8, 13.3 and 13.5).
-use Rattle.std.specs.Prelude.{ℕ, Bool, true, false, ◌&&◌, ◌||◌, ◌==◌, not, cond, pos, List, [], ◌∷◌, ◌++◌, length, map, flat_map, Option, Some, None, Ok, Err}
+use Rattle.std.specs.Prelude.{ℕ, Bool, true, false, ◌&&◌, ◌||◌, ◌==◌, nat_lt, not, cond, pos, List, [], ◌∷◌, ◌++◌, length, map, flat_map, Option, Some, None, Ok, Err}
 use Rattle.std.specs.Option.{option_map}
+use Rattle.b4_core.specs.declared.bit.Bit4.TheVariants.{One}
 use Rattle.b4_core.specs.Vectors.{vec}
 use Rattle.sv_tree.specs.declared.declarations.Declarator.{Declarator}
 use Rattle.sv_tree.specs.declared.declarations.Initializer.{Initializer}
@@ -46,10 +47,10 @@ use Rattle.sv_types.specs.declared.types.SvType.{SvType}
 use Rattle.sv_types.specs.Layouts.{width_of}
 use Rattle.sv_types.specs.Meanings.{most}
 use Rattle.expr_type.specs.Breaks.{At, Quiet}
-use Rattle.expr_type.specs.Typings.{Checked, Typing, whole, broken, rule, by_functions, checked, both, both_by, all, all_of, where_whole, refused, unless, at_all}
-use Rattle.expr_type.specs.Shapes.{vector, is_assignable, is_plain_to_enum}
+use Rattle.expr_type.specs.Typings.{Checked, Typing, whole, broken, rule, by_functions, checked, both, both_by, all, all_of, joined, lesser, looked_at, where_whole, refused, unless, at_all}
+use Rattle.expr_type.specs.Shapes.{one_bit, vector, sign_of, is_assignable, is_plain_to_enum}
 use Rattle.expr_type.specs.Names.{Called, Context, LocalId, position, spot, with_values, with_types, with_locals, local_id}
-use Rattle.expr_type.specs.Operands.{constant_alone, constant_of, first_of, Operand, Plain, Pattern, Stream, Valued, given, passed, is_value, bits_in, width, value_by}
+use Rattle.expr_type.specs.Operands.{is_constant_value, constant_alone, constant_of, first_of, Operand, Plain, Pattern, Stream, Valued, given, no_stream, passed, unstreamed, is_value, bits_in, width, value_by}
 use Rattle.expr_type.specs.Operators.{by_itself, expr_at, exprs, binary_of, not_too_long}
 use Rattle.expr_type.specs.Forms.{cast_expr, needed}
 use Rattle.expr_type.specs.Expressions as E
@@ -182,7 +183,7 @@ abbrev pub param_value : Context → ℕ → SvType → List Function → Expr �
 param_value k at t fs e = Ok (record { decl = k.declared at; of = t; value = value_by fs t e })
 
 abbrev pub constant_value : Context → ℕ → Option SvType → Operand → List Function → Checked ParamValue
-constant_value k at None o fs = where_whole (is_value k o) (λ v. where_whole (constant_alone k v fs) (param_value k at v.expr.of fs))
+constant_value k at None o fs = where_whole (is_constant_value k o) (λ v. where_whole (constant_alone k v fs) (param_value k at v.expr.of fs))
 constant_value k at (Some t) o fs = where_whole (constant_of k t o fs) (param_value k at t fs)
 
 abbrev pub constant : Context → ℕ → Option SvType → Option Initializer → Typing Declared
@@ -335,33 +336,57 @@ case_kind (K.Case at) = Q.Plain
 case_kind (K.Casez at) = Q.Z
 case_kind (K.Casex at) = Q.X
 
-pub record CaseFound : Type 0 where
+pub record CaseItem : Type 0 where
   pub is_default : Bool
   pub values : List Valued
   pub body : R.Stmt
 
+-- an item as it is found: its values make others wider also where a statement is broken
+pub record CaseFound : Type 0 where
+  pub is_default : Bool
+  pub values : Checked (List Valued)
+  pub body : Checked R.Stmt
+
 abbrev pub CaseMeaning : Type 0
 CaseMeaning = Context → Typing CaseFound
 
-abbrev pub all_values : List CaseFound → List Valued
-all_values cs = flat_map (λ (c : CaseFound). c.values) cs
+abbrev pub whole_item : CaseFound → Checked CaseItem
+whole_item c = where_whole (joined c.values c.body) (λ p. Ok (record { is_default = c.is_default; values = p.0; body = p.1 }))
 
-abbrev pub case_items : List CaseFound → List T.CaseItem
-case_items cs = flat_map (λ (c : CaseFound). cond c.is_default [] (record { values = exprs c.values; body = c.body } ∷ [])) cs
+abbrev pub case_items : List CaseItem → List T.CaseItem
+case_items cs = flat_map (λ (c : CaseItem). cond c.is_default [] (record { values = exprs c.values; body = c.body } ∷ [])) cs
 
-abbrev pub default_body : List CaseFound → Option R.Stmt
+abbrev pub default_body : List CaseItem → Option R.Stmt
 default_body [] = None
 default_body (c ∷ cs) = cond c.is_default (Some c.body) (default_body cs)
 
-abbrev pub case_stmt : Context → CaseKind → Valued → List CaseFound → Checked R.Stmt
-case_stmt k kind v cs =
-    let vs = v ∷ all_values cs in
-    let w = most (map width vs) in
-    unless (at_all k.instance 502 (flat_map (λ (u : Valued). u.too_wide w) vs)) (S.Case kind v.expr (case_items cs) (default_body cs))
+-- the operators in the selector and the values that are too wide, where all of these are whole
+abbrev pub in_widest : List Valued → List ℕ
+in_widest vs = let w = most (map width vs) in flat_map (λ (u : Valued). u.too_wide w) vs
 
--- Loops. The first value is converted to the variable's type.
+abbrev pub too_wide_in : Checked (Valued × List (List Valued)) → List ℕ
+too_wide_in (Ok p) = in_widest (p.0 ∷ flat_map (λ vs. vs) p.1)
+too_wide_in (Err b) = []
+
+abbrev pub case_stmt : Context → CaseKind → Checked Valued → List CaseFound → Checked R.Stmt
+case_stmt k kind on cs =
+    let values = joined on (all_of (map (λ (c : CaseFound). c.values) cs)) in
+    where_whole
+    (lesser (joined on (all_of (map whole_item cs))) (unless (at_all k.instance 502 (too_wide_in values)) kind))
+    (λ p. Ok (S.Case kind p.0.0.expr (case_items p.0.1) (default_body p.0.1)))
+
+-- Loops. The first value is converted to the variable's type. A cast values its inside alone, so what is given to a wider variable
+-- has its width from a `?:`, of which it is the arm that is always taken.
+abbrev pub always : Context → ℕ → Expr
+always k at = expr_at k at one_bit (F.Literal (One ∷ []) false)
+
+abbrev pub widened : Context → ℕ → ℕ → Expr → Expr
+widened k at w e =
+    let t = vector w (sign_of e.of) in
+    cond (nat_lt (width_of e.of) w) (expr_at k at t (F.Choose (always k at) e (expr_at k at t (F.Literal (vec w (pos 0)) false)))) e
+
 abbrev pub loop_first : Context → SvType → Operand → Checked Expr
-loop_first k t (Plain v) = where_whole (passed k t (Plain v)) (λ e. Ok (cast_expr k v.first t e).expr)
+loop_first k t (Plain v) = where_whole (passed k t (Plain v)) (λ e. Ok (cast_expr k v.first t (widened k v.first (width_of t) e)).expr)
 loop_first k t (Pattern tick of) = where_whole (of tick t) (λ e. Ok (cast_expr k tick t e).expr)
 loop_first k t (Stream v) = passed k t (Stream v)
 
@@ -386,11 +411,6 @@ abbrev pub loop_target : Context → ℕ → Typing Target
 loop_target k name = checked (named_target k true (simple_name name) []) (λ v. whole (ToPath v))
 
 -- what is assigned behind each turn; no stream stands there
-abbrev pub no_stream : Context → Operand → Checked Operand
-no_stream k (Plain v) = Ok (Plain v)
-no_stream k (Pattern tick of) = Ok (Pattern tick of)
-no_stream k (Stream v) = Err (At (position k v.first) 512)
-
 abbrev pub step_value : Context → ℕ → AssignmentOperator → Target → Operand → Checked Expr
 step_value k at op t o = where_whole (no_stream k o) (λ p. where_whole (combined k at (operator_of op) t p) (assigned k t))
 
@@ -422,7 +442,7 @@ pub record Actual : Type 0 where
   pub target : Option Valued
 
 abbrev pub as_value : Context → Meaning → Typing Actual
-as_value k e = checked (e.typed k) (λ o. whole (record { value = Some o; target = None }))
+as_value k e = checked (unstreamed k (e.typed k)) (λ o. whole (record { value = Some o; target = None }))
 
 -- what isn't in the form of a target is looked at as a value, and broken at its first token
 abbrev pub as_target : Context → Meaning → Typing Actual
@@ -492,9 +512,9 @@ item_step (BlockItem-F.NamedVariables of ss ds semicolon) k = checked (variables
 
 abbrev pub case_step : CaseItem-F PartMeaning CaseMeaning StmtMeaning StmtMeaning → CaseMeaning
 case_step (CaseItem-F.Values es colon body) k =
-    both (all (map (condition k) es)) (body k) (λ vs s. whole (record { is_default = false; values = vs; body = s }))
+    both (looked_at (all (map (condition k) es))) (looked_at (body k)) (λ vs s. whole (record { is_default = false; values = vs; body = s }))
 case_step (CaseItem-F.Default keyword colon body) k =
-    checked (body k) (λ s. whole (record { is_default = true; values = []; body = s }))
+    checked (looked_at (body k)) (λ s. whole (record { is_default = true; values = Ok []; body = s }))
 
 abbrev pub else_step : Else-F PartMeaning CaseMeaning StmtMeaning StmtMeaning → StmtMeaning
 else_step e = e.body
@@ -508,7 +528,7 @@ stmt_step (Stmt-F.Block begin label items end end_label) k = block k items
 stmt_step (Stmt-F.If promise keyword opening test closing body other) k =
     both (condition k test) (both (body k) (else_if k other) branches) (λ v b. whole (S.If v.expr b.body b.other))
 stmt_step (Stmt-F.Case promise keyword opening sought closing items end) k =
-    both (condition k sought) (all (map (λ (c : CaseMeaning). c k) items)) (λ v cs. rule (case_stmt k (case_kind keyword) v cs))
+    both (looked_at (condition k sought)) (all (map (λ (c : CaseMeaning). c k) items)) (λ v cs. rule (case_stmt k (case_kind keyword) v cs))
 stmt_step (Stmt-F.For keyword opening first first_semicolon test test_semicolon step closing body) k =
     both_by (loop_variable k first)
     (λ o. let inner = in_loop k o in

@@ -1,5 +1,5 @@
 -- Names that are assigned to (IEEE 1800-2017 clauses 10.3, 10.4 and 25.5).
-use Rattle.std.specs.Prelude.{ℕ, Bool, false, ◌&&◌, List, [], ◌∷◌, Option, Some, None, Ok, Err}
+use Rattle.std.specs.Prelude.{ℕ, Bool, true, false, ◌&&◌, cond, List, [], ◌∷◌, Option, Some, None, Ok, Err}
 use Rattle.sv_tree.specs.declared.names.QualifiedName.{QualifiedName}
 use Rattle.sv_tree.specs.Extents.{qualified_first}
 use Rattle.sv_types.specs.declared.expression.Form.TheVariants as F
@@ -44,6 +44,24 @@ thing_target k in_statement first net ss Nothing = broken Quiet
 
 abbrev pub named_target : Context → Bool → QualifiedName → List SelectMeaning → Typing Valued
 named_target k in_statement of ss = thing_target k in_statement (qualified_first of) (is_net_found k (k.finds of)) ss (thing k of)
+
+-- an actual of an output: no net, of an interface either, can be assigned there (E501)
+abbrev pub is_net_of : Context → ℕ → List SelectMeaning → Bool
+is_net_of k n [] = false
+is_net_of k n (s ∷ ss) = elim s.member [ None ↦ false | Some at ↦ k.is_net_member n (word k at) ]
+
+abbrev pub is_net_thing : Context → List SelectMeaning → Thing → Bool
+is_net_thing k ss (Signal n t) = false
+is_net_thing k ss (Local n t) = false
+is_net_thing k ss (Constant t v) = false
+is_net_thing k ss (TypeName t) = false
+is_net_thing k ss (Interface n) = is_net_of k n ss
+is_net_thing k ss (Other n) = false
+is_net_thing k ss Nothing = false
+
+abbrev pub actual_target : Context → QualifiedName → List SelectMeaning → Typing Valued
+actual_target k of ss =
+    cond (is_net_thing k ss (thing k of)) (broken (At (position k (qualified_first of)) 501)) (named_target k true of ss)
 
 -- a part of a concatenated target has bits (E508)
 abbrev pub is_packed_target : Context → Valued → Checked Valued

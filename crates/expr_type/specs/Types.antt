@@ -28,7 +28,8 @@ use Rattle.expr_type.specs.Breaks.{Quiet}
 use Rattle.expr_type.specs.Typings.{Checked, Typing, whole, broken, rule, by_functions, checked, both, both_by, all, refused}
 use Rattle.expr_type.specs.Shapes.{sign_of, is_unpacked}
 use Rattle.expr_type.specs.Names.{Context, position, thing, word, with_values}
-use Rattle.expr_type.specs.Operands.{value, is_number_in}
+use Rattle.expr_type.specs.Operands.{constant_in, is_number_in}
+use Rattle.expr_type.specs.Operators.{not_too_long}
 use Rattle.expr_type.specs.KeywordTypes.{Dim, keyword_type, implicit_type, unpacked}
 use Rattle.expr_type.specs.Forms.{dimensioned, type_of_thing}
 use Rattle.expr_type.specs.Expressions.{dimension_meaning, operand}
@@ -52,7 +53,7 @@ found_type (Some t) = whole t
 abbrev pub named_with : Context → QualifiedName → List Dimension → Typing SvType
 named_with k of ds = both (found_type (type_of_thing (thing k of))) (dims k ds) (λ t d. dimensioned k t (whole d))
 
--- Enums. Values are distinct and fit the base; one that isn't written is one more than that before it, the first 0.
+-- Enums. Names are constants (E701). Values are distinct and fit the base; one that isn't written is one more than that before it, the first 0.
 abbrev pub int_type : SvType
 int_type = PackedArray (pos 31) (pos 0) true (Scalar false false)
 
@@ -81,7 +82,7 @@ written_value k base at before None =
     let n = next_value before in
     rule (refused (not (int_le (least_value base) n && int_le n (most_value base))) (position k at) 411 (Ok n))
 written_value k base at before (Some i) =
-    checked (value k (operand k i.value))
+    checked (constant_in k (operand k i.value))
     (λ v. checked (by_functions (is_number_in k (least_value base) (most_value base) v)) (λ n. whole n.number))
 
 abbrev pub is_taken : List NameValue → ℤ → Bool
@@ -90,7 +91,7 @@ is_taken vs n = list_any (λ (v : NameValue). int_eq v.number n) vs
 abbrev pub name_value : Context → SvType → List NameValue → Option ℤ → W.EnumName → Typing NameValue
 name_value k base before last n =
     checked (written_value k base n.name last n.value)
-    (λ m. rule (refused (is_taken before m) (position k n.name) 509 (Ok (record { at = n.name; number = m }))))
+    (λ m. rule (refused (is_taken before m) (position k n.name) 509 (not_too_long k n.name (width_of base) (Ok (record { at = n.name; number = m })))))
 
 -- inside the enum a name has the base's type; one that isn't written hangs on the one before it
 abbrev pub value_in : Context → SvType → NameValue → ParamValue

@@ -100,6 +100,10 @@ abbrev pub maybe : {A : Type 0} → Option (Typing A) → Typing (Option A)
 maybe None = whole None
 maybe (Some x) = checked x (λ a. whole (Some a))
 
+-- a part and its breaks, for a rule that doesn't need all parts to be whole
+abbrev pub looked_at : {A : Type 0} → Typing A → Typing (Checked A)
+looked_at x fs = let r = x fs in record { result = Ok r.result; functions = r.functions }
+
 -- what is first looked at from a token
 abbrev pub put_behind : {A : Type 0} → Position → Checked A → Checked A
 put_behind p (Ok a) = Ok a
