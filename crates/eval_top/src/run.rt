@@ -44,11 +44,7 @@ fn refuse_stage(alloc: Global, path: Text) -> Result<Text, Stop>
 }
 
 /// The lines of a run, by the language of its files.
-fn run_files<F: Files>(
-    alloc: Global,
-    run: &EvalRun,
-    files: &mut F,
-) -> Result<Text, Stop>
+fn run_files<F: Files>(alloc: Global, run: &EvalRun, files: &mut F) -> Result<Text, Stop>
     ensures gives { LanguageGives run.now.language run.now (F.contents files.old) (F.faults files.old) (F.faults files.new) result }
     ensures later { F.faults files.old ≤ F.faults files.new }
     ensures level { IfOk result (λ _. F.faults files.new ≡ F.faults files.old) }
@@ -60,11 +56,7 @@ fn run_files<F: Files>(
 }
 
 /// The lines that the words ask for.
-fn run_asked<F: Files>(
-    alloc: Global,
-    asked: &EvalWords,
-    files: &mut F,
-) -> Result<Text, Stop>
+fn run_asked<F: Files>(alloc: Global, asked: &EvalWords, files: &mut F) -> Result<Text, Stop>
     ensures gives { AskedGives asked.now (F.contents files.old) (F.faults files.old) (F.faults files.new) result }
     ensures later { F.faults files.old ≤ F.faults files.new }
     ensures level { IfOk result (λ _. F.faults files.new ≡ F.faults files.old) }
@@ -76,11 +68,7 @@ fn run_asked<F: Files>(
 }
 
 /// The lines that the words ask for.
-pub fn run<F: Files>(
-    alloc: Global,
-    words: &[String],
-    files: &mut F,
-) -> Result<Text, Stop>
+pub fn run<F: Files>(alloc: Global, words: &[String], files: &mut F) -> Result<Text, Stop>
     ensures gives { CallGives (map string_bytes words.now) (F.contents files.old) (F.faults files.old) (F.faults files.new) result }
     ensures later { F.faults files.old ≤ F.faults files.new }
     ensures level { IfOk result (λ _. F.faults files.new ≡ F.faults files.old) }

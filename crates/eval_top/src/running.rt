@@ -58,12 +58,7 @@ fn stop_of(alloc: Global, fail: RunFail) -> Result<Stop, AllocError>
 }
 
 // The trace of rows.
-fn trace_of(
-    alloc: Global,
-    design: &VDesign,
-    top: &Text,
-    rows: &Rows,
-) -> Result<Trace, Stop>
+fn trace_of(alloc: Global, design: &VDesign, top: &Text, rows: &Rows) -> Result<Trace, Stop>
     requires keeps { Keeps design.now }
     requires fits { FitsTop design.now top.now }
     requires selects { few_of_design design.now ≡ true }
@@ -131,11 +126,7 @@ fn run_design<F: Files>(
 }
 
 /// The lines of a run of a text: it is loaded, read and checked, and then its row file.
-pub fn run_text<F: Files>(
-    alloc: Global,
-    run: &EvalRun,
-    files: &mut F,
-) -> Result<Text, Stop>
+pub fn run_text<F: Files>(alloc: Global, run: &EvalRun, files: &mut F) -> Result<Text, Stop>
     ensures gives { TextGives run.now (F.contents files.old) (F.faults files.old) (F.faults files.new) result }
     ensures later { F.faults files.old ≤ F.faults files.new }
     ensures level { IfOk result (λ _. F.faults files.new ≡ F.faults files.old) }
