@@ -1,2 +1,6 @@
 pub mod Words
 pub mod Placing
+pub mod Helping
+pub mod Sees
+pub mod Selecting
+pub mod Stepping

@@ -121,8 +121,8 @@ pub fn copy_expr(alloc: Global, expr: &VExpr) -> Result<VExpr, AllocError>
             of: copy_prim(alloc, of)?,
         }),
         VExpr::Binary { op, left, right } => {
-            let left = copy_prim(alloc, left)?;
-            let right = copy_prim(alloc, right)?;
+            let left = copy_prim(alloc, left);
+            let (left, right) = pairs::both(left, copy_prim(alloc, right))?;
             Ok(VExpr::Binary {
                 op: *op,
                 left,
@@ -130,10 +130,11 @@ pub fn copy_expr(alloc: Global, expr: &VExpr) -> Result<VExpr, AllocError>
             })
         }
         VExpr::Choose { on, then, other } => {
-            let then = copy_prim(alloc, then)?;
-            let other = copy_prim(alloc, other)?;
+            let then = copy_prim(alloc, then);
+            let (then, other) = pairs::both(then, copy_prim(alloc, other))?;
             let arms = Arms { then, other };
-            let on = copy_prim(alloc, on)?;
+            let on = copy_prim(alloc, on);
+            let (on, arms) = pairs::both(on, Ok(arms))?;
             Ok(choice(on, arms))
         }
     }

@@ -1,12 +1,16 @@
 //! Select paths of the source as selects of the target: where the bits of a path stand in the vector that holds what the path
-//! stands on.
+//! stands on, and what reads them.
 #![tactic(auto)]
 
 mod copies;
 mod numbers;
 mod places;
 mod ranks;
+mod readings;
+mod steps;
 
 pub use copies::copy_expr;
 pub use places::Place;
 pub use ranks::{Rank, falling_rank, free_rank, guarded_rank};
+pub use readings::{Reading, Root, cut_name};
+pub use steps::{between_step, element_step, member_step, whole_name, whole_value};

@@ -34,11 +34,11 @@ fn digit_bits(alloc: Global, width: u32, n: u128) -> Result<Vec4, AllocError>
 
 /// A word whose lowest digits are those of a number in two's complement.
 #[tactic(auto, using(crate::proofs::Words::words))]
-fn low_word(width: u32, n: i64) -> u128
+fn low_word(width: u32, n: i128) -> u128
     requires { width ≤ 128 }
     ensures { digits width result ≡ vec width n }
 {
-    let magnitude = u128::from(n.unsigned_abs());
+    let magnitude = n.unsigned_abs();
     if n < 0 {
         magnitude.wrapping_neg()
     } else {
@@ -56,7 +56,7 @@ pub fn number(alloc: Global, width: u32, n: u32) -> Result<VExpr, AllocError>
 }
 
 /// A signed number of so many bits, at most 128.
-pub fn bound(alloc: Global, width: u32, n: i64) -> Result<VExpr, AllocError>
+pub fn bound(alloc: Global, width: u32, n: i128) -> Result<VExpr, AllocError>
     requires { width ≤ 128 }
     ensures { IfOk result (λ e. meaning e ≡ terms.bound width n) }
 {

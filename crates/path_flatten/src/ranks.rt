@@ -26,7 +26,7 @@ pub struct Rank {
 }
 
 /// An expression in braces, which is unsigned and valued alone.
-fn braced(alloc: Global, e: VExpr) -> Result<VExpr, AllocError>
+pub(crate) fn braced(alloc: Global, e: VExpr) -> Result<VExpr, AllocError>
     ensures { IfOk result (λ b. meaning b ≡ terms.braced (meaning e)) }
 {
     let mut items: VExprs = Items::from_vec(Vec::new(alloc));
@@ -54,8 +54,8 @@ fn compared(
     requires { width ≤ 128 }
     ensures { IfOk result (λ e. meaning e ≡ means.order op (means.signing true (meaning index.now)) (terms.bound width n)) }
 {
-    let left = signed_copy(alloc, index)?;
-    let right = bound(alloc, width, n)?;
+    let left = signed_copy(alloc, index);
+    let (left, right) = pairs::both(left, bound(alloc, width, i128::from(n)))?;
     let made = order(alloc, op, left, right)?;
     Ok(made)
 }
@@ -71,8 +71,9 @@ fn between(
     requires { width ≤ 128 }
     ensures { IfOk result (λ e. meaning e ≡ terms.between (means.signing true (meaning index.now)) width low high) }
 {
-    let above = compared(alloc, OrdOp::GreaterEqual, index, width, low)?;
-    let below = compared(alloc, OrdOp::LessEqual, index, width, high)?;
+    let above = compared(alloc, OrdOp::GreaterEqual, index, width, low);
+    let below = compared(alloc, OrdOp::LessEqual, index, width, high);
+    let (above, below) = pairs::both(above, below)?;
     let made = both(alloc, above, below)?;
     Ok(made)
 }
@@ -82,8 +83,8 @@ fn above(alloc: Global, index: &VExpr, width: u32, n: i64) -> Result<VExpr, Allo
     requires { width ≤ 128 }
     ensures { IfOk result (λ e. meaning e ≡ terms.above (means.signing true (meaning index.now)) width n) }
 {
-    let left = signed_copy(alloc, index)?;
-    let right = bound(alloc, width, n)?;
+    let left = signed_copy(alloc, index);
+    let (left, right) = pairs::both(left, bound(alloc, width, i128::from(n)))?;
     let difference = binary(alloc, BinOp::Sub, left, right)?;
     braced(alloc, difference)
 }
@@ -100,8 +101,8 @@ fn braced_copy(alloc: Global, index: &VExpr) -> Result<VExpr, AllocError>
 fn at_most(alloc: Global, index: &VExpr, width: u32, last: u32) -> Result<VExpr, AllocError>
     ensures { IfOk result (λ e. meaning e ≡ terms.at_most (meaning index.now) width last) }
 {
-    let copy = copy_expr(alloc, index)?;
-    let limit = number(alloc, width, last)?;
+    let copy = copy_expr(alloc, index);
+    let (copy, limit) = pairs::both(copy, number(alloc, width, last))?;
     let made = order(alloc, OrdOp::LessEqual, copy, limit)?;
     Ok(made)
 }
