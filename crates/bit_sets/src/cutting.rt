@@ -7,7 +7,7 @@ use crate::span::{Span, Use, Uses};
 use std::alloc::{AllocError, Global};
 
 // The place of the first span that ends behind a number, or the length of the list.
-fn first_behind(set: &[Span], n: u128) -> usize
+pub fn first_behind(set: &[Span], n: u128) -> usize
     requires set { IsSet set.now }
     ensures within { result ≤ length set.now }
     ensures value { (k : ℕ) → n ≤ k → in_spans set.now k ≡ in_spans (drop result set.now) k }

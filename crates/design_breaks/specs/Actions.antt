@@ -31,6 +31,8 @@ pub record Actions : Type 0 where
   pub assigns : List Assignment
   pub passes : (ℕ → List Parameter) → List Passed
   pub said : Mentions
+  -- all signals and locals that are assigned or passed to an output, and the variables of its loops
+  pub targets : (ℕ → List Parameter) → List ℕ
   -- The loops that can't be unrolled, by what is known before: those whose bounds read more than constants and loop variables
   -- or whose variable is written in them, each looked at once whatever turns are made; and, turn by turn, those of too many
   -- turns and the bounds whose value takes too long, at their first tokens.
@@ -38,13 +40,14 @@ pub record Actions : Type 0 where
   pub overlong : (ℕ → List Parameter) → Sight → List ℕ
 
 abbrev pub saying : Mentions → Actions
-saying m = record { assigns = []; passes = λ fs. []; said = m; unbounded = λ fs k. []; overlong = λ fs k. [] }
+saying m = record { assigns = []; passes = λ fs. []; said = m; targets = λ fs. []; unbounded = λ fs k. []; overlong = λ fs k. [] }
 
 abbrev pub together : Mentions → List Actions → Actions
 together m as' = record {
   assigns = flat_map (λ (a : Actions). a.assigns) as';
   passes = λ fs. flat_map (λ (a : Actions). a.passes fs) as';
   said = both m (all (map (λ (a : Actions). a.said) as'));
+  targets = λ fs. flat_map (λ (a : Actions). a.targets fs) as';
   unbounded = λ fs k. flat_map (λ (a : Actions). a.unbounded fs k) as';
   overlong = λ fs k. flat_map (λ (a : Actions). a.overlong fs k) as';
 }
@@ -63,7 +66,10 @@ abbrev pub roots_of : List Expr → List ℕ
 roots_of es = flat_map (λ e. (meaning e).roots) es
 
 abbrev pub assigning : List Expr → Expr → Bool → ℕ → Actions
-assigning to value later at = record (saying (both (all_mentions to) (mentions value))) { assigns = record { at = at; later = later; to = roots_of to } ∷ [] }
+assigning to value later at = record (saying (both (all_mentions to) (mentions value))) {
+  assigns = record { at = at; later = later; to = roots_of to } ∷ [];
+  targets = λ fs. roots_of to;
+}
 
 abbrev pub is_out : Way → Bool
 is_out W.Input = false
@@ -78,11 +84,10 @@ passed_out (p ∷ ps) (e ∷ es) = cond (is_out p.way) (record { at = e.spot.at;
 abbrev pub calling : ℕ → List Expr → Actions
 calling f actuals =
     let m = all_mentions actuals in
-    record (saying (record m { calls = f ∷ m.calls })) { passes = λ fs. passed_out (fs f) actuals }
-
--- all signals and locals that are assigned or passed to an output
-abbrev pub targets : Actions → (ℕ → List Parameter) → List ℕ
-targets a fs = flat_map (λ (b : Assignment). b.to) a.assigns ++ flat_map (λ (p : Passed). p.to) (a.passes fs)
+    record (saying (record m { calls = f ∷ m.calls })) {
+      passes = λ fs. passed_out (fs f) actuals;
+      targets = λ fs. flat_map (λ (p : Passed). p.to) (passed_out (fs f) actuals);
+    }
 
 -- a loop: its `for`, its variable, and its control
 pub record Control : Type 0 where
@@ -103,7 +108,7 @@ stepped c k = knowing c.variable c.first.of.two_state (assigned_to c.first.of.tw
 abbrev pub is_counted : Control → Actions → (ℕ → List Parameter) → Sight → Bool
 is_counted c body fs k =
     (c.first.constant k && (c.test.constant (entered c k) && c.step.constant (entered c k)))
-    && not (list_any (λ (m : ℕ). m == local_number c.variable) (targets body fs))
+    && not (list_any (λ (m : ℕ). m == local_number c.variable) (body.targets fs))
 
 abbrev pub unbounded_in : Control → Actions → (ℕ → List Parameter) → Sight → List ℕ
 unbounded_in c body fs k = cond (is_counted c body fs k) [] (c.at ∷ []) ++ body.unbounded fs (entered c k)
@@ -124,7 +129,11 @@ overlong_in c body fs k =
     cond (is_counted c body fs k) (takes_too_long c.first k ++ in_turns most_turns c (body.overlong fs) (entered c k)) []
 
 abbrev pub looping : Control → Mentions → Actions → Actions
-looping c control body = record (together control (body ∷ [])) { unbounded = unbounded_in c body; overlong = overlong_in c body }
+looping c control body = record (together control (body ∷ [])) {
+  targets = λ fs. local_number c.variable ∷ body.targets fs;
+  unbounded = unbounded_in c body;
+  overlong = overlong_in c body;
+}
 
 abbrev pub item_step : CaseItem-F Actions Actions → Actions
 item_step i = together (all_mentions i.values) (i.body ∷ [])

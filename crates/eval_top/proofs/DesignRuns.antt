@@ -13,11 +13,11 @@ use Rattle.v_meaning.specs.Modules.{Signal, Kind, input_net, net, variable, sign
 use Rattle.v_meaning.specs.Machine.{machine, is_input}
 use Rattle.stim_rows.specs.declared.shape.Port.{Port}
 use Rattle.text_shape.specs.Shapes as shapes
-use Rattle.eval_top.specs.Designs as designs
-use Rattle.eval_top.specs.Designs.{widths_of}
-use Rattle.eval_top.specs.declared.runner.RunFail.{RunFail}
-use Rattle.eval_top.specs.declared.runner.RunFail.TheVariants.{Memory, Unsettled}
-use Rattle.eval_top.specs.Running.{inputs_of, HasTrace}
+use Rattle.cycle_dst.specs.Designs as designs
+use Rattle.cycle_dst.specs.Designs.{widths_of}
+use Rattle.cycle_dst.specs.declared.fails.RunFail.{RunFail}
+use Rattle.cycle_dst.specs.declared.fails.RunFail.TheVariants.{Memory, Unsettled}
+use Rattle.eval_top.specs.Running.{inputs_of, HasTrace, shown}
 use Rattle.eval_top.specs.Parts.{stop_of, TraceGives}
 use Rattle.eval_top.proofs.Fitting.{items-same}
 
@@ -66,5 +66,5 @@ fails-at e top rows (Unsettled row name old new) g = record {
   behind = refl;
   change = g.change;
   unsettled = subst (λ (ns : List ℕ). IsUnsettled (machine e top) (widths_of e top) ns rows row g.change) (sym (same-inputs e top)) g.unsettled;
-  is_name = g.is_name;
+  is_name = ap shown g.is_name;
 }

@@ -26,7 +26,7 @@ use Rattle.stim_rows.specs.declared.shape.Port.{Port}
 use Rattle.stim_rows.specs.RowFiles.{BitFits, RowFits, RowsText}
 use Rattle.text_shape.specs.Shapes as shapes
 use Rattle.text_shape.specs.Shapes.{shape_of}
-use Rattle.eval_top.specs.Designs.{widths_of}
+use Rattle.cycle_dst.specs.Designs.{widths_of}
 use Rattle.eval_top.specs.Running.{inputs_of}
 
 -- an input has no words

@@ -7,8 +7,8 @@ use Rattle.v_meaning.specs.Modules.{parts}
 use Rattle.v_meaning.specs.Machine.{machine, of_signal}
 use Rattle.stim_rows.specs.declared.shape.Port.{Port}
 use Rattle.stim_rows.specs.Lines.{lines_of}
-use Rattle.eval_top.specs.Designs.{widths_of}
-use Rattle.eval_top.specs.Running.{inputs_of, LinesOf, Unsettles}
+use Rattle.cycle_dst.specs.Designs.{widths_of}
+use Rattle.eval_top.specs.Running.{inputs_of, LinesOf, Unsettles, shown}
 use Rattle.eval_top.proofs.OneRun.{one-trace, trace-settles, one-failure}
 
 module _ (e : VDesign) (top : Name) where
@@ -25,5 +25,5 @@ module _ (e : VDesign) (top : Name) where
   one-unsettled rows row other name other-name a b =
       let one = one-failure (machine e top) (widths_of e top) (inputs_of e top) rows a.before b.before a.change b.change a.unsettled b.unsettled in (
         a.behind ∙ ap (λ k. k + 1) one.0 ∙ sym b.behind,
-        a.is_name ∙ ap (of_signal (parts e.modules top).signals [] (λ s. s.name)) one.1 ∙ sym b.is_name,
+        a.is_name ∙ ap (λ n. shown (of_signal (parts e.modules top).signals [] (λ s. s.name) n)) one.1 ∙ sym b.is_name,
       )

@@ -1,4 +1,3 @@
-pub mod Designs
 pub mod Asking
 pub mod Loading
 pub mod Running

@@ -12,13 +12,13 @@ use Rattle.v_tree.specs.Rules.{FitsTop}
 use Rattle.stim_rows.specs.declared.shape.Shape.{Shape}
 use Rattle.stim_rows.specs.RowFiles.{RowsText}
 use Rattle.stim_rows.specs.Departures.{RowsBreak, row_limit}
-use Rattle.eval_top.specs.declared.runner.RunFail.{RunFail}
-use Rattle.eval_top.specs.declared.runner.RunFail.TheVariants.{Memory, Unsettled}
+use Rattle.cycle_dst.specs.declared.fails.RunFail.{RunFail}
+use Rattle.cycle_dst.specs.declared.fails.RunFail.TheVariants.{Memory, Unsettled}
 use Rattle.eval_top.specs.declared.run.Stop.{Stop}
 use Rattle.eval_top.specs.declared.run.Stop.TheVariants as S
 use Rattle.eval_top.specs.Asking.{refusal_at}
 use Rattle.eval_top.specs.Loading.{MayLoad, Unloaded, Unread}
-use Rattle.eval_top.specs.Running.{HasTrace, LinesOf, Unsettles}
+use Rattle.eval_top.specs.Running.{HasTrace, LinesOf, Unsettles, shown}
 
 -- the bytes of a file
 abbrev pub FileGives : List ℕ → ℕ → ℕ → Option Contents → ℕ → ℕ → Result Text Stop → Type 0
@@ -59,7 +59,7 @@ RowFileGives path shape bytes (Err (S.Unsettled row name)) = ⊥
 -- the trace of rows, and why there is none
 abbrev pub stop_of : RunFail → Stop
 stop_of Memory = S.Memory
-stop_of (Unsettled row name old new) = S.Unsettled (row + 1) name
+stop_of (Unsettled row name old new) = S.Unsettled (row + 1) (shown name)
 
 abbrev pub TraceGives : VDesign → Name → List (List (List Bit4)) → Result (List (List (List Bit4))) Stop → Type 0
 TraceGives e top rows (Ok trace) = HasTrace e top rows trace

@@ -1,11 +1,12 @@
 -- What a run of a text over rows comes to.
-use Rattle.std.specs.Prelude.{◌≡◌, ℕ, ◌+◌, List, [], map, Option}
+use Rattle.std.specs.Prelude.{◌≡◌, ℕ, ◌+◌, List, [], ◌∷◌, map, Option, if◌then◌else◌}
 use Rattle.sv_source.specs.Loading.{Contents}
 use Rattle.sv_source.specs.Faults.{Rose}
 use Rattle.sv_source.specs.declared.refusal.Refusal.{Refusal}
 use Rattle.b4_core.specs.declared.bit.Bit4.{Bit4}
 use Rattle.eval_words.specs.declared.words.EvalRun.{EvalRun}
 use Rattle.v_tree.specs.Names.{Name}
+use Rattle.v_tree.specs.Tokens.{is_simple}
 use Rattle.v_tree.specs.declared.items.VDesign.{VDesign}
 use Rattle.text_shape.specs.Shapes.{shape_of}
 use Rattle.stim_rows.specs.declared.shape.Port.{Port}
@@ -14,7 +15,7 @@ use Rattle.round_runner.specs.declared.rounds.Change.{Change}
 use Rattle.round_runner.specs.Rows.{IsTrace, IsUnsettled}
 use Rattle.v_meaning.specs.Modules.{Signal, parts}
 use Rattle.v_meaning.specs.Machine.{machine, of_signal}
-use Rattle.eval_top.specs.Designs.{widths_of}
+use Rattle.cycle_dst.specs.Designs.{widths_of}
 use Rattle.eval_top.specs.Asking.{first_path}
 use Rattle.eval_top.specs.Loading.{HasText, TextBreak, HasRows, RowFileBreak}
 
@@ -32,6 +33,10 @@ pub record LinesOf (e : VDesign) (top : Name) (outputs : List Port) (rows : List
   pub is_trace : HasTrace e top rows trace
   pub are : lines ≡ lines_of outputs trace
 
+-- a name as it is shown: one that isn't simple has the backslash of an escaped identifier in front
+abbrev pub shown : Name → List ℕ
+shown name = if is_simple name then name else 92 ∷ name
+
 -- There is none: in the row with this number, from 1 on, a settling of the machine doesn't come to rest, and the first signal that
 -- the last of its rounds changed has this name.
 pub record Unsettles (e : VDesign) (top : Name) (rows : List (List (List Bit4))) (row : ℕ) (name : List ℕ) : Type 0 where
@@ -39,7 +44,7 @@ pub record Unsettles (e : VDesign) (top : Name) (rows : List (List (List Bit4)))
   pub behind : row ≡ before + 1
   pub change : Change
   pub unsettled : IsUnsettled (machine e top) (widths_of e top) (inputs_of e top) rows before change
-  pub is_name : name ≡ of_signal (parts e.modules top).signals [] (λ (s : Signal). s.name) change.signal
+  pub is_name : name ≡ shown (of_signal (parts e.modules top).signals [] (λ (s : Signal). s.name) change.signal)
 
 -- the text and the rows are there, and these are the lines
 pub record HasLines (run : EvalRun) (told : Option Contents) (lines : List ℕ) : Type 0 where

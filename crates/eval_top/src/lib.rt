@@ -5,9 +5,7 @@ mod asking;
 mod loading;
 mod main_call;
 mod run;
-mod runner;
 mod running;
 
 pub use endings::Status;
-pub use main_call::run_main;
-pub use runner::{RunFail, Runner};
+pub use main_call::eval_main;

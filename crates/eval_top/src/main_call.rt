@@ -10,7 +10,6 @@ ghost use Rattle.eval_top.specs.Endings.{Runs, line_of, status_of};
 ghost use Rattle.eval_top.specs.Promises.{OnDone, OnRefused, OnUsage, OnMemory, OnFileFault, OnSinkFault, OnUnsettled, UsageComes, StageComes, RefusalComes, RunComes, LinesCome, UnsettledComes};
 
 use crate::run::{Stop, run};
-use crate::runner::Runner;
 use endings::{Status, write_out};
 use std::alloc::Global;
 use std::string::String;
@@ -61,9 +60,8 @@ fn say<E: Sink>(stop: &Stop, err: &mut E) -> Status
 }
 
 /// The whole run: what the words and files give, and how it ends on the sinks.
-fn answer<R: Runner, F: Files, O: Sink, E: Sink>(
+fn answer<F: Files, O: Sink, E: Sink>(
     alloc: Global,
-    runner: &R,
     words: &[String],
     files: &mut F,
     out: &mut O,
@@ -77,22 +75,21 @@ fn answer<R: Runner, F: Files, O: Sink, E: Sink>(
     ensures err_level { LevelUnless SinkFault result (E.faults err.old) (E.faults err.new) }
     ensures files_level { result ≡ Done → F.faults files.new ≡ F.faults files.old }
 {
-    match run(alloc, runner, words, files) {
+    match run(alloc, words, files) {
         Ok(lines) => write_out(lines.as_bytes(), out, err),
         Err(stop) => say(&stop, err),
     }
 }
 
-/// The evaluator as a call, over what runs designs: reads the words `--lang v --top NAME ROWS FILE`, loads the target text FILE and
-/// the row file ROWS, lets `runner` run the design that the text reads as over the rows, with the module NAME as its top (IEEE
-/// 1364-2005), and puts a line for each row on `out`: the bits of each output in port order, most significant first, one space between outputs.
+/// The evaluator as a call: reads the words `--lang v --top NAME ROWS FILE`, loads the target text FILE and the row file ROWS,
+/// runs the design that the text reads as over the rows, with the module NAME as its top (IEEE 1364-2005), and puts a line for
+/// each row on `out`: the bits of each output in port order, most significant first, one space between outputs.
 ///
 /// Answers `Done` with all lines on `out`; `Refused`, `Usage`, `Memory`, `FileFault` or `Unsettled` with nothing on `out` and
 /// one line on `err`; `SinkFault` where a put failed, with a front of the lines on `out`. `--lang sv` and `--gen N` are refused with
 /// E999.
-pub fn run_main<R: Runner, F: Files, O: Sink, E: Sink>(
+pub fn eval_main<F: Files, O: Sink, E: Sink>(
     alloc: Global,
-    runner: &R,
     words: &[String],
     files: &mut F,
     out: &mut O,
@@ -133,5 +130,5 @@ pub fn run_main<R: Runner, F: Files, O: Sink, E: Sink>(
     // Where it answers `Done`, the count of the files is as it was.
     ensures files_level { result ≡ Done → F.faults files.new ≡ F.faults files.old }
 {
-    answer(alloc, runner, words, files, out, err)
+    answer(alloc, words, files, out, err)
 }

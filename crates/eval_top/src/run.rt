@@ -4,7 +4,6 @@ ghost use Rattle.std.specs.Prelude.{◌≡◌, ◌≤◌, map, string_bytes, IfO
 ghost use Rattle.eval_top.specs.Answers.{StageGives, LanguageGives, AskedGives, CallGives};
 
 use crate::asking::{STAGE, first_path, refusal_at};
-use crate::runner::Runner;
 use crate::running::run_text;
 use eval_words::{EvalRun, EvalWords, Language, read_eval_words};
 use std::alloc::{AllocError, Global};
@@ -45,52 +44,37 @@ fn refuse_stage(alloc: Global, path: Text) -> Result<Text, Stop>
 }
 
 /// The lines of a run, by the language of its files.
-fn run_files<R: Runner, F: Files>(
-    alloc: Global,
-    runner: &R,
-    run: &EvalRun,
-    files: &mut F,
-) -> Result<Text, Stop>
+fn run_files<F: Files>(alloc: Global, run: &EvalRun, files: &mut F) -> Result<Text, Stop>
     ensures gives { LanguageGives run.now.language run.now (F.contents files.old) (F.faults files.old) (F.faults files.new) result }
     ensures later { F.faults files.old ≤ F.faults files.new }
     ensures level { IfOk result (λ _. F.faults files.new ≡ F.faults files.old) }
 {
     match run.language {
         Language::Source => refuse_stage(alloc, first_path(alloc, run)?),
-        Language::Target => run_text(alloc, runner, run, files),
+        Language::Target => run_text(alloc, run, files),
     }
 }
 
 /// The lines that the words ask for.
-fn run_asked<R: Runner, F: Files>(
-    alloc: Global,
-    runner: &R,
-    asked: &EvalWords,
-    files: &mut F,
-) -> Result<Text, Stop>
+fn run_asked<F: Files>(alloc: Global, asked: &EvalWords, files: &mut F) -> Result<Text, Stop>
     ensures gives { AskedGives asked.now (F.contents files.old) (F.faults files.old) (F.faults files.new) result }
     ensures later { F.faults files.old ≤ F.faults files.new }
     ensures level { IfOk result (λ _. F.faults files.new ≡ F.faults files.old) }
 {
     match asked {
         EvalWords::Generate(_) => refuse_stage(alloc, Text::from_bytes(alloc, b"gen.sv")?),
-        EvalWords::Run(run) => run_files(alloc, runner, run, files),
+        EvalWords::Run(run) => run_files(alloc, run, files),
     }
 }
 
 /// The lines that the words ask for.
-pub fn run<R: Runner, F: Files>(
-    alloc: Global,
-    runner: &R,
-    words: &[String],
-    files: &mut F,
-) -> Result<Text, Stop>
+pub fn run<F: Files>(alloc: Global, words: &[String], files: &mut F) -> Result<Text, Stop>
     ensures gives { CallGives (map string_bytes words.now) (F.contents files.old) (F.faults files.old) (F.faults files.new) result }
     ensures later { F.faults files.old ≤ F.faults files.new }
     ensures level { IfOk result (λ _. F.faults files.new ≡ F.faults files.old) }
 {
     match read_eval_words(alloc, words)? {
         None => Err(Stop::Usage),
-        Some(asked) => run_asked(alloc, runner, &asked, files),
+        Some(asked) => run_asked(alloc, &asked, files),
     }
 }

@@ -20,7 +20,7 @@ or-right : (a b : Bool) → b ≡ true → (a || b) ≡ true
 or-right true b h = refl
 or-right false b h = h
 
-covered-left : (us vs : List Use) (q : Place) → covered us q ≡ true → covered (us ++ vs) q ≡ true
+pub covered-left : (us vs : List Use) (q : Place) → covered us q ≡ true → covered (us ++ vs) q ≡ true
 covered-left [] vs q h = absurd (false≢true h)
 covered-left (u ∷ us) vs q h = by (covers u q) h (covered-left us vs q)
   where
@@ -28,7 +28,7 @@ covered-left (u ∷ us) vs q h = by (covers u q) h (covered-left us vs q)
     by true g f = refl
     by false g f = f g
 
-covered-right : (us vs : List Use) (q : Place) → covered vs q ≡ true → covered (us ++ vs) q ≡ true
+pub covered-right : (us vs : List Use) (q : Place) → covered vs q ≡ true → covered (us ++ vs) q ≡ true
 covered-right [] vs q h = h
 covered-right (u ∷ us) vs q h = or-right (covers u q) (covered (us ++ vs) q) (covered-right us vs q h)
 

@@ -3,9 +3,16 @@ pub mod Selects
 pub mod Plain
 pub mod Hanging
 pub mod Placing
+pub mod Naming
 pub mod Running
 pub mod Branching
 pub mod Scopes
 pub mod Blocks
 pub mod Terms
+pub mod Levels
+pub mod Bounding
+pub mod Leaving
+pub mod Loops
+pub mod Early
 pub mod Conforming
+pub mod Machines

@@ -42,8 +42,7 @@ fn prefix(alloc: Global, op: VUnaryOp, e: VExpr) -> Result<VExpr, AllocError>
 fn infix(alloc: Global, op: VBinaryOp, left: VExpr, right: VExpr) -> Result<VExpr, AllocError>
     ensures { IfOk result (λ x. meaning x ≡ binary_meaning op (meaning left) (meaning right)) }
 {
-    let left = operand(alloc, left)?;
-    let right = operand(alloc, right)?;
+    let (left, right) = pairs::both(operand(alloc, left), operand(alloc, right))?;
     Ok(VExpr::Binary { op, left, right })
 }
 
@@ -152,8 +151,7 @@ fn both_arms(alloc: Global, then: VExpr, other: VExpr) -> Result<Arms, AllocErro
     ensures then { IfOk result (λ a. prim_meaning a.then ≡ meaning then) }
     ensures other { IfOk result (λ a. prim_meaning a.other ≡ meaning other) }
 {
-    let then = operand(alloc, then)?;
-    let other = operand(alloc, other)?;
+    let (then, other) = pairs::both(operand(alloc, then), operand(alloc, other))?;
     Ok(Arms { then, other })
 }
 
@@ -172,8 +170,7 @@ fn choice(on: VPrim, arms: Arms) -> VExpr
 pub fn choose(alloc: Global, on: VExpr, then: VExpr, other: VExpr) -> Result<VExpr, AllocError>
     ensures { IfOk result (λ x. meaning x ≡ means.choose (meaning on) (meaning then) (meaning other)) }
 {
-    let arms = both_arms(alloc, then, other)?;
-    let on = operand(alloc, on)?;
+    let (on, arms) = pairs::both(operand(alloc, on), both_arms(alloc, then, other))?;
     Ok(choice(on, arms))
 }
 

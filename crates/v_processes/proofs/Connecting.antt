@@ -1,7 +1,9 @@
 -- Expressions that outputs are connected to, form by form.
-use Rattle.std.proofs.Common.{◌≡◌, ℕ, suc, ◌<◌, Bool, List, [], ◌∷◌, ◌++◌, length, drop, get_or, map, Option, Some, None, refl, sym, ap, ◌∙◌, append_assoc}
+use Rattle.std.proofs.Common.{◌≡◌, ℕ, suc, ◌<◌, Bool, true, false, List, [], ◌∷◌, ◌++◌, length, drop, get_or, map, Option, Some, None, refl, sym, ap, ◌∙◌, append_assoc}
 use Rattle.std.proofs.Math.Seq.{drop-cons}
+use Rattle.std.specs.List.{list_all}
 use Rattle.std.proofs.lemmas.List.{append-nil, map_push}
+use Rattle.std.proofs.lemmas.List.Folds.{list_all-map}
 use Rattle.b4_core.specs.declared.bit.Bit4.{Bit4}
 use Rattle.v_tree.specs.Names.{Name}
 use Rattle.v_tree.specs.declared.expressions.VExpr.{VExpr}
@@ -20,7 +22,8 @@ use Rattle.v_footprints.proofs.Levels as K
 use Rattle.v_meaning.specs.Values.{expr_step, prim_step, sel_step, sel_meaning}
 use Rattle.v_meaning.specs.Statements.{target, lval_step, name_target, joined_target}
 use Rattle.v_meaning.specs.Modules.{all_some, over, connected_expr, connected_prim, connected_sel, as_target}
-use Rattle.v_processes.specs.Connected.{connected_of_prim, connected_of_sel, behind}
+use Rattle.v_processes.specs.Connected.{connected_of_prim, connected_of_sel, behind, if_some}
+use Rattle.v_processes.specs.Stems.{sel_decimal, is_decimal_sel, lval_decimal, is_decimal}
 
 -- selects
 pub decimal-is : (s : VSel) (base : ℕ) (extent : Option VExtent) → s ≡ S.Decimal base extent → over sel_meaning (Some (S.Decimal base extent)) ≡ connected_of_sel s
@@ -30,7 +33,10 @@ decimal-is s base extent is =
 pub moving-is : (s : VSel) (x : VExpr) (extent : Option VExtent) → s ≡ S.Expr x extent → None ≡ connected_of_sel s
 moving-is s x extent is = sym (ap connected_of_sel is ∙ L.at-moving connected_expr connected_prim connected_sel x extent)
 
-pub ruleset selects = (decimal-is, moving-is)
+pub decimal-base : (base : ℕ) (extent : Option VExtent) → if_some is_decimal_sel (Some (S.Decimal base extent)) ≡ true
+decimal-base base extent = L.at-decimal (λ e. false) (λ p. false) sel_decimal base extent
+
+pub ruleset selects = (decimal-is, moving-is, decimal-base)
 
 -- lists
 module _ {A B C : Type 0} (f : A → B) (g : C → Option B) where
@@ -108,7 +114,13 @@ pub concat-some : (p : VPrim) (xs : List VExpr) (made : List VLval) → p ≡ O.
 concat-some p xs made is some =
     ap Some (K.at-concat lval_step made) ∙ ap (over joined_target) some ∙ sym (ap connected_of_prim is ∙ L.at-concat connected_expr connected_prim connected_sel xs)
 
-pub ruleset operands = (number-none, paren-none, call-none, repeat-none, sign-none, name-none, name-some, concat-none, concat-some)
+pub name-decimal : (n : Name) (made : List VSel) → if_some (list_all is_decimal_sel) (Some made) ≡ true → if_some is_decimal (Some (G.Name n made)) ≡ true
+name-decimal n made h = K.at-name lval_decimal n made ∙ h
+
+pub concat-decimal : (made : List VLval) → if_some (list_all is_decimal) (Some made) ≡ true → if_some is_decimal (Some (G.Concat made)) ≡ true
+concat-decimal made h = K.at-concat lval_decimal made ∙ list_all-map (λ b. b) is_decimal made ∙ h
+
+pub ruleset operands = (name-decimal, concat-decimal, number-none, paren-none, call-none, repeat-none, sign-none, name-none, name-some, concat-none, concat-some)
 
 -- expressions
 pub prim-is : (e : VExpr) (a : VPrim) → e ≡ E.Prim a → connected_of_prim a ≡ as_target e

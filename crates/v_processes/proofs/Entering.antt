@@ -12,7 +12,8 @@ use Rattle.v_modules.specs.declared.table.Table.{Table}
 use Rattle.v_modules.specs.Tables.{items_of, items_in}
 use Rattle.v_processes.specs.Naming.{items_numbered}
 use Rattle.v_processes.specs.Processes.{items_at}
-use Rattle.v_processes.specs.Walks.{module_parts, child_parts}
+use Rattle.v_processes.specs.Stems.{Source, own_sources, sources_from}
+use Rattle.v_processes.specs.Walks.{module_parts, child_parts, module_sources, below_sources}
 use Rattle.v_processes.proofs.Named.{items-named}
 
 -- the parts of a level
@@ -46,6 +47,29 @@ pub module-level : (depth d : ℕ) (ms : List VModule) (n of : ℕ) (name : Name
     → module_parts d ms n (items_at ms of) ≡ parts_from depth ms n name
 module-level depth d ms n of name o e f g =
     ap (module_parts d ms n) (sym (ap (items_numbered ms) f) ∙ items-named ms name o g) ∙ sym (level depth d ms n name e)
+
+-- the same of the text that processes stem from
+source-level : (depth d : ℕ) (ms : List VModule) (n : ℕ) (name : Name) → depth ≡ suc d → sources_from depth ms n name ≡ module_sources d ms n (M.items_of ms name)
+unfolding sources_from
+source-level depth d ms n name e = ap (λ k. sources_from k ms n name) e
+
+source-none : (depth : ℕ) (ms : List VModule) (n : ℕ) (name : Name) → depth ≡ 0 → sources_from depth ms n name ≡ []
+unfolding sources_from
+source-none depth ms n name e = ap (λ k. sources_from k ms n name) e
+
+pub none-deep-sources : (depth : ℕ) (ms : List VModule) (n : ℕ) (name : Name) (old : List Source) → depth ≡ 0 → old ≡ old ++ sources_from depth ms n name
+none-deep-sources depth ms n name old e = sym (append-nil old) ∙ ap (λ l. old ++ l) (sym (source-none depth ms n name e))
+
+pub absent-sources : (depth d : ℕ) (ms : List VModule) (n : ℕ) (name : Name) (o : Option ℕ) (old : List Source) → depth ≡ suc d → o ≡ None → o ≡ numbers_from 0 ms no_numbers name
+    → old ≡ old ++ sources_from depth ms n name
+absent-sources depth d ms n name o old e f g =
+    sym (append-nil old)
+    ∙ sym (ap (λ l. old ++ l) (source-level depth d ms n name e ∙ ap (module_sources d ms n) (sym (items-named ms name o g) ∙ ap (items_numbered ms) f)))
+
+pub module-source-level : (depth d : ℕ) (ms : List VModule) (n of : ℕ) (name : Name) (o : Option ℕ) → depth ≡ suc d → o ≡ Some of → o ≡ numbers_from 0 ms no_numbers name
+    → module_sources d ms n (items_at ms of) ≡ sources_from depth ms n name
+module-source-level depth d ms n of name o e f g =
+    ap (module_sources d ms n) (sym (ap (items_numbered ms) f) ∙ items-named ms name o g) ∙ sym (source-level depth d ms n name e)
 
 -- tables and items by numbers
 pub table-items : (ts : List Table) (ms : List VModule) (k : ℕ) (t : Table) → map items_of ts ≡ map items_in ms → slice_get ts k ≡ Some t → items_of t ≡ items_at ms k
@@ -82,6 +106,16 @@ child-initials depth ms n (I.Instance x) is =
     let here = (parts_from depth ms n x.of).initials in
     ap (λ l. l ++ (child_parts depth ms (n + signal_count depth ms x.of) is).initials) (sym (append-nil here)) ∙ ap (λ k. (here ++ []) ++ (child_parts depth ms k is).initials) (omega arith)
 
+pub child-sources : (depth : ℕ) (ms : List VModule) (n : ℕ) (i : VItem) (is : List VItem)
+    → below_sources depth ms n (i ∷ is) ≡ below_sources depth ms n (i ∷ []) ++ below_sources depth ms (n + below (signal_count depth ms) (i ∷ [])) is
+child-sources depth ms n (I.Signal s) is = ap (λ k. below_sources depth ms k is) (omega arith)
+child-sources depth ms n (I.Initial x) is = ap (λ k. below_sources depth ms k is) (omega arith)
+child-sources depth ms n (I.Process p) is = ap (λ k. below_sources depth ms k is) (omega arith)
+child-sources depth ms n (I.Function f) is = ap (λ k. below_sources depth ms k is) (omega arith)
+child-sources depth ms n (I.Instance x) is =
+    let here = sources_from depth ms n x.of in
+    ap (λ l. l ++ below_sources depth ms (n + signal_count depth ms x.of) is) (sym (append-nil here)) ∙ ap (λ k. (here ++ []) ++ below_sources depth ms k is) (omega arith)
+
 -- a child's own
 pub child-alone : (depth : ℕ) (ms : List VModule) (n : ℕ) (name : Name) (old new : List Process) → new ≡ old ++ (parts_from depth ms n name).processes → new ≡ old ++ ((parts_from depth ms n name).processes ++ [])
 child-alone depth ms n name old new e = e ∙ ap (λ l. old ++ l) (sym (append-nil (parts_from depth ms n name).processes))
@@ -105,6 +139,15 @@ module-initials depth ms n first behind is items old own new e f g h k =
     own-then old own (M.initials (M.scope_of first is) is) new (child_parts depth ms behind items).initials h k
     ∙ (λ i. old ++ (M.initials (M.scope_of (e i) is) is ++ (child_parts depth ms (f i) (g i)).initials))
 
+pub all-sources : (depth : ℕ) (ms : List VModule) (n behind : ℕ) (is items : List VItem) (old own new : List Source) → behind ≡ n + length (signals is) → items ≡ is
+    → own ≡ old ++ own_sources ms (signal_count depth ms) is behind is → new ≡ own ++ below_sources depth ms behind items → new ≡ old ++ module_sources depth ms n is
+all-sources depth ms n behind is items old own new f g h k =
+    own-then old own (own_sources ms (signal_count depth ms) is behind is) new (below_sources depth ms behind items) h k
+    ∙ (λ i. old ++ (own_sources ms (signal_count depth ms) is (f i) is ++ below_sources depth ms (f i) (g i)))
+
+pub empty-sources : (depth : ℕ) (ms : List VModule) (n : ℕ) (is : List VItem) (old : List Source) → is ≡ [] → old ≡ old ++ module_sources depth ms n is
+empty-sources depth ms n is old e = sym (append-nil old) ∙ ap (λ l. old ++ module_sources depth ms n l) (sym e)
+
 pub empty-processes : (depth : ℕ) (ms : List VModule) (n : ℕ) (is : List VItem) (old : List Process) → is ≡ [] → old ≡ old ++ (module_parts depth ms n is).processes
 empty-processes depth ms n is old e = sym (append-nil old) ∙ ap (λ l. old ++ (module_parts depth ms n l).processes) (sym e)
 
@@ -115,4 +158,4 @@ empty-initials depth ms n is old e = sym (append-nil old) ∙ ap (λ l. old ++ (
 pub behind-is : (n behind len : ℕ) (inputs : List Bool) (ss : List M.Signal) (f : M.Signal → Bool) → inputs ≡ map f ss → len ≡ length inputs → behind ≡ n + len → behind ≡ n + length ss
 behind-is n behind len inputs ss f e l b = b ∙ ap (λ k. n + k) (l ∙ ap length e ∙ length-map ss f)
 
-pub ruleset entering = (none-deep, none-deep-initials, absent-module, absent-initials)
+pub ruleset entering = (none-deep, none-deep-initials, none-deep-sources, absent-module, absent-initials, absent-sources)

@@ -4,6 +4,7 @@ use Rattle.std.proofs.Math.Seq.{drop-cons}
 use Rattle.std.proofs.lemmas.List.{append-nil, map_push}
 use Rattle.v_tree.specs.declared.expressions.VExpr.{VExpr}
 use Rattle.v_tree.specs.declared.items.VConnection.{VConnection}
+use Rattle.v_tree.specs.declared.items.VItem.{VItem}
 use Rattle.v_tree.specs.declared.items.VModule.{VModule}
 use Rattle.v_meaning.specs.Scopes.{Named, Scope, all_bits, named}
 use Rattle.v_meaning.specs.Statements.{Target, target}
@@ -14,7 +15,8 @@ use Rattle.v_eval.specs.Names.{nameless}
 use Rattle.v_processes.specs.declared.process.Port.{Port}
 use Rattle.v_processes.specs.declared.process.Proc.{Proc}
 use Rattle.v_processes.specs.Processes.{port_named, process_at, processes_at}
-use Rattle.v_processes.specs.Connections.{connected}
+use Rattle.v_processes.specs.Connections.{connected, connected_source}
+use Rattle.v_processes.specs.Stems.{given, link_source, link_sources}
 
 pub numbered_alike : (k : ℕ) (n m : Named) → k ≡ n.number → n ≡ nameless m → k ≡ m.number
 numbered_alike k n m e f = e ∙ ap (λ (x : Named). x.number) f
@@ -82,3 +84,22 @@ drop-here xs i x h e = drop-cons xs i x h ∙ ap (λ y. y ∷ drop (suc i) xs) (
 -- a turn of a loop that adds what an item gives
 pub turn : {A : Type 0} (old new one rest more all : List A) → new ≡ old ++ one → more ≡ one ++ rest → old ++ more ≡ all → new ++ rest ≡ all
 turn old new one rest more all e f h = ap (λ l. l ++ rest) e ∙ append_assoc old one rest ∙ ap (λ l. old ++ l) (sym f) ∙ h
+
+-- where a connection stems from, by its kind
+link-by : (is : List VItem) (k : Kind) (n : Named) (e : VExpr) (p : Port) (b : Bool) → b ≡ is_input k → p.number ≡ n.number → p.bits ≡ all_bits n → connected_source b is p e ≡ link_source is k n e
+link-by is input_net n e p true i x y = λ j. record { items = is; stem = given (x j) (y j) e } ∷ []
+link-by is input_net n e p false i x y = absurd (cc)
+link-by is net n e p true i x y = absurd (cc)
+link-by is net n e p false i x y = refl
+link-by is variable n e p true i x y = absurd (cc)
+link-by is variable n e p false i x y = refl
+
+pub link-is : (is : List VItem) (n : ℕ) (ports : List Signal) (c : VConnection) (e : VExpr) (p : Port) (b : Bool) → c.value ≡ Some e → b ≡ is_input (kind_of ports c.port)
+    → p.number ≡ (named (numbered n ports) c.port).number → p.bits ≡ all_bits (named (numbered n ports) c.port) → connected_source b is p e ≡ link_sources is n ports (c ∷ [])
+link-is is n ports c e p b there i x y =
+    link-by is (kind_of ports c.port) (named (numbered n ports) c.port) e p b i x y
+    ∙ sym (append-nil (link_source is (kind_of ports c.port) (named (numbered n ports) c.port) e))
+    ∙ sym (ap (λ o. elim o [ None ↦ [] | Some x ↦ link_source is (kind_of ports c.port) (named (numbered n ports) c.port) x ] ++ []) there)
+
+pub links-cons : (is : List VItem) (n : ℕ) (ports : List Signal) (c : VConnection) (cs : List VConnection) → link_sources is n ports (c ∷ cs) ≡ link_sources is n ports (c ∷ []) ++ link_sources is n ports cs
+links-cons is n ports c cs = ap (λ l. l ++ link_sources is n ports cs) (sym (append-nil _))

@@ -1,5 +1,5 @@
 -- Expressions that outputs are connected to, as targets.
-use Rattle.std.specs.Prelude.{◌++◌, Option, List}
+use Rattle.std.specs.Prelude.{◌++◌, Bool, true, Option, Some, None, List}
 use Rattle.v_tree.specs.declared.expressions.VPrim.{VPrim, fold-VPrim}
 use Rattle.v_tree.specs.declared.expressions.VSel.{VSel, fold-VSel}
 use Rattle.v_meaning.specs.Selects.{SelMeaning}
@@ -16,3 +16,8 @@ connected_of_sel = fold-VSel (Option Target) (Option Target) (Option SelMeaning)
 -- these, and others behind them if there are such
 abbrev pub behind : {A : Type 0} → List A → Option (List A) → Option (List A)
 behind xs ys = over (λ rest. xs ++ rest) ys
+
+-- it holds of a thing, if there is one
+abbrev pub if_some : {A : Type 0} → (A → Bool) → Option A → Bool
+if_some f None = true
+if_some f (Some x) = f x

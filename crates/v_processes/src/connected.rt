@@ -1,10 +1,12 @@
 //! Expressions that outputs are connected to (IEEE 1364-2005 clause 12.3.9).
 
-ghost use Rattle.std.specs.Prelude.{◌≡◌, map, IfOk};
+ghost use Rattle.std.specs.Prelude.{◌≡◌, true, map, IfOk};
+ghost use Rattle.std.specs.List.{list_all};
 ghost use Rattle.v_meaning.specs.Modules.{as_target, all_some, over};
 ghost use Rattle.v_meaning.specs.Statements.{target};
 ghost use Rattle.v_meaning.specs.Values.{sel_meaning};
-ghost use Rattle.v_processes.specs.Connected.{connected_of_prim, connected_of_sel};
+ghost use Rattle.v_processes.specs.Connected.{connected_of_prim, connected_of_sel, if_some};
+ghost use Rattle.v_processes.specs.Stems.{is_decimal, is_decimal_sel};
 
 use std::alloc::{AllocError, Global};
 use v_tree::{VExpr, VLval, VLvals, VPrim, VSel, VSels};
@@ -12,7 +14,8 @@ use v_tree::{VExpr, VLval, VLvals, VPrim, VSel, VSels};
 // The same select, if its base is a decimal number.
 #[tactic(auto, using(crate::proofs::Connecting::selects))]
 fn sel_of(sel: &VSel) -> Option<VSel>
-    ensures { over sel_meaning result ≡ connected_of_sel sel.now }
+    ensures means { over sel_meaning result ≡ connected_of_sel sel.now }
+    ensures decimal { if_some is_decimal_sel result ≡ true }
 {
     match sel {
         VSel::Decimal { base, extent } => Some(VSel::Decimal {
@@ -25,7 +28,8 @@ fn sel_of(sel: &VSel) -> Option<VSel>
 
 // The same selects, if their bases are decimal numbers.
 fn sels_of(alloc: Global, sels: &[VSel]) -> Result<Option<VSels>, AllocError>
-    ensures { IfOk result (λ r. over (map sel_meaning) r ≡ all_some (map connected_of_sel sels.now)) }
+    ensures means { IfOk result (λ r. over (map sel_meaning) r ≡ all_some (map connected_of_sel sels.now)) }
+    ensures decimal { IfOk result (λ r. if_some (list_all is_decimal_sel) r ≡ true) }
 {
     let mut made = VSels::new(alloc);
     for sel in sels {
@@ -40,7 +44,8 @@ fn sels_of(alloc: Global, sels: &[VSel]) -> Result<Option<VSels>, AllocError>
 // Operands that are targets side by side.
 #[cycle(connected)]
 fn lvals_of(alloc: Global, items: &[VExpr]) -> Result<Option<VLvals>, AllocError>
-    ensures { IfOk result (λ r. over (map target) r ≡ all_some (map as_target items.now)) }
+    ensures means { IfOk result (λ r. over (map target) r ≡ all_some (map as_target items.now)) }
+    ensures decimal { IfOk result (λ r. if_some (list_all is_decimal) r ≡ true) }
 {
     let mut made = VLvals::new(alloc);
     for item in items {
@@ -56,7 +61,8 @@ fn lvals_of(alloc: Global, items: &[VExpr]) -> Result<Option<VLvals>, AllocError
 #[cycle(connected)]
 #[tactic(auto, using(crate::proofs::Connecting::operands))]
 fn prim_lval(alloc: Global, prim: &VPrim) -> Result<Option<VLval>, AllocError>
-    ensures { IfOk result (λ r. over target r ≡ connected_of_prim prim.now) }
+    ensures means { IfOk result (λ r. over target r ≡ connected_of_prim prim.now) }
+    ensures decimal { IfOk result (λ r. if_some is_decimal r ≡ true) }
 {
     match prim {
         VPrim::Number(_) => Ok(None),
@@ -86,7 +92,8 @@ fn prim_lval(alloc: Global, prim: &VPrim) -> Result<Option<VLval>, AllocError>
 #[cycle(connected)]
 #[tactic(auto, using(crate::proofs::Connecting::expressions))]
 pub fn lval_of(alloc: Global, e: &VExpr) -> Result<Option<VLval>, AllocError>
-    ensures { IfOk result (λ r. over target r ≡ as_target e.now) }
+    ensures means { IfOk result (λ r. over target r ≡ as_target e.now) }
+    ensures decimal { IfOk result (λ r. if_some is_decimal r ≡ true) }
 {
     match e {
         VExpr::Prim(a) => prim_lval(alloc, a),

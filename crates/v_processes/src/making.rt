@@ -4,6 +4,7 @@ ghost use Rattle.std.specs.Prelude.{◌≡◌, map, IfOk};
 ghost use Rattle.v_meaning.specs.Modules as means;
 ghost use Rattle.v_eval.specs.Scopes.{scope_of};
 ghost use Rattle.v_processes.specs.Processes as spec;
+ghost use Rattle.v_processes.specs.Stems.{stem_of, process_stem};
 
 use crate::process::{Does, EdgeOn, EdgesOn};
 use std::alloc::{AllocError, Global};
@@ -38,7 +39,8 @@ pub fn does_of<'a>(
     scope: Scope<'_>,
     process: &'a VProcess,
 ) -> Result<Does<'a>, AllocError>
-    ensures { IfOk result (λ d. spec.does_in d (scope_of scope.entry) ≡ means.process_of (scope_of scope.entry) process.now) }
+    ensures means { IfOk result (λ d. spec.does_in d (scope_of scope.entry) ≡ means.process_of (scope_of scope.entry) process.now) }
+    ensures source { IfOk result (λ d. stem_of d ≡ process_stem process.now) }
 {
     match process {
         VProcess::Assign { target, value } => Ok(Does::Assign { to: target, value }),

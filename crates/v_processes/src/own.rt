@@ -4,6 +4,7 @@ ghost use Rattle.std.specs.Prelude.{◌≡◌, ◌+◌, ◌++◌, [], ◌∷◌,
 ghost use Rattle.v_meaning.specs.Modules as means;
 ghost use Rattle.v_eval.specs.Scopes.{scope_of};
 ghost use Rattle.v_processes.specs.Processes.{processes_at, items_at};
+ghost use Rattle.v_processes.specs.Stems.{sources_at, process_source, link_sources, own_sources};
 ghost use Rattle.v_processes.specs.Walks.{IsTabled, initials_of};
 
 use crate::counting::signal_count;
@@ -37,7 +38,8 @@ fn add_process<'a>(
     to: &mut Procs<'a>,
 ) -> Result<(), AllocError>
     requires { scope_of scope ≡ means.scope_of own.first (items_at design.modules.now own.of) }
-    ensures { OnOk result (processes_at design.entry.modules.now to.new ≡ processes_at design.entry.modules.now to.old ++ means.process_of (means.scope_of own.first (items_at design.entry.modules.now own.of)) process.now ∷ []) }
+    ensures processes { OnOk result (processes_at design.entry.modules.now to.new ≡ processes_at design.entry.modules.now to.old ++ means.process_of (means.scope_of own.first (items_at design.entry.modules.now own.of)) process.now ∷ []) }
+    ensures sources { OnOk result (sources_at design.entry.modules.now to.new ≡ sources_at design.entry.modules.now to.old ++ process_source (items_at design.entry.modules.now own.of) process.now ∷ []) }
 {
     let _modules = design.modules;
     let does = does_of(alloc, scope, process)?;
@@ -61,6 +63,7 @@ fn add_child<'a>(
 ) -> Result<usize, AllocError>
     requires { IsTabled design }
     ensures processes { OnOk result (processes_at design.entry.modules.now to.new ≡ processes_at design.entry.modules.now to.old ++ means.connections (means.scope_of own.first (items_at design.entry.modules.now own.of)) n (means.signals (means.items_of design.entry.modules.now instance.now.of)) instance.now.connections) }
+    ensures sources { OnOk result (sources_at design.entry.modules.now to.new ≡ sources_at design.entry.modules.now to.old ++ link_sources (items_at design.entry.modules.now own.of) n (means.signals (means.items_of design.entry.modules.now instance.now.of)) instance.now.connections) }
     ensures next { IfOk result (λ m. m ≡ n + means.signal_count depth design.entry.modules.now instance.now.of) }
 {
     let first = short(n)?;
@@ -85,6 +88,7 @@ fn add_item<'a>(
     requires tabled { IsTabled design }
     requires scope { scope_of scope ≡ means.scope_of own.first (items_at design.modules.now own.of) }
     ensures processes { OnOk result (processes_at design.entry.modules.now to.new ≡ processes_at design.entry.modules.now to.old ++ means.processes design.entry.modules.now (means.signal_count depth design.entry.modules.now) (means.scope_of own.first (items_at design.entry.modules.now own.of)) n (item.now ∷ [])) }
+    ensures sources { OnOk result (sources_at design.entry.modules.now to.new ≡ sources_at design.entry.modules.now to.old ++ own_sources design.entry.modules.now (means.signal_count depth design.entry.modules.now) (items_at design.entry.modules.now own.of) n (item.now ∷ [])) }
     ensures next { IfOk result (λ m. m ≡ n + means.below (means.signal_count depth design.entry.modules.now) (item.now ∷ [])) }
 {
     match item {
@@ -112,7 +116,8 @@ pub fn add_processes<'a>(
 ) -> Result<(), AllocError>
     requires tabled { IsTabled design }
     requires scope { scope_of scope ≡ means.scope_of own.first (items_at design.modules.now own.of) }
-    ensures { OnOk result (processes_at design.entry.modules.now to.new ≡ processes_at design.entry.modules.now to.old ++ means.processes design.entry.modules.now (means.signal_count depth design.entry.modules.now) (means.scope_of own.first (items_at design.entry.modules.now own.of)) n items.now) }
+    ensures processes { OnOk result (processes_at design.entry.modules.now to.new ≡ processes_at design.entry.modules.now to.old ++ means.processes design.entry.modules.now (means.signal_count depth design.entry.modules.now) (means.scope_of own.first (items_at design.entry.modules.now own.of)) n items.now) }
+    ensures sources { OnOk result (sources_at design.entry.modules.now to.new ≡ sources_at design.entry.modules.now to.old ++ own_sources design.entry.modules.now (means.signal_count depth design.entry.modules.now) (items_at design.entry.modules.now own.of) n items.now) }
 {
     let mut next = n;
     for item in items {

@@ -9,6 +9,7 @@ ghost use Rattle.v_meaning.specs.Scopes.{named, all_bits as bits_of_all};
 ghost use Rattle.v_modules.specs.Tables.{items_of};
 ghost use Rattle.v_processes.specs.Connections as spec;
 ghost use Rattle.v_processes.specs.Processes.{processes_at, items_at};
+ghost use Rattle.v_processes.specs.Stems.{sources_at, link_sources};
 
 use crate::connected::lval_of;
 use crate::process::{Does, Port, Proc, Procs};
@@ -70,7 +71,8 @@ fn connect<'a>(
     value: &'a VExpr,
     to: &mut Procs<'a>,
 ) -> Result<(), AllocError>
-    ensures { OnOk result ((ms : List ModuleTree) → processes_at ms to.new ≡ processes_at ms to.old ++ spec.connected input (means.scope_of own.first (items_at ms own.of)) port value.now) }
+    ensures processes { OnOk result ((ms : List ModuleTree) → processes_at ms to.new ≡ processes_at ms to.old ++ spec.connected input (means.scope_of own.first (items_at ms own.of)) port value.now) }
+    ensures sources { OnOk result ((ms : List ModuleTree) → sources_at ms to.new ≡ sources_at ms to.old ++ spec.connected_source input (items_at ms own.of) port value.now) }
 {
     if input {
         return to.push(Proc {
@@ -98,7 +100,8 @@ fn add_connection<'a>(
     connection: &'a VConnection,
     to: &mut Procs<'a>,
 ) -> Result<(), AllocError>
-    ensures { OnOk result ((ms : List ModuleTree) → processes_at ms to.new ≡ processes_at ms to.old ++ means.connections (means.scope_of own.first (items_at ms own.of)) first (spec.ports_of (option_copied child.entry)) (connection.now ∷ [])) }
+    ensures processes { OnOk result ((ms : List ModuleTree) → processes_at ms to.new ≡ processes_at ms to.old ++ means.connections (means.scope_of own.first (items_at ms own.of)) first (spec.ports_of (option_copied child.entry)) (connection.now ∷ [])) }
+    ensures sources { OnOk result ((ms : List ModuleTree) → sources_at ms to.new ≡ sources_at ms to.old ++ link_sources (items_at ms own.of) first (spec.ports_of (option_copied child.entry)) (connection.now ∷ [])) }
 {
     match &connection.value {
         None => Ok(()),
@@ -119,7 +122,8 @@ pub fn add_connections<'a>(
     connections: &'a [VConnection],
     to: &mut Procs<'a>,
 ) -> Result<(), AllocError>
-    ensures { OnOk result ((ms : List ModuleTree) → processes_at ms to.new ≡ processes_at ms to.old ++ means.connections (means.scope_of own.first (items_at ms own.of)) first (spec.ports_of (option_copied child.entry)) connections.now) }
+    ensures processes { OnOk result ((ms : List ModuleTree) → processes_at ms to.new ≡ processes_at ms to.old ++ means.connections (means.scope_of own.first (items_at ms own.of)) first (spec.ports_of (option_copied child.entry)) connections.now) }
+    ensures sources { OnOk result ((ms : List ModuleTree) → sources_at ms to.new ≡ sources_at ms to.old ++ link_sources (items_at ms own.of) first (spec.ports_of (option_copied child.entry)) connections.now) }
 {
     for connection in connections {
         add_connection(alloc, own, child, first, connection, to)?;

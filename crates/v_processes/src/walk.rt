@@ -4,7 +4,8 @@ ghost use Rattle.std.specs.Prelude.{◌≡◌, ◌+◌, ◌++◌, [], ◌∷◌,
 ghost use Rattle.v_meaning.specs.Modules as means;
 ghost use Rattle.v_modules.specs.Tables.{items_of};
 ghost use Rattle.v_processes.specs.Processes.{processes_at, items_at};
-ghost use Rattle.v_processes.specs.Walks.{IsTabled, initials_of, module_parts, child_parts, HasParts};
+ghost use Rattle.v_processes.specs.Stems.{sources_at, own_sources, sources_from};
+ghost use Rattle.v_processes.specs.Walks.{IsTabled, initials_of, module_parts, child_parts, module_sources, below_sources, HasParts};
 
 use crate::counting::signal_count;
 use crate::design::Design;
@@ -32,6 +33,7 @@ fn add_own<'a>(
     requires tabled { IsTabled design }
     requires table { items_of table.now ≡ items_at design.modules.now own.of }
     ensures processes { OnOk result (processes_at design.entry.modules.now to.new.procs ≡ processes_at design.entry.modules.now to.old.procs ++ means.processes design.entry.modules.now (means.signal_count depth design.entry.modules.now) (means.scope_of own.first (items_at design.entry.modules.now own.of)) behind (items_at design.entry.modules.now own.of)) }
+    ensures sources { OnOk result (sources_at design.entry.modules.now to.new.procs ≡ sources_at design.entry.modules.now to.old.procs ++ own_sources design.entry.modules.now (means.signal_count depth design.entry.modules.now) (items_at design.entry.modules.now own.of) behind (items_at design.entry.modules.now own.of)) }
     ensures initials { OnOk result (initials_of to.new.initials ≡ initials_of to.old.initials ++ means.initials (means.scope_of own.first (items_at design.entry.modules.now own.of)) (items_at design.entry.modules.now own.of)) }
 {
     let items = table.names.items;
@@ -62,6 +64,7 @@ fn enter_module<'a>(
 ) -> Result<(), AllocError>
     requires { IsTabled design }
     ensures processes { OnOk result (processes_at design.entry.modules.now to.new.procs ≡ processes_at design.entry.modules.now to.old.procs ++ (module_parts depth design.entry.modules.now n (items_at design.entry.modules.now of)).processes) }
+    ensures sources { OnOk result (sources_at design.entry.modules.now to.new.procs ≡ sources_at design.entry.modules.now to.old.procs ++ module_sources depth design.entry.modules.now n (items_at design.entry.modules.now of)) }
     ensures initials { OnOk result (initials_of to.new.initials ≡ initials_of to.old.initials ++ (module_parts depth design.entry.modules.now n (items_at design.entry.modules.now of)).initials) }
 {
     match at(design.tables, of) {
@@ -89,6 +92,7 @@ fn enter<'a>(
 ) -> Result<(), AllocError>
     requires { IsTabled design }
     ensures processes { OnOk result (processes_at design.entry.modules.now to.new.procs ≡ processes_at design.entry.modules.now to.old.procs ++ (means.parts_from depth design.entry.modules.now n name.now).processes) }
+    ensures sources { OnOk result (sources_at design.entry.modules.now to.new.procs ≡ sources_at design.entry.modules.now to.old.procs ++ sources_from depth design.entry.modules.now n name.now) }
     ensures initials { OnOk result (initials_of to.new.initials ≡ initials_of to.old.initials ++ (means.parts_from depth design.entry.modules.now n name.now).initials) }
 {
     if depth == 0 {
@@ -113,6 +117,7 @@ fn enter_child<'a>(
 ) -> Result<usize, AllocError>
     requires { IsTabled design }
     ensures processes { OnOk result (processes_at design.entry.modules.now to.new.procs ≡ processes_at design.entry.modules.now to.old.procs ++ (child_parts depth design.entry.modules.now n (item.now ∷ [])).processes) }
+    ensures sources { OnOk result (sources_at design.entry.modules.now to.new.procs ≡ sources_at design.entry.modules.now to.old.procs ++ below_sources depth design.entry.modules.now n (item.now ∷ [])) }
     ensures initials { OnOk result (initials_of to.new.initials ≡ initials_of to.old.initials ++ (child_parts depth design.entry.modules.now n (item.now ∷ [])).initials) }
     ensures next { IfOk result (λ m. m ≡ n + means.below (means.signal_count depth design.entry.modules.now) (item.now ∷ [])) }
 {
@@ -140,6 +145,7 @@ fn enter_children<'a>(
 ) -> Result<(), AllocError>
     requires { IsTabled design }
     ensures processes { OnOk result (processes_at design.entry.modules.now to.new.procs ≡ processes_at design.entry.modules.now to.old.procs ++ (child_parts depth design.entry.modules.now n items.now).processes) }
+    ensures sources { OnOk result (sources_at design.entry.modules.now to.new.procs ≡ sources_at design.entry.modules.now to.old.procs ++ below_sources depth design.entry.modules.now n items.now) }
     ensures initials { OnOk result (initials_of to.new.initials ≡ initials_of to.old.initials ++ (child_parts depth design.entry.modules.now n items.now).initials) }
 {
     let mut next = n;

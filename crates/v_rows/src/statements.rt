@@ -7,7 +7,9 @@ ghost use Rattle.v_tree.specs.Meaning as means;
 use std::alloc::{AllocError, Global};
 use sv_source::{Boxed, Items};
 use v_parts::{all, first, kinds};
-use v_tree::{VBranch, VCaseItem, VConnection, VEdge, VLabel, VPart, VParts, VSensitivity, VStmt};
+use v_tree::{
+    VBranch, VCaseItem, VConnection, VEdge, VExpr, VLabel, VPart, VParts, VSensitivity, VStmt,
+};
 
 /// Edges, or want of memory.
 pub fn edges(alloc: Global, parts: VParts) -> Result<VPart, AllocError>
@@ -66,6 +68,9 @@ pub fn block(alloc: Global, mut parts: VParts) -> Result<VPart, AllocError>
     Ok(VPart::Stmt(VStmt::Block { label, stmts }))
 }
 
+/// Drops an expression.
+fn discard(_value: VExpr) {}
+
 /// `if (on) then`, and perhaps `else other`.
 pub fn if_statement(mut parts: VParts) -> VPart
     ensures { result ≡ means.if_of parts }
@@ -74,6 +79,7 @@ pub fn if_statement(mut parts: VParts) -> VPart
         return VPart::Nothing;
     };
     let Some(then) = first::<kinds::Branch>(&mut parts) else {
+        discard(on);
         return VPart::Nothing;
     };
     let other = first::<kinds::Else>(&mut parts);
@@ -91,6 +97,7 @@ pub fn case_statement(mut parts: VParts) -> VPart
         return VPart::Nothing;
     };
     let Some(items) = first::<kinds::CaseItems>(&mut parts) else {
+        discard(on);
         return VPart::Nothing;
     };
     VPart::Stmt(VStmt::Case { kind, on, items })

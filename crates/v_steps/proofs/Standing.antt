@@ -37,12 +37,12 @@ drop-more [] (suc n) s rest is = absurd (cc)
 drop-more (a ∷ all) zero s rest is = cc
 drop-more (a ∷ all) (suc n) s rest is = drop-more all n s rest is
 
-drop-behind : (all : List Signal) (n : ℕ) (xs ys : List Signal) → drop n all ≡ xs ++ ys → drop (n + length xs) all ≡ ys
+pub drop-behind : (all : List Signal) (n : ℕ) (xs ys : List Signal) → drop n all ≡ xs ++ ys → drop (n + length xs) all ≡ ys
 drop-behind all n [] ys is = ap (λ k. drop k all) (let e : n + 0 ≡ n = omega arith in e) ∙ is
 drop-behind all n (x ∷ xs) ys is =
     ap (λ k. drop k all) (let e : n + suc (length xs) ≡ suc n + length xs = omega arith in e) ∙ drop-behind all (suc n) xs ys (drop-more all n x (xs ++ ys) is)
 
-fit-at : (all : List Signal) (n : ℕ) (ss rest : List Signal) → drop n all ≡ ss ++ rest → NamesFit (map size all) (numbered n ss)
+pub fit-at : (all : List Signal) (n : ℕ) (ss rest : List Signal) → drop n all ≡ ss ++ rest → NamesFit (map size all) (numbered n ss)
 fit-at all n [] rest is = tt
 fit-at all n (s ∷ ss) rest is = ((λ there. size-at all n s (ss ++ rest) is), fit-at all (suc n) ss rest (drop-more all n s (ss ++ rest) is))
 
@@ -50,7 +50,7 @@ fit-at all n (s ∷ ss) rest is = ((λ there. size-at all n s (ss ++ rest) is), 
 abbrev pub Fits : List ℕ → Process → Type 0
 Fits ws p = NamesFit ws p.scope.names
 
-each-both : {A : Type 0} (P : A → Type 0) (xs ys : List A) → Each P xs → Each P ys → Each P (xs ++ ys)
+pub each-both : {A : Type 0} (P : A → Type 0) (xs ys : List A) → Each P xs → Each P ys → Each P (xs ++ ys)
 each-both P [] ys h g = g
 each-both P (x ∷ xs) ys h g = (h.0, each-both P xs ys h.1 g)
 
@@ -118,7 +118,7 @@ parts-fit (suc depth) ms all n name rest is =
     (children-fit (parts_from depth ms) count all (λ m x. ap (λ (ss : List Signal). length ss) (signals-are depth ms m x) ∙ count-is depth ms x) (λ m x r. parts-fit depth ms all m x r) (n + length own) items rest
     (drop-behind all n own (q.signals ++ rest) here))
 
-append-none : (xs : List Signal) → xs ≡ xs ++ []
+pub append-none : (xs : List Signal) → xs ≡ xs ++ []
 append-none [] = refl
 append-none (x ∷ xs) = ap (λ ys. x ∷ ys) (append-none xs)
 

@@ -3,6 +3,7 @@ use Rattle.std.proofs.lemmas.Result.{err_from_is_err_and}
 use Rattle.sv_source.specs.Faults.{NotRaised}
 use Rattle.stim_rows.specs.declared.shape.Shape.{Shape}
 use Rattle.stim_rows.specs.RowFiles.{RowsText}
+use Rattle.v_selects.proofs.Derivations.{spelled-few}
 use Rattle.eval_top.specs.Parts.{RowFileGives}
 use Rattle.eval_top.specs.Answers.{TextGives}
 use Rattle.eval_top.proofs.Answering.{by-row-file, by-rows}
@@ -34,6 +35,9 @@ returns-in_err-rows-clause-gives g c =
     subst (λ (bytes : List ℕ). RowFileGives run.rows c.in_ok-shape.shape bytes (Err c.in_err-rows.field-0.0)) c.as_bytes.ensures c.in_err-rows.ensures in
     subst (TextGives run told before now) (sym (p.1 ∙ ap Err same))
     (by-rows run told before now c.args.design.now c.in_ok-shape.shape c.in_ok-bytes.bytes c.in_err-rows.field-0.0 c.requires c.in_ok-shape.ensures c.in_ok-bytes.ensures.gives calm gives)
+
+pub lines_of-requires-clause-selects : goal.lines_of-requires-clause-selects
+lines_of-requires-clause-selects g c = spelled-few c.requires.text.bytes c.args.design.now c.requires.text.reads.spells
 
 pub lines_of-requires-clause-rows : goal.lines_of-requires-clause-rows
 lines_of-requires-clause-rows g c =

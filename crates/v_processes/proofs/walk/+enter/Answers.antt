@@ -5,9 +5,10 @@ use Rattle.v_tree.specs.declared.items.VItem.{VItem}
 use Rattle.std.proofs.Common.{List}
 use Rattle.v_modules.specs.Tables.{items_of}
 use Rattle.v_processes.specs.Processes.{processes_at, items_at}
+use Rattle.v_processes.specs.Stems.{sources_at}
 use Rattle.v_processes.specs.Walks.{initials_of}
 use Rattle.v_processes.proofs.Kept.{where-ok}
-use Rattle.v_processes.proofs.Entering.{absent-module, absent-initials, module-level, table-items, no-table, module-processes, module-initials, empty-processes, empty-initials, behind-is}
+use Rattle.v_processes.proofs.Entering.{absent-module, absent-initials, module-level, table-items, no-table, module-processes, module-initials, empty-processes, empty-initials, behind-is, absent-sources, module-source-level, all-sources, empty-sources}
 use Rattle.v_processes.proofs.walk.+enter.Goals as goal
 
 pub enter-returns-in-None-clause-processes : goal.enter-returns-in-None-clause-processes
@@ -67,3 +68,30 @@ enter_module-returns-in_ok-add_own-in-Some-clause-initials t c =
     (λ h. module-initials c.args.depth ms c.args.n c.in_ok-first-in-Some.first c.in_ok-behind-in-Some.behind is (items_of table) (initials_of c.args.to.now.initials) (initials_of c.add_own.new.to.initials)
     (initials_of c.enter_children.new.to.initials) c.in_ok-first-in-Some.ensures (behind ∙ ap (λ (l : List VItem). c.args.n + length (M.signals l)) items) items c.in_ok-add_own-in-Some.ensures.initials h)
     c.enter_children.ensures.initials
+
+pub enter-returns-in-None-clause-sources : goal.enter-returns-in-None-clause-sources
+enter-returns-in-None-clause-sources t c =
+    absent-sources c.args.depth (c.args.depth - 1) c.args.design.modules.now c.args.n c.args.name.now c.number_named.result (sources_at c.args.design.modules.now c.args.to.now.procs)
+    (omega (arith, c.if-depth-eq0.false)) c.in-None.is c.number_named.ensures
+
+pub enter-returns-in-Some-clause-sources : goal.enter-returns-in-Some-clause-sources
+enter-returns-in-Some-clause-sources t c =
+    let e = module-source-level c.args.depth (c.args.depth - 1) c.args.design.modules.now c.args.n c.in-Some.of c.args.name.now c.number_named.result (omega (arith, c.if-depth-eq0.false)) c.in-Some.is c.number_named.ensures in
+    where-ok c.enter_module.result (λ h. h ∙ ap (λ l. sources_at c.args.design.modules.now c.args.to.now.procs ++ l) e) c.enter_module.ensures.sources
+
+pub enter_module-returns-in-None-clause-sources : goal.enter_module-returns-in-None-clause-sources
+enter_module-returns-in-None-clause-sources t c =
+    empty-sources c.args.depth c.args.design.modules.now c.args.n (items_at c.args.design.modules.now c.args.of) (sources_at c.args.design.modules.now c.args.to.now.procs)
+    (no-table c.args.design.tables.now c.args.design.modules.now c.args.of c.requires.tables (sym c.in-None.ensures))
+
+pub enter_module-returns-in_ok-add_own-in-Some-clause-sources : goal.enter_module-returns-in_ok-add_own-in-Some-clause-sources
+enter_module-returns-in_ok-add_own-in-Some-clause-sources t c =
+    let ms = c.args.design.modules.now in
+    let table = c.in-Some.table.now in
+    let is = items_at ms c.args.of in
+    let items = table-items c.args.design.tables.now ms c.args.of table c.requires.tables (sym c.in-Some.ensures) in
+    let behind = behind-is c.args.n c.in_ok-behind-in-Some.behind c.len.result table.inputs (M.signals (items_of table)) (λ s. is_input s.kind) table.inputs_are c.len.ensures c.in_ok-behind-in-Some.ensures in
+    where-ok c.enter_children.result
+    (λ h. all-sources c.args.depth ms c.args.n c.in_ok-behind-in-Some.behind is (items_of table) (sources_at ms c.args.to.now.procs) (sources_at ms c.add_own.new.to.procs)
+    (sources_at ms c.enter_children.new.to.procs) (behind ∙ ap (λ (l : List VItem). c.args.n + length (M.signals l)) items) items c.in_ok-add_own-in-Some.ensures.sources h)
+    c.enter_children.ensures.sources

@@ -1,6 +1,7 @@
 use Rattle.std.proofs.Common.{◌≡◌, ◌+◌, ◌*◌, ◌++◌, drop}
 use Rattle.v_processes.specs.Processes.{processes_at}
-use Rattle.v_processes.specs.Walks.{initials_of, child_parts}
+use Rattle.v_processes.specs.Stems.{sources_at}
+use Rattle.v_processes.specs.Walks.{initials_of, child_parts, below_sources}
 use Rattle.v_processes.proofs.walk.+enter.Given as goal
 
 abbrev pub invariant-enter_children-loop-item : goal.invariant-enter_children-loop-item
@@ -11,6 +12,9 @@ invariant-enter_children-loop-item l = record {
   initials :
       initials_of l.to.initials ++ (child_parts l.depth l.design.modules.now l.next (drop l.item-index l.items)).initials
       ≡ initials_of l.fn.to.initials ++ (child_parts l.fn.depth l.fn.design.modules.now l.fn.n l.fn.items).initials;
+  sources :
+      sources_at l.design.modules.now l.to.procs ++ below_sources l.depth l.design.modules.now l.next (drop l.item-index l.items)
+      ≡ sources_at l.fn.design.modules.now l.fn.to.procs ++ below_sources l.fn.depth l.fn.design.modules.now l.fn.n l.fn.items;
 }
 
 abbrev pub decreases-enter : goal.decreases-enter

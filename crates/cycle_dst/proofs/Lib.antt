@@ -1,0 +1,10 @@
+pub mod Listed
+pub mod Inputs
+pub mod Pairs
+pub mod Kept
+pub mod Running
+pub mod Collected
+pub mod TopPorts
+pub mod Covering
+pub mod Wholly
+pub mod Failing

@@ -1,0 +1,10 @@
+pub mod Designs
+pub mod Inputs
+pub mod Pairs
+pub mod Circuits
+pub mod Props
+pub mod Grounds
+pub mod Ports
+pub mod Written
+pub mod Fails
+pub mod Wholes

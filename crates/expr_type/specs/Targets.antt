@@ -1,0 +1,83 @@
+-- What is assigned to (IEEE 1800-2017 clauses 10.3, 10.4, 11.4.12 and 11.4.14).
+use Rattle.std.specs.Prelude.{ℕ, ◌%◌, Bool, ◌&&◌, ◌==◌, nat_lt, not, List, [], ◌∷◌, map, Option, Some, None, Ok, Err}
+use Rattle.sv_tree.specs.declared.expressions.SliceSize.{SliceSize}
+use Rattle.sv_tree.specs.declared.names.QualifiedName.{QualifiedName}
+use Rattle.sv_tree.specs.declared.statements.Lvalue.{Lvalue, Lvalue-F, fold-Lvalue}
+use Rattle.sv_types.specs.declared.expression.Expr.{Expr}
+use Rattle.expr_type.specs.Breaks.{At}
+use Rattle.expr_type.specs.Typings.{Checked, Typing, whole, rule, checked, both, all, where_whole, refused}
+use Rattle.expr_type.specs.Shapes.{is_unpacked}
+use Rattle.expr_type.specs.Names.{Context, position}
+use Rattle.expr_type.specs.Operands.{Operand, Plain, Pattern, Stream, Valued, given, width}
+use Rattle.expr_type.specs.Operators.{concat_of, exprs, all_bits}
+use Rattle.expr_type.specs.Forms.{reverses, stream_of}
+use Rattle.expr_type.specs.Expressions.{select_meaning, slice_meaning}
+use Rattle.expr_type.specs.TargetNames.{named_target}
+
+-- A target: a path; a concatenation with its parts; or a stream, with the bits of its slices where it reverses them.
+pub data Target : Type 0 where
+  ToPath : Valued → Target
+  ToParts : Valued → List Valued → Target
+  ToStream : Valued → Target
+
+abbrev pub whole_of : Target → Valued
+whole_of (ToPath v) = v
+whole_of (ToParts v vs) = v
+whole_of (ToStream v) = v
+
+-- a part of a concatenated target has bits (E508), and is no stream (E512)
+abbrev pub is_target_part : Context → Target → Checked Valued
+is_target_part k (ToPath v) = refused (is_unpacked v.expr.of) (position k v.first) 508 (Ok v)
+is_target_part k (ToParts v vs) = Ok v
+is_target_part k (ToStream v) = Err (At (position k v.first) 512)
+
+abbrev pub joined_target : Context → ℕ → List Valued → Checked Target
+joined_target k opening vs = where_whole (concat_of k opening vs) (λ v. Ok (ToParts v vs))
+
+-- a stream that reverses its slices has whole slices alone (E511)
+abbrev pub stream_target : Context → ℕ → Bool → ℕ → List Valued → Checked Target
+stream_target k opening reversed n vs =
+    refused (reversed && not (all_bits vs % n == 0)) (position k opening) 511
+    (where_whole (stream_of k opening reversed n vs) (λ v. Ok (ToStream v)))
+
+abbrev pub TargetMeaning : Type 0
+TargetMeaning = Context → Bool → Typing Target
+
+abbrev pub simple_name : ℕ → QualifiedName
+simple_name at = record { scope = None; name = at }
+
+abbrev pub slice_or_one : Context → Option SliceSize → Typing ℕ
+slice_or_one k None = whole 1
+slice_or_one k (Some z) = slice_meaning z k
+
+abbrev pub target_step : Lvalue-F TargetMeaning → TargetMeaning
+target_step (Lvalue-F.Name name selects) k in_statement =
+    checked (named_target k in_statement (simple_name name) (map select_meaning selects)) (λ v. whole (ToPath v))
+target_step (Lvalue-F.Concatenation opening targets closing) k in_statement =
+    checked (all (map (λ (t : TargetMeaning). checked (t k in_statement) (λ u. rule (is_target_part k u))) targets))
+    (λ vs. rule (joined_target k opening vs))
+target_step (Lvalue-F.Stream opening operator at size inner_opening targets inner_closing closing) k in_statement =
+    both (slice_or_one k size) (all (map (λ (t : TargetMeaning). checked (t k in_statement) (λ u. whole (whole_of u))) targets))
+    (λ n vs. rule (stream_target k opening (reverses operator) n vs))
+
+-- a target, of a statement or not
+abbrev pub target : Lvalue → TargetMeaning
+target = fold-Lvalue TargetMeaning target_step
+
+-- what an assignment writes, in order
+abbrev pub parts_of : Target → List Expr
+parts_of (ToPath v) = v.expr ∷ []
+parts_of (ToParts v vs) = exprs vs
+parts_of (ToStream v) = v.expr ∷ []
+
+-- A target stream takes no more bits than its value has (E501). What is given to another target is assigned to its bits.
+abbrev pub has_enough : Context → Valued → Operand → Checked Expr
+has_enough k v (Plain u) =
+    refused (nat_lt (width u) (width v)) (position k v.first) 501 (refused (is_unpacked u.expr.of) (position k u.first) 501 (Ok u.expr))
+has_enough k v (Pattern tick of) = Err (At (position k tick) 505)
+has_enough k v (Stream u) = refused (nat_lt (width u) (width v)) (position k v.first) 501 (Ok u.expr)
+
+abbrev pub assigned : Context → Target → Operand → Checked Expr
+assigned k (ToPath v) o = given k v.expr.of o
+assigned k (ToParts v vs) o = given k v.expr.of o
+assigned k (ToStream v) o = has_enough k v o

@@ -1,0 +1,3 @@
+pub mod Quiet
+pub mod Rows
+pub mod Designs

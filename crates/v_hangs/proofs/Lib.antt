@@ -1,0 +1,7 @@
+pub mod Same
+pub mod Values
+pub mod Runs
+pub mod Calls
+pub mod Processes
+pub mod Reading
+pub mod Listing

@@ -1,0 +1,9 @@
+pub mod Sets
+pub mod Called
+pub mod Exprs
+pub mod Targets
+pub mod Forms
+pub mod Alike
+pub mod Rounds
+pub mod Once
+pub mod Silent

@@ -1,0 +1,4 @@
+pub mod Depth
+pub mod Decimal
+pub mod Rooted
+pub mod Running
