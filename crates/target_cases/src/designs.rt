@@ -7,7 +7,7 @@ use v_reader::{ReadFail, discard, read_verilog};
 use v_tree::VDesign;
 
 /// The longest text that is read, in bytes.
-const LONGEST: usize = 1 << 28;
+pub const LONGEST: usize = 1 << 28;
 
 /// What comes of a design.
 #[derive(Clone, Copy)]
@@ -35,6 +35,19 @@ fn refuse(rt: &HostRuntime, rule: u16, line: u32, col: u32, word: &Text) -> io::
     println!(rt; "E{rule} {line}:{col} {word}")
 }
 
+/// Prints why a text isn't read.
+pub fn explain(rt: &HostRuntime, fail: ReadFail) -> io::Result<()> {
+    match fail {
+        ReadFail::Memory => println!(rt; "want of memory"),
+        ReadFail::NotVerilog {
+            rule,
+            line,
+            col,
+            word,
+        } => refuse(rt, rule, line, col, &word),
+    }
+}
+
 /// Shows a design that a text reads as.
 fn show(rt: &HostRuntime, design: &VDesign, shown: Shown) -> io::Result<()> {
     match shown {
@@ -54,15 +67,7 @@ fn show_text(rt: &HostRuntime, bytes: &[u8], shown: Shown) -> io::Result<()> {
             discard(design);
             printed
         }
-        Err(ReadFail::Memory) => println!(rt; "want of memory"),
-        Err(
-            ReadFail::NotVerilog {
-                rule,
-                line,
-                col,
-                word,
-            },
-        ) => refuse(rt, rule, line, col, &word),
+        Err(fail) => explain(rt, fail),
     }
 }
 

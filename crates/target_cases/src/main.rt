@@ -1,16 +1,19 @@
 //! Runs single layers of the way from target texts to designs.
 //!
 //! `target_cases cases FILE..` runs the cases of case files, and prints what comes. The folder of a file says what its cases are
-//! for: `lexer` or `reader`.
+//! for: `lexer`, `reader` or `writer`.
 //!
-//! `target_cases read FILE..` is for measuring, and prints counts.
+//! `target_cases read FILE..` is for measuring, and prints counts. So is `target_cases write FILE..`, which also writes the designs
+//! again, and prints how long each text is and how long its reading and its writing took.
 #![tactic(auto)]
 
 mod designs;
 mod tokens;
+mod writing;
 
 use crate::designs::{Shown, read, read_files};
 use crate::tokens::cut;
+use crate::writing::{write_again, write_files};
 use case_files::{Case, load_cases};
 use std::{env, io};
 
@@ -20,6 +23,7 @@ fn run(rt: &HostRuntime, layer: &str, case: &Case) -> io::Result<()> {
     match layer {
         "lexer" => cut(rt, case),
         "reader" => read(rt, case),
+        "writer" => write_again(rt, case),
         _ => println!(rt; "no layer has this name"),
     }
 }
@@ -55,6 +59,7 @@ fn main(rt: HostRuntime) -> io::Result<()> {
     match task.as_str() {
         "cases" => run_files(&rt, &rest),
         "read" => read_files(&rt, &rest, Shown::Count),
+        "write" => write_files(&rt, &rest),
         _ => println!(rt; "no such task"),
     }
 }
