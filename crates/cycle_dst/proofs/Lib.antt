@@ -6,5 +6,6 @@ pub mod Running
 pub mod Collected
 pub mod TopPorts
 pub mod Covering
+pub mod Printing
 pub mod Wholly
 pub mod Failing

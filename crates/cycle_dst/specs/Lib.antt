@@ -2,6 +2,7 @@ pub mod Designs
 pub mod Inputs
 pub mod Pairs
 pub mod Circuits
+pub mod Prints
 pub mod Props
 pub mod Grounds
 pub mod Ports

@@ -8,10 +8,12 @@ ghost use Rattle.v_meaning.specs.Machine.{machine as machine_of};
 ghost use Rattle.cycle_dst.specs.Circuits.{CombOf, EdgeOf, Runnable};
 ghost use Rattle.cycle_dst.specs.Designs.{widths_of, top_inputs};
 ghost use Rattle.cycle_dst.specs.Pairs.{Pairs};
+ghost use Rattle.cycle_dst.specs.Prints.{AllPrints};
 ghost use Rattle.cycle_dst.specs.Props.{props};
 
 use crate::combs::Comb;
 use crate::copies::copied;
+use crate::prints::Prints;
 use crate::single::{edge_comes, run_process, update_process};
 use b4_core::{Items, Vec4};
 use round_runner::Processes;
@@ -35,6 +37,8 @@ pub struct Circuit<'a, 't> {
     pub procs: &'t [Proc<'a>],
     /// The combinational ones.
     pub combs: &'t [Comb],
+    /// Which signals each of these reads and may write.
+    pub prints: &'t [Prints],
     /// The numbers of those that run at edges.
     pub edges: &'t [usize],
     /// The signals that are the top's inputs, in port order.
@@ -48,6 +52,7 @@ pub struct Circuit<'a, 't> {
     ghost runnable: { Runnable (widths_of design.now top.now) tables.now procs.now } by { Prim.hlevel props },
     ghost few: { length (widths_of design.now top.now) ≤ 2 ^ 32 },
     ghost combs_are: { Pairs (CombOf (widths_of design.now top.now) tables.now procs.now) combs.now (machine_of design.now top.now).combs },
+    ghost prints_are: { AllPrints prints.now (machine_of design.now top.now).combs },
     ghost edges_are: { Pairs (EdgeOf tables.now procs.now) edges.now (machine_of design.now top.now).edges },
     ghost inputs_are: { inputs.now ≡ top_inputs design.now top.now },
     ghost inputs_whole: { InputsAre (machine_of design.now top.now) (widths_of design.now top.now) (top_inputs design.now top.now) },
@@ -106,12 +111,18 @@ impl Processes for Circuit<'_, '_> {
         run_process(alloc, self.tables, self.procs, k, held, to)
     }
 
-    fn reads(&self, _i: usize) -> Option<&[usize]> {
-        None
+    fn reads(&self, i: usize) -> Option<&[usize]> {
+        match &self.prints[i].reads {
+            None => None,
+            Some(signals) => Some(signals.as_slice()),
+        }
     }
 
-    fn writes(&self, _i: usize) -> Option<&[usize]> {
-        None
+    fn writes(&self, i: usize) -> Option<&[usize]> {
+        match &self.prints[i].writes {
+            None => None,
+            Some(signals) => Some(signals.as_slice()),
+        }
     }
 
     fn has_edge(&self, i: usize, last: &[Vec4], now: &[Vec4]) -> bool {

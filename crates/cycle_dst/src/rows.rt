@@ -20,6 +20,7 @@ use crate::fails::{RunFail, failed};
 use crate::ground::Ground;
 use crate::making::{combs_of, edges_of};
 use crate::ports::inputs_of;
+use crate::prints::prints_of;
 use crate::whole::Whole;
 use crate::written::{marks_in, row_in, written_in};
 use b4_core::{Items, Rows, Trace, Vec4};
@@ -106,12 +107,14 @@ fn run_processes(
 {
     let edges = edges_of(alloc, ground)?;
     let combs = combs_of(alloc, ground)?;
+    let prints = prints_of(alloc, ground, combs.as_slice())?;
     let circuit = Circuit {
         design: ground.design,
         top: ground.top,
         tables: ground.tables,
         procs: ground.procs,
         combs: combs.as_slice(),
+        prints: prints.as_slice(),
         edges: edges.as_slice(),
         inputs,
         initial: ground.initial,

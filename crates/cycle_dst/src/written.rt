@@ -23,9 +23,13 @@ use v_modules::Table;
 use v_reads::{function_reads, quiet_of};
 use v_writes::Writes;
 
-// Which functions of an instance of a module with this table read no signal.
+/// Which functions of an instance of a module with this table read no signal.
 #[tactic(auto, using(crate::proofs::Covering::quiet))]
-fn quiet_by(alloc: Global, table: &Table<'_>, first: u32) -> Result<Items<bool>, AllocError>
+pub(crate) fn quiet_by(
+    alloc: Global,
+    table: &Table<'_>,
+    first: u32,
+) -> Result<Items<bool>, AllocError>
     ensures { IfOk result (AreQuietIn first table.now) }
 {
     let scope = Scope {
