@@ -1,7 +1,7 @@
 //! Runs single layers of the way from target texts to designs.
 //!
 //! `target_cases cases FILE..` runs the cases of case files, and prints what comes. The folder of a file says what its cases are
-//! for: `lexer`, `reader` or `writer`.
+//! for: `lexer`, `reader`, `tops` or `writer`.
 //!
 //! `target_cases read FILE..` is for measuring, and prints counts. So is `target_cases write FILE..`, which also writes the designs
 //! again, and prints how long each text is and how long its reading and its writing took.
@@ -9,10 +9,12 @@
 
 mod designs;
 mod tokens;
+mod tops;
 mod writing;
 
 use crate::designs::{Shown, read, read_files};
 use crate::tokens::cut;
+use crate::tops::look;
 use crate::writing::{write_again, write_files};
 use case_files::{Case, load_cases};
 use std::{env, io};
@@ -23,6 +25,7 @@ fn run(rt: &HostRuntime, layer: &str, case: &Case) -> io::Result<()> {
     match layer {
         "lexer" => cut(rt, case),
         "reader" => read(rt, case),
+        "tops" => look(rt, case),
         "writer" => write_again(rt, case),
         _ => println!(rt; "no layer has this name"),
     }
