@@ -158,3 +158,9 @@ like-lost m = like-by m (lost_bit m) (lost-named m)
 pub root-braced : (m : T.Meaning) (x : VExpr) (root : Root) → root ≡ R.Value x → T.meaning x ≡ braced m → RootNames m root
 root-braced m x root is braces =
     subst (RootNames m) (sym is) (subst (NamesLike m) (sym braces) (like-braced m))
+
+pub lost-of : (m r : T.Meaning) → r ≡ lost_bit m → NamesLike m r
+lost-of m r is = subst (NamesLike m) (sym is) (like-lost m)
+
+pub times-of : (n : ℕ) (m r : T.Meaning) → r ≡ times n m → NamesLike m r
+times-of n m r is = subst (NamesLike m) (sym is) (like-times n m)

@@ -286,3 +286,7 @@ pub reads-partly : (r : Reading) (n : ℕ) (old hs : List Helper) (there m : T.M
     → Cuts r.root r.width r.window.low (r.window.high - r.window.low) old there → ReadsPartly there r.window n hs m → ReadsAll r n hs m
 reads-partly r n old hs there m some grows cuts partly c sc v root long inside one few stays helps =
     partly c r.width sc v (cuts c sc v root long (omega arith) (omega arith) (helps-before old hs sc grows helps)) some inside one few stays helps
+
+-- a call by what its offset means
+pub call-like : (s : Slice) (m o p : T.Meaning) (hs : List Helper) (r : T.Meaning) → o ≡ p → IsSelectCall s m o hs r → IsSelectCall s m p hs r
+call-like s m o p hs r is call = subst (λ y. IsSelectCall s m y hs r) is call

@@ -15,6 +15,7 @@ use Rattle.v_meaning.specs.Values as T
 use Rattle.eval_parts.specs.declared.paths.Window.{Window}
 use Rattle.eval_parts.specs.Places.{window_of}
 use Rattle.lowering_laws.specs.Same.{HasBits}
+use Rattle.lowering_laws.specs.Terms.{braced}
 use Rattle.path_flatten.specs.declared.readings.Root.{Root}
 use Rattle.path_flatten.specs.declared.readings.Reading.{Reading}
 use Rattle.path_flatten.specs.declared.readings.Slice.{Slice}
@@ -43,9 +44,9 @@ abbrev pub Cuts : Root → ℕ → ℕ → ℕ → List Helper → T.Meaning →
 Cuts root w low n hs r = (c : List Bit4) (sc : Scope) (v : Valuation)
     → HasRoot root w c sc v → length c ≡ w → low + n ≤ w → 1 ≤ n → EachHelps hs sc → HasBits r (slice_of c w low n) sc v
 
--- a bit that is x whatever an expression is, `(^m) ^ 1'bx`, which names what that names
+-- a bit that is x whatever an expression is, `{(^m) ^ 1'bx}`, which names what that names
 abbrev pub lost_bit : T.Meaning → T.Meaning
-lost_bit m = T.binary B.Xor (T.reduce D.Xor m) (T.literal (X ∷ []))
+lost_bit m = braced (T.binary B.Xor (T.reduce D.Xor m) (T.literal (X ∷ [])))
 
 -- it, n times
 abbrev pub times : ℕ → T.Meaning → T.Meaning

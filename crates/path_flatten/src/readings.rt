@@ -3,7 +3,7 @@
 //! own ones might be read. So no index stands twice in the text. What is read always names what it stands on, also where no
 //! bit of that is in range, since an `always @*` waits for what it names (clause 9.4.2.2).
 
-ghost use Rattle.std.specs.Prelude.{◌≡◌, ◌+◌, ◌≤◌, ◌<◌, [], ◌∷◌, IfOk, OnOk};
+ghost use Rattle.std.specs.Prelude.{◌≡◌, ◌+◌, ◌≤◌, ◌<◌, ◌-ℤ◌, pos, [], ◌∷◌, IfOk, OnOk};
 ghost use Rattle.b4_core.specs.declared.bit.Bit4.TheVariants.{X};
 ghost use Rattle.v_meaning.specs.Values as means;
 ghost use Rattle.v_meaning.specs.Values.{meaning, sel_meaning};
@@ -21,9 +21,7 @@ use b4_core::{BinOp, Bit4, RedOp, Vec4};
 use eval_parts::Window;
 use std::alloc::{AllocError, Global};
 use sv_source::{Items, Text};
-use v_build::{
-    binary, call, decimal_bit, decimal_part, literal, name, reduce, repetition,
-};
+use v_build::{binary, call, decimal_bit, decimal_part, literal, name, reduce, repetition};
 use v_tree::{Helper, HelperKind, VExpr, VExprs, VSel, VSels};
 
 /// What a reading stands on.
@@ -217,7 +215,7 @@ fn cut_value(
     if low == 0 && n == width {
         return Ok(of);
     }
-    let (of, offset) = pairs::both(Ok(of), bound(alloc, 33, i128::from(low)))?;
+    let offset = bound(alloc, 33, i128::from(low))?;
     let slice = Slice {
         part: n,
         of: width,
@@ -254,6 +252,14 @@ pub(crate) fn cut(
     }
 }
 
+/// Where the first bit of a window lies, from its lowest bit in range on.
+fn first_from_low(window: Window) -> i128
+    requires { IsNear window.shift }
+    ensures { result ≡ window.shift -ℤ pos window.low }
+{
+    window.shift - i128::from(window.low)
+}
+
 /// The n bits of a window some of which are out of range, by those from `low` up to `high`, which are `of`.
 fn partly(
     alloc: Global,
@@ -268,11 +274,15 @@ fn partly(
     ensures reads { IfOk result (λ e. ReadsPartly (meaning of) window n helpers.new (meaning e)) }
     ensures names { IfOk result (λ e. NamesLike (meaning of) (meaning e)) }
 {
-    let below = window.low as i128 - window.shift;
-    if below < 0 || n as i128 <= below {
+    let first = first_from_low(window);
+    let limit = -i128::from(n);
+    if first > 0 {
         return Ok(of);
     }
-    let (of, offset) = pairs::both(Ok(of), bound(alloc, 33, -below))?;
+    if first <= limit {
+        return Ok(of);
+    }
+    let offset = bound(alloc, 33, first)?;
     let slice = Slice {
         part: n,
         of: window.high - window.low,
