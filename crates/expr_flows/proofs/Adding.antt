@@ -1,8 +1,8 @@
 -- Uses that are added behind others.
-use Rattle.std.proofs.Common.{◌≡◌, ℕ, ◌^◌, ◌<◌, List, [], ◌∷◌, ◌++◌, map, refl, ap, sym, ◌∙◌, subst, append_assoc, append-nil}
+use Rattle.std.proofs.Common.{◌≡◌, ◌^◌, ◌<◌, List, [], ◌∷◌, ◌++◌, map, refl, ap, sym, ◌∙◌, subst, append_assoc, append-nil}
 use Rattle.bit_sets.specs.declared.span.Use.{Use}
 use Rattle.sv_types.specs.Surroundings as S
-use Rattle.flow_sets.specs.Bits.{use_of, AllShort}
+use Rattle.flow_sets.specs.Bits.{use_of}
 use Rattle.flow_sets.proofs.Positions as P
 use Rattle.expr_flows.specs.Traces.{Adds}
 

@@ -1,16 +1,13 @@
 -- Whether calls pass no more than there are formals, one level at a time.
-use Rattle.std.proofs.Common.{◌≡◌, ℕ, ◌≤◌, Bool, true, ◌&&◌, ℤ, List, [], ◌∷◌, map, length, ap, ◌∙◌, rules}
+use Rattle.std.proofs.Common.{◌≡◌, ℕ, Bool, ◌&&◌, ℤ, List, map, length, ap, ◌∙◌, rules}
 use Rattle.std.specs.Prelude.{nat_le}
-use Rattle.std.specs.List.{list_all}
-use Rattle.b4_core.specs.declared.bit.Bit4.{Bit4}
 use Rattle.b4_core.specs.declared.operators.UnOp.{UnOp}
 use Rattle.b4_core.specs.declared.operators.BinOp.{BinOp}
 use Rattle.b4_core.specs.declared.operators.RedOp.{RedOp}
 use Rattle.b4_core.specs.declared.operators.ShiftOp.{ShiftOp}
 use Rattle.b4_core.specs.declared.operators.OrdOp.{OrdOp}
 use Rattle.b4_core.specs.declared.operators.EqOp.{EqOp}
-use Rattle.sv_types.specs.declared.types.Value.{Value}
-use Rattle.sv_types.specs.declared.expression.Expr.{Expr, fold-Expr}
+use Rattle.sv_types.specs.declared.expression.Expr.{Expr}
 use Rattle.sv_types.specs.declared.expression.Choice.{Choice, fold-Choice}
 use Rattle.sv_types.specs.declared.expression.Choice.TheVariants as C
 use Rattle.sv_types.specs.declared.expression.Form.{Form, fold-Form, the_lemmas}

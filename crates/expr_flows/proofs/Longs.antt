@@ -1,10 +1,9 @@
 -- Where constant indices stand whose values take too long.
-use Rattle.std.proofs.Common.{◌≡◌, ◌⊎◌, inl, inr, ℕ, zero, suc, ◌<◌, Bool, true, ℤ, List, [], ◌∷◌, map, drop, refl, ap, sym, ◌∙◌, subst, rules}
+use Rattle.std.proofs.Common.{◌≡◌, inl, inr, ℕ, zero, suc, Bool, true, ℤ, List, [], ◌∷◌, map, drop, refl, ap, sym, ◌∙◌, subst, rules}
 use Rattle.row_machine.specs.Valuation.{Member}
 use Rattle.sv_types.specs.declared.expression.Expr.{Expr}
 use Rattle.sv_types.specs.declared.expression.Form.{Form, Form-F, out-Form, the_lemmas}
 use Rattle.sv_types.specs.declared.expression.Form.TheVariants as V
-use Rattle.sv_types.specs.declared.expression.Choice.{Choice}
 use Rattle.sv_types.specs.Layouts.{layout}
 use Rattle.sv_types.specs.Surroundings.{Parameter}
 use Rattle.sv_types.specs.Expressions.{meaning}
@@ -13,7 +12,7 @@ use Rattle.expr_flows.proofs.Operands.{asks}
 use Rattle.expr_flows.specs.declared.fails.FlowFail.{FlowFail}
 use Rattle.expr_flows.specs.declared.fails.FlowFail.TheVariants as F
 use Rattle.expr_flows.specs.declared.known.Known.{Known}
-use Rattle.expr_flows.specs.Known.{sight, takes_too_long, ValueFails}
+use Rattle.expr_flows.specs.Known.{sight, ValueFails}
 use Rattle.expr_flows.specs.Reads.{IsIndexOf, IsOperand, LongIndex, LongAt, ReadFails, IndexFails}
 
 pub from-drop : {A : Type 0} (n : ℕ) (xs : List A) (x : A) → Member (drop n xs) x → Member xs x

@@ -1,6 +1,5 @@
 -- Targets that are concatenations or streams.
-use Rattle.std.proofs.Common.{◌≡◌, ◌⊎◌, inl, inr, ℕ, suc, Bool, true, ◌&&◌, List, [], ◌∷◌, ◌++◌, map, flat_map, Result, Ok, Err, refl, ap, sym, ◌∙◌, subst}
-use Rattle.std.specs.List.{list_all}
+use Rattle.std.proofs.Common.{◌≡◌, inl, inr, ℕ, suc, Bool, true, ◌&&◌, List, [], ◌∷◌, map, Result, Ok, Err, refl, ap, sym, ◌∙◌, subst}
 use Rattle.row_machine.specs.Valuation.{Member}
 use Rattle.bit_sets.specs.declared.span.Use.{Use}
 use Rattle.sv_types.specs.declared.expression.Expr.{Expr}

@@ -1,10 +1,10 @@
 -- What is known of select paths, step by step.
-use Rattle.std.proofs.Common.{◌≡◌, ℕ, ℤ, Bool, true, false, ◌&&◌, cond, List, [], ◌∷◌, ◌++◌, length, Option, Some, None, refl, ap, sym, ◌∙◌, subst}
+use Rattle.std.proofs.Common.{◌≡◌, ℕ, ℤ, Bool, true, false, ◌&&◌, cond, List, [], ◌++◌, length, Option, Some, None, refl, ap, sym, ◌∙◌, subst}
 use Rattle.std.specs.Prelude.{slice_get}
 use Rattle.std.proofs.Math.Bool.{and-true}
 use Rattle.sv_types.specs.declared.expression.Expr.{Expr}
 use Rattle.sv_types.specs.declared.expression.Form.TheVariants as V
-use Rattle.sv_types.specs.Layouts.{Layout, layout, count_of}
+use Rattle.sv_types.specs.Layouts.{Layout, layout}
 use Rattle.sv_types.specs.Windows.{Window, whole, member_of, element_of, between, slide}
 use Rattle.sv_types.specs.Surroundings.{Sight, Use, local_number}
 use Rattle.sv_types.specs.Meanings.{Meaning, Path, Prefix, selected, root_sure, use_of, writes_of}

@@ -1,6 +1,5 @@
 -- What expressions read, from what their parts read.
-use Rattle.std.proofs.Common.{◌≡◌, ℕ, ◌+◌, Bool, true, false, ◌&&◌, cond, List, [], ◌∷◌, ◌++◌, map, flat_map, length, Option, Some, None, refl, ap, sym, ◌∙◌, subst}
-use Rattle.std.specs.List.{list_all}
+use Rattle.std.proofs.Common.{◌≡◌, ℕ, Bool, true, false, ◌&&◌, cond, List, [], ◌∷◌, ◌++◌, Option, None, refl, ap, sym, ◌∙◌, subst}
 use Rattle.bit_sets.specs.declared.span.Use.{Use}
 use Rattle.sv_types.specs.declared.expression.Expr.{Expr}
 use Rattle.sv_types.specs.Windows.{whole}
@@ -30,8 +29,8 @@ path-done e s k t sure old mid new start made b step traced known own none indic
     let m = meaning e in
     let same : sure ≡ root_sure m.root (sight k) = known ∙ ap (λ r. root_sure r (sight k)) (sym traced.root) in
     let uses : cond sure [] (use_of t.root e.spot.at (prefix_of t)) ≡ cond (root_sure m.root (sight k)) [] (use_of m.root e.spot.at (m.prefix (sight k))) =
-        ap (λ c. cond c [] (use_of t.root e.spot.at (prefix_of t))) same ∙ ap (λ r. cond (root_sure m.root (sight k)) [] (use_of r e.spot.at (prefix_of t))) (sym traced.root)
-        ∙ ap (λ p. cond (root_sure m.root (sight k)) [] (use_of m.root e.spot.at p)) (sym traced.prefix) in
+    ap (λ c. cond c [] (use_of t.root e.spot.at (prefix_of t))) same ∙ ap (λ r. cond (root_sure m.root (sight k)) [] (use_of r e.spot.at (prefix_of t))) (sym traced.root)
+    ∙ ap (λ p. cond (root_sure m.root (sight k)) [] (use_of m.root e.spot.at p)) (sym traced.prefix) in
     record {
       constant = is ∙ ap (λ c. t.exact && (t.base && c)) same ∙ sym traced.constant;
       adds = D.at old new _ _ (sym (P.reads-split e s (sight k) step)) (D.both old mid new _ _ (D.at old mid _ _ uses own) (D.behind mid new made _ both (subst (λ us. Adds us made (reads_from m.root m (sight k))) none indices)));

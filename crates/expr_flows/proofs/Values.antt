@@ -4,8 +4,7 @@ use Rattle.std.specs.Prelude.{is_some, IfSome, unsigned_abs}
 use Rattle.b4_core.specs.declared.bit.Bit4.{Bit4}
 use Rattle.b4_core.specs.Vectors.{known, number}
 use Rattle.sv_types.specs.declared.expression.Expr.{Expr}
-use Rattle.sv_types.specs.Surroundings.{Around, Tally, Stop}
-use Rattle.sv_types.specs.Meanings.{Meaning, wide, signed, alone}
+use Rattle.sv_types.specs.Meanings.{wide, signed, alone}
 use Rattle.sv_types.specs.Paths.{index_of}
 use Rattle.sv_types.specs.Expressions.{meaning}
 use Rattle.flow_laws.specs.Hangs.{Seen}
@@ -20,7 +19,7 @@ use Rattle.eval_parts.proofs.PathLimits.{index-is}
 use Rattle.expr_flows.specs.declared.fails.FlowFail.{FlowFail}
 use Rattle.expr_flows.specs.declared.known.Known.{Known}
 use Rattle.expr_flows.specs.Traces.{IsSmall}
-use Rattle.expr_flows.specs.Known.{sight, unheld, takes_too_long, IsFailOf, ValueFails, ValueGives, AloneGives}
+use Rattle.expr_flows.specs.Known.{sight, unheld, IsFailOf, ValueFails, ValueGives, AloneGives}
 
 seen : (k : Known) → Seen (sight k) (unheld k)
 seen k = record { sure = λ n j h. refl; callee = refl }

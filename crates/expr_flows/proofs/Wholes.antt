@@ -1,5 +1,5 @@
 -- Expressions that are neither select paths, concatenations nor streams aren't written as targets.
-use Rattle.std.proofs.Common.{◌≡◌, ℕ, Bool, true, false, ℤ, List, map, refl, ap, sym, ◌∙◌, subst, inl, inr, rules}
+use Rattle.std.proofs.Common.{◌≡◌, ℕ, Bool, false, ℤ, List, map, refl, ap, sym, ◌∙◌, subst, inl, inr, rules}
 use Rattle.b4_core.specs.declared.bit.Bit4.{Bit4}
 use Rattle.b4_core.specs.declared.operators.UnOp.{UnOp}
 use Rattle.b4_core.specs.declared.operators.BinOp.{BinOp}

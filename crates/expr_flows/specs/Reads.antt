@@ -1,5 +1,5 @@
 -- What expressions read, and why it isn't known.
-use Rattle.std.specs.Prelude.{◌≡◌, ⊤, ◌⊎◌, ℕ, Bool, true, false, List, [], ◌∷◌, ◌++◌, map, flat_map, Option, Some, None, Result, Ok, Err}
+use Rattle.std.specs.Prelude.{◌≡◌, ⊤, ◌⊎◌, ℕ, Bool, true, List, [], map, flat_map, Result, Ok, Err}
 use Rattle.std.specs.List.{list_all}
 use Rattle.row_machine.specs.Valuation.{Member}
 use Rattle.bit_sets.specs.declared.span.Use.{Use}
@@ -12,7 +12,6 @@ use Rattle.sv_types.specs.Surroundings.{Parameter, Sight}
 use Rattle.sv_types.specs.Meanings.{Meaning}
 use Rattle.sv_types.specs.Paths.{reads_from}
 use Rattle.sv_types.specs.Expressions.{meaning}
-use Rattle.eval_forms.specs.declared.asked.Ask.{Ask}
 use Rattle.eval_forms.specs.declared.asked.Ask.TheVariants as A
 use Rattle.eval_forms.specs.Asked.{Asked, form_asked}
 use Rattle.expr_flows.specs.declared.fails.FlowFail.{FlowFail}
@@ -20,7 +19,7 @@ use Rattle.expr_flows.specs.declared.fails.FlowFail.TheVariants as F
 use Rattle.expr_flows.specs.declared.known.Known.{Known}
 use Rattle.expr_flows.specs.declared.traced.Traced.{Traced}
 use Rattle.expr_flows.specs.declared.traced.Index.{Index}
-use Rattle.expr_flows.specs.Known.{sight, takes_too_long, ValueFails}
+use Rattle.expr_flows.specs.Known.{sight, takes_too_long}
 use Rattle.expr_flows.specs.Traces.{IsTraced, IsIndex, IsShort, Adds}
 
 -- the last index of a select path

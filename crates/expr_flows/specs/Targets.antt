@@ -1,5 +1,5 @@
 -- What targets read and write.
-use Rattle.std.specs.Prelude.{◌≡◌, ⊤, ◌⊎◌, ℕ, Bool, false, List, [], ◌++◌, map, flat_map, Option, Some, None, Result, Ok, Err}
+use Rattle.std.specs.Prelude.{◌≡◌, ⊤, ◌⊎◌, ℕ, Bool, false, List, [], ◌++◌, map, Option, Some, None, Result, Ok, Err}
 use Rattle.std.specs.Borrow.{Bor}
 use Rattle.bit_sets.specs.declared.span.Use.{Use}
 use Rattle.sv_types.specs.declared.expression.Expr.{Expr}

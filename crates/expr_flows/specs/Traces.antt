@@ -1,5 +1,5 @@
 -- Select paths, as far as their indices are known, as the code has them.
-use Rattle.std.specs.Prelude.{◌≡◌, ⊤, ℕ, ◌≤◌, ◌^◌, Bool, true, false, ◌&&◌, cond, ℤ, List, [], ◌∷◌, ◌++◌, map, Option, Some, None, unsigned_abs, Result, Ok, Err}
+use Rattle.std.specs.Prelude.{◌≡◌, ⊤, ℕ, ◌≤◌, ◌^◌, Bool, true, false, ◌&&◌, cond, ℤ, List, [], ◌++◌, map, Option, Some, None, unsigned_abs, Result, Ok, Err}
 use Rattle.bit_sets.specs.declared.span.Use.{Use}
 use Rattle.sv_types.specs.Surroundings as S
 use Rattle.sv_types.specs.Windows.{Window}

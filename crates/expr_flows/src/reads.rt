@@ -76,12 +76,7 @@ fn fixed_index(alloc: Global, known: Known<'_>, i: &Expr) -> Result<Index, FlowF
 }
 
 /// Adds what an expression reads, and tells whether its value is known.
-pub fn add_reads(
-    alloc: Global,
-    known: Known<'_>,
-    e: &Expr,
-    to: &mut Uses,
-) -> Result<bool, FlowFail>
+pub fn add_reads(alloc: Global, known: Known<'_>, e: &Expr, to: &mut Uses) -> Result<bool, FlowFail>
     requires functions { AllCanRun known.functions.now }
     requires fits { FitsAlone (meaning e.now) (formals_in known.functions.now) }
     requires full { is_full (formals_in known.functions.now) e.now ≡ true }

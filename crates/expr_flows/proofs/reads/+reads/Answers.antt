@@ -1,13 +1,12 @@
-use Rattle.std.proofs.Common.{◌≡◌, inl, true, ◌+◌, ◌*◌, ◌≤◌, ◌&&◌, map, drop, Err, refl, arith, ap, sym, ◌∙◌, subst, rules}
+use Rattle.std.proofs.Common.{◌≡◌, inl, true, ◌+◌, ◌&&◌, map, drop, Err, refl, arith, ap, sym, ◌∙◌, subst, rules}
 use Rattle.std.proofs.lemmas.Bool.{and_parts}
 use Rattle.std.proofs.lemmas.Result.{err_from_is_err_and}
 use Rattle.std.proofs.Math.Bool.{and-true}
-use Rattle.sv_types.specs.Meanings.{Prefix, wide}
+use Rattle.sv_types.specs.Meanings.{wide}
 use Rattle.sv_types.specs.Windows.{whole, between}
 use Rattle.sv_types.specs.Layouts.{layout}
 use Rattle.sv_types.specs.Paths.{narrowed}
 use Rattle.sv_types.specs.Expressions.{meaning}
-use Rattle.eval_parts.specs.Limits.{Fits}
 use Rattle.eval_parts.proofs.Lists.{own-narrow}
 use Rattle.eval_parts.proofs.Nodes as N
 use Rattle.eval_parts.proofs.PathLimits as L

@@ -1,7 +1,7 @@
 use Rattle.std.proofs.Common.{◌≡◌, ◌+◌, ◌*◌, ◌&&◌, List, map, drop}
 use Rattle.bit_sets.specs.declared.span.Use.{Use}
 use Rattle.eval_parts.proofs.Nodes.{nodes}
-use Rattle.eval_forms.specs.Asked.{Asked, asked, AllFitAsked}
+use Rattle.eval_forms.specs.Asked.{asked, AllFitAsked}
 use Rattle.eval_forms.specs.Callees.{formals_in}
 use Rattle.eval_forms.proofs.AskedLaws.{AllFewer}
 use Rattle.expr_flows.specs.Known.{sight}

@@ -1,4 +1,4 @@
-use Rattle.std.proofs.Common.{◌^◌, ◌<◌, sym, subst, arith}
+use Rattle.std.proofs.Common.{sym, subst, arith}
 use Rattle.sv_types.specs.Meanings.{use_of}
 use Rattle.expr_flows.specs.Traces.{Adds, prefix_of}
 use Rattle.expr_flows.proofs.Adding as A

@@ -1,4 +1,4 @@
-use Rattle.std.proofs.Common.{◌≤◌, length, Err, arith, ap, sym, ◌∙◌, subst}
+use Rattle.std.proofs.Common.{length, Err, arith, ap, sym, ◌∙◌, subst}
 use Rattle.std.proofs.lemmas.Result.{err_from_is_err_and}
 use Rattle.sv_types.specs.Meanings.{wide, signed}
 use Rattle.sv_types.specs.Expressions.{meaning}

@@ -1,4 +1,4 @@
-use Rattle.std.proofs.Common.{◌^◌, ◌<◌, ap, sym, subst, arith}
+use Rattle.std.proofs.Common.{sym, subst, arith}
 use Rattle.sv_types.specs.Meanings.{use_of, writes_of}
 use Rattle.expr_flows.specs.Targets.{Writes}
 use Rattle.expr_flows.specs.Traces.{prefix_of}
