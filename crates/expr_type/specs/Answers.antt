@@ -27,17 +27,17 @@ first_break (And a b) = or_next (first_break a) (first_break b)
 first_break (Behind p b) = first_break b
 first_break Quiet = None
 
--- something that isn't whole, for this reason
-abbrev pub Stops : Halt → Breaks → Type 0
-Stops H.Memory b = ⊤
-Stops (H.Breaks at rule) b = first_break b ≡ Some (record { at = at; rule = rule })
-Stops H.Quiet b = first_break b ≡ None
+-- why something isn't whole, if it isn't: its first break, if it has one
+abbrev pub reason : {A : Type 0} → Checked A → Option (Option Break)
+reason (Ok a) = None
+reason (Err b) = Some (first_break b)
 
-abbrev pub Halts : {A : Type 0} → Halt → Checked A → Type 0
-Halts h (Ok a) = h ≡ H.Memory
-Halts h (Err b) = Stops h b
+abbrev pub HaltsBy : Halt → Option (Option Break) → Type 0
+HaltsBy H.Memory r = ⊤
+HaltsBy (H.Breaks at rule) r = r ≡ Some (Some (record { at = at; rule = rule }))
+HaltsBy H.Quiet r = r ≡ Some None
 
 -- what is whole, or the first of its breaks, or want of memory
 abbrev pub Gives : {A : Type 0} → Result A Halt → Checked A → Type 0
 Gives (Ok a) m = m ≡ Ok a
-Gives (Err h) m = Halts h m
+Gives (Err h) m = HaltsBy h (reason m)
