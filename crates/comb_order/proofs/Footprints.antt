@@ -2,6 +2,7 @@
 use Rattle.std.proofs.Common.{◌≡◌, ℕ, ◌^◌, ◌<◌, ◌≤◌, Bool, true, false, ◌&&◌, not, List, length, map, slice_index_or, Option, Some, None, refl, sym, ap, ◌∙◌, subst, arith}
 use Rattle.std.specs.Prelude.{slice_get}
 use Rattle.row_machine.specs.Valuation.{Place, has}
+use Rattle.row_machine.specs.Machine as M
 use Rattle.bit_sets.specs.Sets.{in_spans}
 use Rattle.bit_needs.specs.declared.footprints.Footprint.{Footprint}
 use Rattle.bit_needs.specs.Uses.{spans_in}
@@ -14,10 +15,11 @@ use Rattle.sv_types.specs.declared.design.Design.{Design}
 use Rattle.sv_types.specs.declared.design.Process.{Process}
 use Rattle.sv_types.specs.Flows.{covered, uses_of}
 use Rattle.sv_types.specs.Statements.{doing}
-use Rattle.sv_types.specs.Machine.{parts, places, reads_of, writes_of}
-use Rattle.design_breaks.specs.Memories.{flow}
+use Rattle.sv_types.specs.Machine.{parts, places, reads_of, writes_of, machine}
+use Rattle.design_breaks.specs.Memories.{is_edged, flow}
 use Rattle.comb_order.specs.Combs.{numbers_from, number_at}
 use Rattle.comb_order.specs.Bits.{place_of, widths_of, kept, kept_reads, kept_writes, kept_use, IsFound, IsFoundAt, AreFound, AreFlows, IsFootprintOf, AreFootprintsOf}
+use Rattle.comb_order.proofs.Standing.{Stands, processes-stand, zip-at, no_process}
 use Rattle.comb_order.proofs.Positions.{is_there, reads-are, writes-are}
 use Rattle.comb_order.proofs.Places.{has-there, has-filter}
 
@@ -61,6 +63,16 @@ module _ (d : Design) where
         ∙ sym (has-filter (covered (uses_of (flow d p).writes)) (places (parts d)) (place_of n) ∙ ap (λ b. b && covered (uses_of (flow d p).writes) (place_of n)) (has-there d (place_of n)));
   }
 
+  -- a process with one of these numbers is combinational
+  not-edged : (k : ℕ) (p : Process) → k < length (numbers_from 0 d.processes) → slice_get d.processes (number_at (numbers_from 0 d.processes) k) ≡ Some p → is_edged p.kind ≡ false
+  not-edged k p low stands = by (zip-at (Stands d) (numbers_from 0 d.processes) (machine d).combs k 0 no_process (processes-stand d) low)
+    where
+      by : {c : M.Process} → Stands d (number_at (numbers_from 0 d.processes) k) c → is_edged p.kind ≡ false
+      by s =
+          let some : Some p ≡ Some s.process = sym stands ∙ s.stands in
+          let same : p ≡ s.process = cc in
+          ap (λ (q : Process). is_edged q.kind) same ∙ s.makes_it.not_edged
+
   found-at : (p : Process) (r : Footprint) (o : Option Found) → ((f : Found) → o ≡ Some f → IsFlow f (flow d p)) → IsFoundAt (widths_of d.signals) o r → IsFootprintOf d p r
   found-at p r None is found = absurd found
   found-at p r (Some f) is found = is-footprint p f r (is f refl) found
@@ -75,5 +87,5 @@ module _ (d : Design) where
       by : AreFound (widths_of d.signals) flows (numbers_from 0 d.processes) rs → AreFootprintsOf d rs
       by all = record {
         count = all.count;
-        each = λ k p low stands. found-at p (footprint_at rs k) (slice_get flows (number_at (numbers_from 0 d.processes) k)) (λ f there. are.each (number_at (numbers_from 0 d.processes) k) p f stands there) (all.each k low);
+        each = λ k p low stands. found-at p (footprint_at rs k) (slice_get flows (number_at (numbers_from 0 d.processes) k)) (λ f at. are.each (number_at (numbers_from 0 d.processes) k) p f stands (not-edged k p low stands) at) (all.each k low);
       }

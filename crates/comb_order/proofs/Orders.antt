@@ -3,7 +3,6 @@ use Rattle.std.proofs.Common.{◌≡◌, ◌⊎◌, inl, inr, ℕ, zero, suc, �
 use Rattle.std.specs.Prelude.{slice_get}
 use Rattle.std.proofs.lemmas.Bool.{ltb-true, and_parts, cases_order}
 use Rattle.std.proofs.lemmas.List.{get_or_default}
-use Rattle.b4_core.specs.declared.bit.Bit4.TheVariants.{X}
 use Rattle.row_machine.specs.Valuation.{Place, Member, has, OneWriter}
 use Rattle.row_machine.specs.Machine as M
 use Rattle.row_machine.specs.Order.{Free, IsOrder, Ordered}
@@ -36,11 +35,7 @@ use Rattle.comb_order.specs.Bits.{place_of, widths_of, KeepsLimits, IsFootprintO
 use Rattle.comb_order.specs.Stuck.{break_at, break_or_none, refusal_at, IsFirst, IsRefusalOf, IsFirstStuck}
 use Rattle.comb_order.proofs.Positions.{place-number, is_there}
 use Rattle.comb_order.proofs.Places.{has-there, has-filter}
-use Rattle.comb_order.proofs.Standing.{MakesOne, MakesNone, makes, Stands, processes-stand, zip-long, zip-at, numbered, above, distinct-numbers, few-numbers}
-
--- a process that stands past the end
-pub no_process : M.Process
-no_process = M.assignment [] [] (λ v q. X)
+use Rattle.comb_order.proofs.Standing.{no_process, MakesOne, MakesNone, makes, Stands, processes-stand, zip-long, zip-at, numbered, above, distinct-numbers, few-numbers}
 
 -- distinct numbers at distinct places
 distinct-at : (ns ks : List ℕ) → Distinct ns → ((k : ℕ) → Member ks k → k < length ns) → Distinct ks → Distinct (map (number_at ns) ks)

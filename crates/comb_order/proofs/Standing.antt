@@ -3,6 +3,7 @@ use Rattle.std.proofs.Common.{◌≡◌, ◌⊎◌, inl, inr, ℕ, zero, suc, �
 use Rattle.std.specs.Prelude.{slice_get}
 use Rattle.std.specs.List.{AllZip}
 use Rattle.std.proofs.lemmas.Bool.{false≢true}
+use Rattle.b4_core.specs.declared.bit.Bit4.TheVariants.{X}
 use Rattle.row_machine.specs.Valuation.{Place, Member}
 use Rattle.row_machine.specs.Machine as M
 use Rattle.row_machine.specs.Stuck.{Distinct}
@@ -16,6 +17,10 @@ use Rattle.sv_types.specs.Machine as SM
 use Rattle.sv_types.specs.Machine.{parts, machine, ProcessMeaning, process_meaning, comb_of, reads_of, writes_of}
 use Rattle.design_breaks.specs.Memories.{is_edged}
 use Rattle.comb_order.specs.Combs.{numbers_from, number_at, comb_at, made_of, IsComb}
+
+-- a process that stands past the end
+pub no_process : M.Process
+no_process = M.assignment [] [] (λ v q. X)
 
 -- what a process makes of the machine: nothing, or one process with its bits
 pub record MakesOne (d : Design) (does : Doing) (kind : ProcessKind) : Type 0 where

@@ -1,5 +1,5 @@
 -- Numbers as bits of signals, and what processes read and write of them.
-use Rattle.std.specs.Prelude.{◌≡◌, ℕ, ◌*◌, ◌/◌, ◌%◌, ◌^◌, ◌<◌, ◌≤◌, min, Bool, ◌&&◌, not, List, length, map, slice_get, slice_index_or, Option, Some, None}
+use Rattle.std.specs.Prelude.{◌≡◌, ℕ, ◌*◌, ◌/◌, ◌%◌, ◌^◌, ◌<◌, ◌≤◌, min, Bool, false, ◌&&◌, not, List, length, map, slice_get, slice_index_or, Option, Some, None}
 use Rattle.row_machine.specs.Valuation.{Place, has}
 use Rattle.bit_sets.specs.declared.span.Span.{Span}
 use Rattle.bit_sets.specs.declared.span.Use.{Use}
@@ -17,7 +17,7 @@ use Rattle.sv_types.specs.declared.design.Signal.{Signal}
 use Rattle.sv_types.specs.Layouts.{width_of}
 use Rattle.sv_types.specs.Statements.{doing}
 use Rattle.sv_types.specs.Machine.{parts, reads_of, writes_of}
-use Rattle.design_breaks.specs.Memories.{flow}
+use Rattle.design_breaks.specs.Memories.{is_edged, flow}
 use Rattle.comb_order.specs.Combs.{numbers_from, number_at}
 
 -- the bit that a number stands for
@@ -63,15 +63,15 @@ abbrev pub AreNarrow : List Signal → Type 0
 AreNarrow ss = (k : ℕ) (s : Signal) → slice_get ss k ≡ Some s → width_of s.of ≤ 4194304
 
 module _ (d : Design) where
-  -- a design that the limits let be elaborated, with numbers of 32 bits for its processes
+  -- what the limits on a design give: all signals together have at most 2^22 bits (E702), and processes have numbers of 32 bits
   pub record KeepsLimits : Type 0 where
     pub narrow : AreNarrow d.signals
     pub processes : length d.processes ≤ 2 ^ 32
 
-  -- what is found of each process
+  -- what is found of each combinational process, at its number
   pub record AreFlows (flows : List Found) : Type 0 where
     pub count : length flows ≡ length d.processes
-    pub each : (n : ℕ) (p : Process) (f : Found) → slice_get d.processes n ≡ Some p → slice_get flows n ≡ Some f → IsFlow f (flow d p)
+    pub each : (n : ℕ) (p : Process) (f : Found) → slice_get d.processes n ≡ Some p → is_edged p.kind ≡ false → slice_get flows n ≡ Some f → IsFlow f (flow d p)
 
   -- the footprint of a process by its bits
   pub record IsFootprintOf (p : Process) (r : Footprint) : Type 0 where

@@ -56,7 +56,8 @@ fn refused(
 
 /// The numbers of the combinational processes of a design, each behind those that it follows, by the footprints of these
 /// processes. If some of them are stuck, E602 at the one whose break is the least. It takes n log n steps for n spans of
-/// footprints, and one for each two that have a bit in common, where no bit has two writers; no clause says so.
+/// footprints, and one for each two that have a bit in common, where no bit has two writers; no clause says so. Of the design it
+/// is asked that no signal has over 2^22 bits, as E702 lets all of them have together, and no more than 2^32 processes.
 pub fn order_by(
     alloc: Global,
     design: &Design,
@@ -83,7 +84,8 @@ pub fn order_by(
 }
 
 /// The numbers of the combinational processes of a design, each behind those that it follows, by what is found of each
-/// process. If some of them are stuck, E602 at the one whose break is the least.
+/// process; what stands there of edge processes isn't looked at. If some are stuck, E602 at the one whose break is the least.
+/// The limits are as for `order_by`.
 pub fn order_of(alloc: Global, design: &Design, flows: &[Found]) -> Result<Order, Fail>
     requires limits { KeepsLimits design.now }
     requires flows { AreFlows design.now flows.now }
