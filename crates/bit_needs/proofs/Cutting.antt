@@ -1,5 +1,5 @@
 -- Uses outside of a set, as spans.
-use Rattle.std.proofs.Common.{◌≡◌, ℕ, Bool, true, false, ◌&&◌, ◌||◌, not, cond, List, [], ◌∷◌, ◌++◌, map, refl, ap, sym, ◌∙◌}
+use Rattle.std.proofs.Common.{◌≡◌, ℕ, Bool, true, false, ◌&&◌, ◌||◌, not, cond, List, [], ◌∷◌, ◌++◌, refl, ap, sym, ◌∙◌}
 use Rattle.bit_sets.specs.declared.span.Span.{Span}
 use Rattle.bit_sets.specs.declared.span.Use.{Use}
 use Rattle.bit_sets.specs.Sets.{covers, in_spans, tokens_at}

@@ -1,27 +1,23 @@
 -- From the pieces to the needs, and from the needs to the processes of a machine.
-use Rattle.std.proofs.Common.{◌≡◌, ℕ, zero, suc, ◌+◌, ◌++◌, length-append, ◌<◌, ◌≤◌, max, min, Bool, true, false, ◌&&◌, ◌==◌, List, [], ◌∷◌, length, slice_index_or, Option, Some, None, refl, sym, ap, ◌∙◌, subst, inl, inr, arith}
+use Rattle.std.proofs.Common.{◌≡◌, ℕ, zero, suc, ◌+◌, ◌++◌, length-append, ◌<◌, ◌≤◌, max, min, true, ◌&&◌, ◌==◌, List, [], ◌∷◌, length, slice_index_or, sym, ap, ◌∙◌, subst, inl, inr, arith}
 use Rattle.std.specs.Prelude.{slice_get, nat_le, nat_lt}
-use Rattle.std.specs.List.{list_any}
-use Rattle.std.proofs.lemmas.Bool.{and_parts, and_from, eqb-true, eq-eqb, ltb-true, lt-ltb, le-leb, leb-true, false≢true, or_cases, or_left, or_right, cases_eq}
+use Rattle.std.proofs.lemmas.Bool.{and_parts, and_from, eqb-true, eq-eqb, ltb-true, lt-ltb, le-leb, false≢true, or_cases, or_left, or_right, cases_eq}
 use Rattle.std.proofs.lemmas.List.{get_or_default, get_or_append_left}
 use Rattle.std.proofs.Math.Seq.{get_or-append_seam}
-use Rattle.row_machine.specs.Valuation.{Place, Member, has}
-use Rattle.row_machine.specs.Machine.{Process}
-use Rattle.row_machine.specs.Order.{follows}
+use Rattle.row_machine.specs.Valuation.{has}
 use Rattle.row_machine.proofs.Basics.{member_at, member-any, any-member, followed_bit, follows_writer}
 use Rattle.row_machine.proofs.Members.{member-place}
 use Rattle.bit_sets.specs.declared.span.Span.{Span}
 use Rattle.bit_sets.specs.Sets.{covers, in_spans, nothing}
 use Rattle.bit_sets.proofs.Laws as L
 use Rattle.peel.specs.Peeled.{needed}
-use Rattle.peel.specs.Laws.{NeedsFollowed}
 use Rattle.bit_needs.specs.declared.footprints.Footprint.{Footprint}
 use Rattle.bit_needs.specs.declared.writers.Written.{Written}
 use Rattle.bit_needs.specs.declared.writers.Writers.{Writers}
-use Rattle.bit_needs.specs.Writers.{no_piece, tells, writes_it, AreWriters}
-use Rattle.bit_needs.specs.Touching.{touches, IsTouched, IsTouchedBy, AreTouched}
-use Rattle.bit_needs.specs.Needs.{no_footprint, footprint_at, Meets, AreNeeds}
-use Rattle.bit_needs.specs.Laws.{IsFootprint, AreFootprints, NeedsAreFollowed}
+use Rattle.bit_needs.specs.Writers.{no_piece, writes_it, AreWriters}
+use Rattle.bit_needs.specs.Touching.{touches, IsTouchedBy, AreTouched}
+use Rattle.bit_needs.specs.Needs.{no_footprint, footprint_at, AreNeeds}
+use Rattle.bit_needs.specs.Laws.{NeedsAreFollowed}
 use Rattle.bit_needs.proofs.Touching.{AreTouchedEach}
 
 -- a number lies in a span of a list

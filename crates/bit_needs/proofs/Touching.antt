@@ -1,7 +1,5 @@
 -- Pieces that have a number in common with spans.
-use Rattle.std.proofs.Common.{◌≡◌, ◌⊎◌, ℕ, suc, ◌+◌, ◌<◌, ◌≤◌, max, min, Bool, true, false, List, [], ◌∷◌, ◌++◌, length, slice_index_or, refl, sym, ap, ◌∙◌, subst, inl, inr, arith}
-use Rattle.std.specs.Prelude.{nat_lt}
-use Rattle.std.specs.List.Sorted.{IsNonDecreasing, IsNonDecreasingBy}
+use Rattle.std.proofs.Common.{◌≡◌, ◌⊎◌, ℕ, ◌+◌, ◌<◌, ◌≤◌, max, min, true, false, List, [], length, slice_index_or, sym, ap, ◌∙◌, subst, inl, inr, arith}
 use Rattle.std.proofs.lemmas.Bool.{ltb-true, false≢true, cases_eq, cases_lt}
 use Rattle.row_machine.specs.Valuation.{Member}
 use Rattle.bit_sets.specs.declared.span.Span.{Span}
@@ -10,7 +8,7 @@ use Rattle.peel.specs.Peeled.{needed}
 use Rattle.bit_needs.specs.declared.footprints.Footprint.{Footprint}
 use Rattle.bit_needs.specs.declared.writers.Written.{Written}
 use Rattle.bit_needs.specs.declared.writers.Writers.{Writers}
-use Rattle.bit_needs.specs.Writers.{no_piece, low_of, AreOrdered}
+use Rattle.bit_needs.specs.Writers.{no_piece, AreOrdered}
 use Rattle.bit_needs.specs.Touching.{touches, IsTouched, IsTouchedBy, AddsOne, AddsTouched, AreTouched}
 use Rattle.bit_needs.specs.Needs.{footprint_at}
 

@@ -1,6 +1,6 @@
 //! The numbers that a thing reads and writes.
 
-ghost use Rattle.std.specs.Prelude.{◌≡◌, ℕ, ◌&&◌, not, map, IfOk};
+ghost use Rattle.std.specs.Prelude.{◌≡◌, ℕ, ◌&&◌, not, IfOk};
 ghost use Rattle.bit_sets.specs.Sets.{in_spans, IsSet};
 ghost use Rattle.bit_needs.specs.Uses.{spans_in};
 

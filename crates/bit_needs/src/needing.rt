@@ -1,10 +1,11 @@
 //! Who needs whom.
 
-ghost use Rattle.std.specs.Prelude.{◌≡◌, ◌≤◌, ◌<◌, ℕ, true, length, take, slice_index_or, IfOk, OnOk};
-ghost use Rattle.std.specs.List.Sorted.{IsNonDecreasing, IsNonDecreasingBy};
+ghost use Rattle.std.specs.Prelude.{◌≡◌, ◌≤◌, ◌<◌, ℕ, true, length, slice_index_or, IfOk, OnOk};
+ghost use Rattle.std.specs.List.Sorted.{IsNonDecreasing};
 ghost use Rattle.row_machine.specs.Valuation.{Member};
 ghost use Rattle.bit_needs.specs.Writers.{AreOrdered, AreWriters};
 ghost use Rattle.bit_needs.specs.Needs.{AreNeeds};
+ghost use Rattle.bit_needs.specs.Touching as spec;
 ghost use Rattle.bit_needs.specs.Touching.{AddsOne, AddsTouched, AreTouched};
 
 use crate::footprints::Footprint;
@@ -54,7 +55,7 @@ fn add_one(list: &mut Items<u32>, number: u32) -> Result<(), AllocError>
 
 // Whether two spans have a number in common.
 fn touches(a: Span, b: Span) -> bool
-    ensures { result ≡ Rattle.bit_needs.specs.Touching.touches a b }
+    ensures { result ≡ spec.touches a b }
 {
     a.low.max(b.low) < a.high.min(b.high)
 }

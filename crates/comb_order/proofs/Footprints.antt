@@ -1,7 +1,6 @@
 -- From what is found of processes to their footprints.
-use Rattle.std.proofs.Common.{◌≡◌, ℕ, ◌^◌, ◌<◌, ◌≤◌, Bool, true, false, ◌&&◌, not, List, length, map, slice_index_or, Option, Some, None, refl, sym, ap, ◌∙◌, subst, arith}
+use Rattle.std.proofs.Common.{◌≡◌, ℕ, ◌<◌, Bool, true, false, ◌&&◌, not, List, length, map, Option, Some, None, refl, sym, ap, ◌∙◌, subst}
 use Rattle.std.specs.Prelude.{slice_get}
-use Rattle.row_machine.specs.Valuation.{Place, has}
 use Rattle.row_machine.specs.Machine as M
 use Rattle.bit_sets.specs.Sets.{in_spans}
 use Rattle.bit_needs.specs.declared.footprints.Footprint.{Footprint}
@@ -9,13 +8,11 @@ use Rattle.bit_needs.specs.Uses.{spans_in}
 use Rattle.bit_needs.specs.Needs.{footprint_at}
 use Rattle.flow_sets.specs.declared.found.Found.{Found}
 use Rattle.flow_sets.specs.declared.uses.Write.{Write}
-use Rattle.flow_sets.specs.Bits.{use_of, write_of}
 use Rattle.flow_sets.specs.Flows.{IsFlow}
 use Rattle.sv_types.specs.declared.design.Design.{Design}
 use Rattle.sv_types.specs.declared.design.Process.{Process}
 use Rattle.sv_types.specs.Flows.{covered, uses_of}
-use Rattle.sv_types.specs.Statements.{doing}
-use Rattle.sv_types.specs.Machine.{parts, places, reads_of, writes_of, machine}
+use Rattle.sv_types.specs.Machine.{parts, places, machine}
 use Rattle.design_breaks.specs.Memories.{is_edged, flow}
 use Rattle.comb_order.specs.Combs.{numbers_from, number_at}
 use Rattle.comb_order.specs.Bits.{place_of, widths_of, kept, kept_reads, kept_writes, kept_use, IsFound, IsFoundAt, AreFound, AreFlows, IsFootprintOf, AreFootprintsOf}

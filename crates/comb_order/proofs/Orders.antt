@@ -1,11 +1,11 @@
 -- From the needs of the combinational processes to their order, or to those that are stuck.
-use Rattle.std.proofs.Common.{◌≡◌, ◌⊎◌, inl, inr, ℕ, zero, suc, ◌+◌, ◌^◌, ◌<◌, ◌≤◌, Bool, true, false, ◌&&◌, List, [], ◌∷◌, ◌++◌, length, map, flat_map, slice_index_or, Option, Some, None, refl, sym, ap, ◌∙◌, subst, arith, append-nil}
+use Rattle.std.proofs.Common.{◌≡◌, ◌⊎◌, inl, inr, ℕ, zero, suc, ◌+◌, ◌^◌, ◌<◌, ◌≤◌, true, List, [], ◌∷◌, ◌++◌, length, map, slice_index_or, Some, refl, sym, ap, ◌∙◌, subst, arith}
 use Rattle.std.specs.Prelude.{slice_get}
 use Rattle.std.proofs.lemmas.Bool.{ltb-true, and_parts, cases_order}
 use Rattle.std.proofs.lemmas.List.{get_or_default}
 use Rattle.row_machine.specs.Valuation.{Place, Member, has, OneWriter}
 use Rattle.row_machine.specs.Machine as M
-use Rattle.row_machine.specs.Order.{Free, IsOrder, Ordered}
+use Rattle.row_machine.specs.Order.{IsOrder, Ordered}
 use Rattle.row_machine.specs.Stuck.{Stuck, Distinct, at_places, IsOrderOfPlaces}
 use Rattle.row_machine.proofs.Basics.{member_at}
 use Rattle.row_machine.proofs.Members.{append-member, member-front, member-back, member-place, member-map, map-member}
@@ -17,25 +17,25 @@ use Rattle.sv_types.specs.declared.design.Signal.{Signal}
 use Rattle.sv_types.specs.Layouts.{width_of}
 use Rattle.sv_types.specs.Statements.{doing}
 use Rattle.sv_types.specs.Flows.{covered, uses_of}
-use Rattle.sv_types.specs.Machine.{parts, places, machine, comb_of, ProcessMeaning, process_meaning, writes_of}
+use Rattle.sv_types.specs.Machine.{parts, places, machine, comb_of, writes_of}
 use Rattle.peel.specs.Peeled.{IsPeeled}
 use Rattle.peel.specs.Laws.{NeedsFollowed}
 use Rattle.peel.proofs.Lists.{distinct_places}
 use Rattle.peel.proofs.Laws as Peel
 use Rattle.bit_needs.specs.declared.footprints.Footprint.{Footprint}
-use Rattle.bit_needs.specs.Needs.{footprint_at, AreNeeds}
-use Rattle.bit_needs.specs.Laws.{IsFootprint, AreFootprints}
+use Rattle.bit_needs.specs.Needs.{AreNeeds}
+use Rattle.bit_needs.specs.Laws.{AreFootprints}
 use Rattle.bit_needs.proofs.Laws as Needs
 use Rattle.design_breaks.specs.Breaks.{is_less}
 use Rattle.design_breaks.specs.Circles.{IsStuck, break_of}
-use Rattle.design_breaks.specs.Memories.{is_edged, flow}
+use Rattle.design_breaks.specs.Memories.{flow}
 use Rattle.flow_sets.specs.Bits.{number_of}
 use Rattle.comb_order.specs.Combs.{numbers_from, number_at, made_of, comb_at, combs_at, IsComb, IsOrderOf}
-use Rattle.comb_order.specs.Bits.{place_of, widths_of, KeepsLimits, IsFootprintOf, AreFootprintsOf}
-use Rattle.comb_order.specs.Stuck.{break_at, break_or_none, refusal_at, IsFirst, IsRefusalOf, IsFirstStuck}
-use Rattle.comb_order.proofs.Positions.{place-number, is_there}
+use Rattle.comb_order.specs.Bits.{place_of, widths_of, KeepsLimits, AreFootprintsOf}
+use Rattle.comb_order.specs.Stuck.{break_at, break_or_none, IsRefusalOf, IsFirstStuck}
+use Rattle.comb_order.proofs.Positions.{place-number}
 use Rattle.comb_order.proofs.Places.{has-there, has-filter}
-use Rattle.comb_order.proofs.Standing.{no_process, MakesOne, MakesNone, makes, Stands, processes-stand, zip-long, zip-at, numbered, above, distinct-numbers, few-numbers}
+use Rattle.comb_order.proofs.Standing.{no_process, MakesOne, MakesNone, makes, Stands, processes-stand, zip-long, zip-at, numbered, distinct-numbers, few-numbers}
 
 -- distinct numbers at distinct places
 distinct-at : (ns ks : List ℕ) → Distinct ns → ((k : ℕ) → Member ks k → k < length ns) → Distinct ks → Distinct (map (number_at ns) ks)

@@ -1,10 +1,9 @@
 -- The combinational processes of a design, and those of its machine, place by place.
-use Rattle.std.proofs.Common.{◌≡◌, ◌⊎◌, inl, inr, ℕ, zero, suc, ◌+◌, ◌^◌, ◌<◌, ◌≤◌, Bool, true, false, cond, List, [], ◌∷◌, ◌++◌, length, map, flat_map, slice_index_or, Option, Some, None, refl, sym, ap, ◌∙◌, subst, arith}
+use Rattle.std.proofs.Common.{◌≡◌, ◌⊎◌, inl, inr, ℕ, zero, suc, ◌+◌, ◌<◌, ◌≤◌, Bool, true, false, cond, List, [], ◌∷◌, ◌++◌, length, map, flat_map, slice_index_or, Some, refl, sym, ap, ◌∙◌, subst, arith}
 use Rattle.std.specs.Prelude.{slice_get}
 use Rattle.std.specs.List.{AllZip}
-use Rattle.std.proofs.lemmas.Bool.{false≢true}
 use Rattle.b4_core.specs.declared.bit.Bit4.TheVariants.{X}
-use Rattle.row_machine.specs.Valuation.{Place, Member}
+use Rattle.row_machine.specs.Valuation.{Member}
 use Rattle.row_machine.specs.Machine as M
 use Rattle.row_machine.specs.Stuck.{Distinct}
 use Rattle.row_machine.proofs.Basics.{member_at}
@@ -16,7 +15,7 @@ use Rattle.sv_types.specs.Statements.{Doing, doing}
 use Rattle.sv_types.specs.Machine as SM
 use Rattle.sv_types.specs.Machine.{parts, machine, ProcessMeaning, process_meaning, comb_of, reads_of, writes_of}
 use Rattle.design_breaks.specs.Memories.{is_edged}
-use Rattle.comb_order.specs.Combs.{numbers_from, number_at, comb_at, made_of, IsComb}
+use Rattle.comb_order.specs.Combs.{numbers_from}
 
 -- a process that stands past the end
 pub no_process : M.Process

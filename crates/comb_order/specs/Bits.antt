@@ -1,5 +1,5 @@
 -- Numbers as bits of signals, and what processes read and write of them.
-use Rattle.std.specs.Prelude.{◌≡◌, ℕ, ◌*◌, ◌/◌, ◌%◌, ◌^◌, ◌<◌, ◌≤◌, min, Bool, false, ◌&&◌, not, List, length, map, slice_get, slice_index_or, Option, Some, None}
+use Rattle.std.specs.Prelude.{◌≡◌, ℕ, ◌/◌, ◌%◌, ◌^◌, ◌<◌, ◌≤◌, min, false, ◌&&◌, not, List, length, map, slice_get, slice_index_or, Option, Some, None}
 use Rattle.row_machine.specs.Valuation.{Place, has}
 use Rattle.bit_sets.specs.declared.span.Span.{Span}
 use Rattle.bit_sets.specs.declared.span.Use.{Use}

@@ -1,5 +1,5 @@
 -- The combinational processes of a design, by their numbers.
-use Rattle.std.specs.Prelude.{◌≡◌, ℕ, suc, Bool, true, false, cond, List, [], ◌∷◌, flat_map, slice_get, slice_index_or, Option, Some, None}
+use Rattle.std.specs.Prelude.{◌≡◌, ℕ, suc, false, cond, List, [], ◌∷◌, flat_map, slice_get, slice_index_or, Option, Some, None}
 use Rattle.row_machine.specs.Valuation.{Member}
 use Rattle.row_machine.specs.Machine as M
 use Rattle.row_machine.specs.Order.{Ordered}

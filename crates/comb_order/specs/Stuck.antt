@@ -1,5 +1,5 @@
 -- The first of the processes that are stuck.
-use Rattle.std.specs.Prelude.{◌≡◌, ℕ, ◌<◌, false, ⊤, List, length, slice_get, slice_index_or, Option, Some, None}
+use Rattle.std.specs.Prelude.{◌≡◌, ℕ, false, ⊤, List, slice_get, Option, Some, None}
 use Rattle.row_machine.specs.Valuation.{Member}
 use Rattle.sv_source.specs.declared.token.Spot.{Spot}
 use Rattle.sv_source.specs.declared.refusal.Refusal.{Refusal}

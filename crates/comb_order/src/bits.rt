@@ -1,7 +1,6 @@
 //! The bits of signals that a process reads and writes.
 
-ghost use Rattle.std.specs.Prelude.{◌≡◌, ◌≤◌, ◌<◌, List, length, map, slice_index_or, IfOk};
-ghost use Rattle.sv_types.specs.Layouts.{width_of};
+ghost use Rattle.std.specs.Prelude.{◌≡◌, map, slice_index_or, IfOk};
 ghost use Rattle.flow_sets.specs.declared.uses.Write.{Write};
 ghost use Rattle.comb_order.specs.Bits as spec;
 ghost use Rattle.comb_order.specs.Bits.{AreNarrow, IsFound, widths_of};

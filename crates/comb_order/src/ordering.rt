@@ -1,6 +1,6 @@
 //! The order of the combinational processes.
 
-ghost use Rattle.std.specs.Prelude.{◌≡◌, ◌≤◌, ◌<◌, ℕ, length, map, slice_index_or, IfOk, IfErr};
+ghost use Rattle.std.specs.Prelude.{◌≡◌, ◌<◌, ℕ, length, map, slice_index_or, IfOk, IfErr};
 ghost use Rattle.row_machine.specs.Valuation.{OneWriter};
 ghost use Rattle.row_machine.specs.Machine as M;
 ghost use Rattle.row_machine.specs.Order.{IsOrder};

@@ -1,6 +1,4 @@
-use Rattle.bit_needs.proofs.Adding.{one-is-there, one-more}
-use Rattle.std.proofs.Common.{sym, ◌∙◌, subst}
-use Rattle.row_machine.specs.Valuation.{Member}
+use Rattle.bit_needs.proofs.Adding.{one-more}
 use Rattle.bit_needs.proofs.needing.add_one.Goals as goal
 
 pub returns : goal.returns

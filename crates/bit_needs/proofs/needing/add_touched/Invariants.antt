@@ -1,6 +1,3 @@
-use Rattle.std.proofs.Common.{ℕ, ◌<◌, length, slice_index_or, ◌≡◌, true}
-use Rattle.row_machine.specs.Valuation.{Member}
-use Rattle.bit_needs.specs.Touching.{touches}
 use Rattle.bit_needs.proofs.Touching.{AddsBelow}
 use Rattle.bit_needs.proofs.needing.add_touched.Given as goal
 

@@ -1,5 +1,3 @@
-use Rattle.std.proofs.Common.{ℕ, ◌<◌, ◌≤◌, take, slice_index_or}
-use Rattle.bit_needs.specs.Writers.{AreReached}
 use Rattle.bit_needs.proofs.Ends.{AreReachedUpTo}
 use Rattle.bit_needs.proofs.writers.ends_of.Given as goal
 

@@ -1,4 +1,4 @@
-use Rattle.std.proofs.Common.{List, subst}
+use Rattle.std.proofs.Common.{subst}
 use Rattle.bit_needs.specs.Writers.{AreReached}
 use Rattle.bit_needs.proofs.Pieces.{tells-pieces}
 use Rattle.bit_needs.proofs.writers.writers_of.Goals as goal

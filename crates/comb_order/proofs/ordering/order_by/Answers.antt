@@ -1,5 +1,4 @@
-use Rattle.std.proofs.Common.{arith, sym, ap, ◌∙◌, subst, length, ◌≤◌}
-use Rattle.comb_order.specs.Combs.{numbers_from}
+use Rattle.std.proofs.Common.{arith, ap, length}
 use Rattle.comb_order.proofs.Standing.{numbers-low}
 use Rattle.comb_order.proofs.Orders.{few-footprints, solve, left-within, order-within, refuses-first, gives-order, gives-run, frees-all}
 use Rattle.comb_order.proofs.ordering.order_by.Goals as goal

@@ -1,4 +1,4 @@
-use Rattle.std.proofs.Common.{◌∙◌, arith, length}
+use Rattle.std.proofs.Common.{◌∙◌, length}
 use Rattle.row_machine.proofs.Basics.{member_at}
 use Rattle.bit_sets.proofs.Halves.{if-ok}
 use Rattle.comb_order.proofs.First.{mapped-low, is-refusal}
