@@ -1,6 +1,6 @@
 -- Small texts: the definitions compute. Texts are given by their layers, as the trees that they stand for.
 use Rattle.std.proofs.Common.{◌≡◌, ℕ, suc, ◌+◌, Bool, true, false, List, [], ◌∷◌, ◌++◌, map, max, refl, ap, ◌∙◌, ◌&&◌, cond, Option, Some, None}
-use Rattle.std.specs.Prelude.{nat_lt, pos, Ok, Err, codes, slice_get}
+use Rattle.std.specs.Prelude.{nat_lt, pos, Ok, Err, codes, slice_get, flat_map}
 use Rattle.std.specs.Str.{bytes_eq}
 use Rattle.sv_source.specs.declared.token.Kind.TheVariants.{Name}
 use Rattle.sv_source.specs.declared.token.Token.{Token}
@@ -13,17 +13,18 @@ use Rattle.sv_types.specs.declared.types.SvType as X
 use Rattle.sv_types.specs.declared.types.SvType.{SvType}
 use Rattle.sv_types.specs.declared.types.SvType.TheVariants.{Enum}
 use Rattle.expr_type.specs.Breaks.{Breaks, At, Key, first}
-use Rattle.expr_type.specs.Typings.{Checked, Typing, both, broken, rule, whole, refused, unless, at_all}
+use Rattle.expr_type.specs.Typings.{Checked, Typing, all_of, both, broken, joined, lesser, where_whole, rule, whole, refused, unless, at_all}
 use Rattle.expr_type.specs.Shapes.{is_plain_to_enum, one_bit, vector, sign_of}
 use Rattle.expr_type.specs.Forms.{call_of}
 use Rattle.expr_type.specs.Selects.{is_index}
 use Rattle.sv_types.specs.declared.expression.Expr.{Expr}
 use Rattle.sv_types.specs.declared.statement.FunctionKind.TheVariants.{Plain}
 use Rattle.sv_types.specs.declared.statement.Stmt.TheVariants as S
-use Rattle.expr_type.specs.Names.{Called, Context, Other, word_in, position}
-use Rattle.expr_type.specs.Operands.{Operand, Pattern, Stream, is_constant_value, is_value, names_any, is_streamed, Valued, value, width}
-use Rattle.expr_type.specs.Operators.{by_itself, expr_at, valued, in_context, over, binary_of}
-use Rattle.expr_type.proofs.Widths.{sign-vector, width-4, width-8, width-129}
+use Rattle.expr_type.specs.Names.{Called, Context, Source, Other, word_in, position}
+use Rattle.expr_type.specs.declared.operand.Valued.{Valued}
+use Rattle.expr_type.specs.Operands.{too_wide, Operand, Pattern, Stream, is_constant_value, is_value, names_any, is_streamed, value, width}
+use Rattle.expr_type.specs.Operators.{by_itself, expr_at, valued, in_context, binary_of}
+use Rattle.expr_type.proofs.Widths.{sign-vector, width-1, width-4, width-8, width-129}
 use Rattle.b4_core.specs.declared.operators.BinOp.TheVariants as B
 use Rattle.sv_types.specs.declared.expression.Form.{Form}
 use Rattle.sv_types.specs.declared.expression.Form.TheVariants as F
@@ -31,7 +32,7 @@ use Rattle.sv_types.specs.Layouts.{width_of}
 use Rattle.expr_type.specs.Expressions.{Meaning, is_count, expr_step, select_step}
 use Rattle.expr_type.specs.Targets.{ToPath}
 use Rattle.expr_type.specs.Patterns.{named_key}
-use Rattle.expr_type.specs.Statements.{CaseFound, always, assignment, case_stmt, widened}
+use Rattle.expr_type.specs.Statements.{CaseFound, always, assignment, case_items, case_stmt, default_body, in_widest, whole_item, widened}
 use Rattle.sv_types.specs.declared.statement.CaseKind.TheVariants as C
 use Rattle.b4_core.specs.Vectors.{vec}
 use Rattle.expr_type.specs.TargetNames.{actual_target, named_target}
@@ -54,8 +55,7 @@ signals_from n (d ∷ ds) = record { decl = n; member = []; signal = n; of = d.o
 
 abbrev text : List (List ℕ) → List Declares → Context
 text ws ds = record {
-  tokens = tokens ws;
-  instance = 1;
+  source = record { tokens = tokens ws; instance = 1 };
   values = [];
   types = [];
   signals = signals_from 0 ds;
@@ -87,7 +87,7 @@ at token rule = Some (record { turn = record { instance = 1; at = token } ∷ []
 
 -- the width and sign of an expression
 abbrev type_of : Context → Meaning → Option (ℕ × Bool)
-type_of k e = elim (value k (e.typed k) []).result [ Ok v ↦ Some (width v, sign_of v.expr.of) | Err b ↦ None ]
+type_of k e = elim (value k.source (e.typed k) []).result [ Ok v ↦ Some (width v, sign_of v.expr.of) | Err b ↦ None ]
 
 -- the assignment of an expression to a name
 abbrev given_to : Context → ℕ → ℕ → Meaning → Option Key
@@ -145,7 +145,7 @@ unfolding X.out-SvType denote.Hole.Carrier.out
 not-needed = refl
 
 -- `y = a + b` with a signed `a` and an unsigned `b` of four bits: the sum has four bits and no sign, whatever `y` is.
-abbrev signal : Context → ℕ → SvType → Valued
+abbrev signal : Source → ℕ → SvType → Valued
 signal k n t = by_itself k n t (F.Signal n)
 
 abbrev sum_type : SvType
@@ -158,17 +158,17 @@ is-sum =
     ∙ ap (λ b. vector 4 (b && sign_of (vector 4 false))) (sign-vector 4 true)
     ∙ ap (λ b. vector 4 b) (sign-vector 4 false)
 
-abbrev added : Context → Form
+abbrev added : Source → Form
 added k = F.Binary B.Add (signal k 2 (vector 4 true)).expr (signal k 4 (vector 4 false)).expr
 
-abbrev over_plus : ℕ → List ℕ
-over_plus w = over 3 w ++ []
+abbrev plus_sign : List ℕ
+plus_sign = 3 ∷ []
 
-sum : (k : Context) → binary_of N.Add k 3 (signal k 2 (vector 4 true)) (signal k 4 (vector 4 false)) ≡ Ok (valued k 2 (vector 4 false) (added k) over_plus)
+sum : (k : Source) → binary_of N.Add k 3 (signal k 2 (vector 4 true)) (signal k 4 (vector 4 false)) ≡ Ok (valued k 2 (vector 4 false) (added k) plus_sign)
 unfolding X.out-SvType denote.Hole.Carrier.out
 sum k =
-    ap (λ t. in_context k 2 t (added k) over_plus) is-sum
-    ∙ ap (λ n. unless (at_all k.instance 502 (over_plus n)) (valued k 2 (vector 4 false) (added k) over_plus)) (width-4 false)
+    ap (λ t. in_context k 2 t (added k) plus_sign) is-sum
+    ∙ ap (λ n. unless (at_all k.instance 502 (too_wide n plus_sign)) (valued k 2 (vector 4 false) (added k) plus_sign)) (width-4 false)
 
 -- `a * b` on operands of 129 bits
 abbrev wide_type : SvType
@@ -179,37 +179,37 @@ is-wide =
     ap (λ n. width_of (vector (max n n) (sign_of (vector 129 false) && sign_of (vector 129 false)))) (width-129 false)
     ∙ width-129 (sign_of (vector 129 false) && sign_of (vector 129 false))
 
-abbrev multiplied : Context → Form
+abbrev multiplied : Source → Form
 multiplied k = F.Binary B.Mul (signal k 2 (vector 129 false)).expr (signal k 4 (vector 129 false)).expr
 
-product : (k : Context) → binary_of N.Multiply k 3 (signal k 2 (vector 129 false)) (signal k 4 (vector 129 false)) ≡ Err (At (position k 3) 502)
+product : (k : Source) → binary_of N.Multiply k 3 (signal k 2 (vector 129 false)) (signal k 4 (vector 129 false)) ≡ Err (At (position k 3) 502)
 unfolding X.out-SvType denote.Hole.Carrier.out
-product k = ap (λ n. unless (at_all k.instance 502 (over_plus n)) (valued k 2 wide_type (multiplied k) over_plus)) is-wide
+product k = ap (λ n. unless (at_all k.instance 502 (too_wide n plus_sign)) (valued k 2 wide_type (multiplied k) plus_sign)) is-wide
 
 -- a count of zero
-zero-times : (k : Context) → is_count k (record { first = 5; number = pos 0 }) ≡ Err (At (position k 5) 510)
+zero-times : (k : Source) → is_count k (record { first = 5; number = pos 0 }) ≡ Err (At (position k 5) 510)
 zero-times k = refl
 
 -- `y = {<<{a}}` with eight bits for four, at the `{`; and a stream that is an operand
-stream-too-long : (k : Context) → is_streamed k (vector 4 false) (by_itself k 14 (vector 129 false) (F.Signal 0)) ≡ Err (At (position k 14) 501)
+stream-too-long : (k : Source) → is_streamed k (vector 4 false) (by_itself k 14 (vector 129 false) (F.Signal 0)) ≡ Err (At (position k 14) 501)
 stream-too-long k =
     ap (λ n. refused (nat_lt n (width_of (vector 129 false))) (position k 14) 501 (rest k)) (width-4 false)
     ∙ ap (λ n. refused (nat_lt 4 n) (position k 14) 501 (rest k)) (width-129 false)
   where
-    rest : Context → Checked Expr
+    rest : Source → Checked Expr
     rest k =
         refused (is_plain_to_enum (vector 4 false) (vector 129 false)) (position k 14) 503
         (refused (nat_lt 65536 (width_of (vector 4 false))) (position k 14) 701 (Ok (by_itself k 14 (vector 129 false) (F.Signal 0)).expr))
 
-stream-elsewhere : (k : Context) (v : Valued) → is_value k (Stream v) ≡ Err (At (position k v.first) 512)
+stream-elsewhere : (k : Source) (v : Valued) → is_value k (Stream v) ≡ Err (At (position k v.first) 512)
 stream-elsewhere k v = refl
 
 -- a pattern that nothing is given to
-pattern-alone : (k : Context) (tick : ℕ) (of : ℕ → SvType → Checked Expr) → is_value k (Pattern tick of) ≡ Err (At (position k tick) 505)
+pattern-alone : (k : Source) (tick : ℕ) (of : ℕ → SvType → Checked Expr) → is_value k (Pattern tick of) ≡ Err (At (position k tick) 505)
 pattern-alone k tick of = refl
 
 -- an index of 129 bits
-long-index : (k : Context) → is_index k (by_itself k 6 (vector 129 false) (F.Signal 0)) ≡ Err (At (position k 6) 507)
+long-index : (k : Source) → is_index k (by_itself k 6 (vector 129 false) (F.Signal 0)) ≡ Err (At (position k 6) 507)
 long-index k = ap (λ n. refused (nat_lt 64 n) (position k 6) 507 (Ok (by_itself k 6 (vector 129 false) (F.Signal 0)))) (width-129 false)
 
 -- a call with one actual for no formals
@@ -227,7 +227,7 @@ called = record {
   };
 }
 
-too-many : (k : Context) (o : Operand) → call_of k 3 3 called (o ∷ []) ≡ Err (At (position k 3) 405)
+too-many : (k : Source) (o : Operand) → call_of k 3 3 called (o ∷ []) ≡ Err (At (position k 3) 405)
 unfolding called
 too-many k o = refl
 
@@ -248,39 +248,53 @@ abbrev begins_in : Checked Valued → Option ℕ
 begins_in (Ok v) = Some v.first
 begins_in (Err b) = None
 
-behind-parentheses : begins_in (value parentheses ((expr_step (Expr-F.Binary enclosed N.LogicalAnd 5 (name 6))).typed parentheses) []).result ≡ Some 2
+behind-parentheses : begins_in (value parentheses.source ((expr_step (Expr-F.Binary enclosed N.LogicalAnd 5 (name 6))).typed parentheses) []).result ≡ Some 2
 unfolding X.out-SvType denote.Hole.Carrier.out
 behind-parentheses = refl
 
 -- The first value of a loop has the width of its variable: eight bits stand as an arm of a `?:` of 32 bits.
 abbrev eight : Context → Expr
-eight k = (by_itself k 5 (vector 8 false) (F.Signal 0)).expr
+eight k = (by_itself k.source 5 (vector 8 false) (F.Signal 0)).expr
 
 abbrev wide_arm : Context → Expr
 wide_arm k =
-    expr_at k 5 (vector 32 (sign_of (vector 8 false)))
-    (F.Choose (always k 5) (eight k) (expr_at k 5 (vector 32 (sign_of (vector 8 false))) (F.Literal (vec 32 (pos 0)) false)))
+    expr_at k.source 5 (vector 32 (sign_of (vector 8 false)))
+    (F.Choose (always k 5) (eight k) (expr_at k.source 5 (vector 32 (sign_of (vector 8 false))) (F.Literal (vec 32 (pos 0)) false)))
 
 first-widened : (k : Context) → widened k 5 32 (eight k) ≡ wide_arm k
 first-widened k = ap (λ n. cond (nat_lt n 32) (wide_arm k) (eight k)) (width-8 false)
 
 -- An operator in the selector of a `case` that a value makes too wide is broken also where a statement behind it is.
 abbrev selector : Valued
-selector = valued braces 1 one_bit (F.Signal 0) (λ w. 2 ∷ [])
+selector = valued braces.source 1 one_bit (F.Signal 0) (2 ∷ [])
+
+abbrev wide_value : Valued
+wide_value = by_itself braces.source 3 (vector 129 false) (F.Signal 1)
 
 abbrev broken_item : CaseFound
-broken_item = record { is_default = false; values = Ok (selector ∷ []); body = Err (At (position braces 4) 501) }
+broken_item = record { is_default = false; values = Ok (wide_value ∷ []); body = Err (At (position braces.source 4) 501) }
+
+in-widest : in_widest (selector ∷ wide_value ∷ []) ≡ 2 ∷ []
+in-widest =
+    ap (λ n. flat_map (λ (u : Valued). too_wide (max n (max (width_of (vector 129 false)) 0)) u.arithmetic) (selector ∷ wide_value ∷ [])) width-1
+    ∙ ap (λ n. flat_map (λ (u : Valued). too_wide (max 1 (max n 0)) u.arithmetic) (selector ∷ wide_value ∷ [])) (width-129 false)
+
+abbrev with_tokens : List ℕ → Option Key
+with_tokens ts =
+    first_break (rule (where_whole
+    (lesser (joined {A = Valued} (Ok selector) (all_of (map whole_item (broken_item ∷ [])))) (unless (at_all 1 502 ts) C.Plain))
+    (λ p. Ok (S.Case C.Plain p.0.0.expr (case_items p.0.1) (default_body p.0.1)))))
 
 case-by-values : first_break (rule (case_stmt braces C.Plain (Ok selector) (broken_item ∷ []))) ≡ at 2 502
 unfolding X.out-SvType denote.Hole.Carrier.out
-case-by-values = refl
+case-by-values = ap with_tokens in-widest
 
 -- a key that is the name of a function, in a pattern of an array
-key-of-function : named_key (record braces { stands = λ n. false }) 3 (Other 0) ≡ Err (At (position braces 3) 404)
+key-of-function : named_key (record braces { stands = λ n. false }) 3 (Other 0) ≡ Err (At (position braces.source 3) 404)
 key-of-function = refl
 
 -- a stream of a signal as a constant
-constant-streamed : (k : Context) (v : Valued) → names_any v.expr ≡ true → is_constant_value k (Stream v) ≡ Err (At (position k v.first) 406)
+constant-streamed : (k : Source) (v : Valued) → names_any v.expr ≡ true → is_constant_value k (Stream v) ≡ Err (At (position k v.first) 406)
 constant-streamed k v h = ap (λ b. refused b (position k v.first) 406 (Err (At (position k v.first) 512))) h
 
 -- `b.v` as the actual of an output, where `v` is a net of the interface `b`

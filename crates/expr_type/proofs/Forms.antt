@@ -11,7 +11,7 @@ use Rattle.sv_tree.specs.declared.operators.UnaryOperator.{UnaryOperator}
 use Rattle.sv_types.specs.declared.statement.Function.{Function}
 use Rattle.sv_types.specs.declared.types.SvType.{SvType}
 use Rattle.expr_type.specs.Typings.{Checked, Typing, joined, applied, checked, both, broken, by_functions, lesser, rule, whole, refused, where_whole}
-use Rattle.expr_type.specs.Names.{Context, Thing, member_in, position, thing, word}
+use Rattle.expr_type.specs.Names.{Context, Source, Thing, member_in, position, thing, word}
 use Rattle.expr_type.specs.Names as N
 use Rattle.expr_type.specs.Selects.{Step, Member, Index, Part, Slide, index_in, is_index, part_type, path, stepped}
 use Rattle.expr_type.specs.Forms.{SelectMeaning}
@@ -20,10 +20,12 @@ use Rattle.sv_tree.specs.declared.expressions.Select.{Select-F}
 use Rattle.sv_tree.specs.declared.names.QualifiedName.{QualifiedName}
 use Rattle.sv_types.specs.declared.frame.SignalId.{SignalId}
 use Rattle.sv_types.specs.Layouts.{width_of}
-use Rattle.expr_type.specs.Operands.{Operand, Plain, Pattern, Stream, Number, Valued, bits_in, constant_in, has_bits, is_constant_value, width, in_range, is_number_in, is_value, names_any, number_of, number_or, number_within, stops, value}
+use Rattle.expr_type.specs.declared.operand.Number.{Number}
+use Rattle.expr_type.specs.declared.operand.Valued.{Valued}
+use Rattle.expr_type.specs.Operands.{Operand, Plain, Pattern, Stream, bits_in, constant_in, has_bits, is_constant_value, width, in_range, is_number_in, is_value, names_any, number_of, number_or, number_within, stops, value}
 use Rattle.expr_type.specs.Operands as V
 use Rattle.sv_types.specs.declared.expression.Form.{Form}
-use Rattle.expr_type.specs.Operators.{binary_of, unary_of, by_itself, is_part, concat_of, repeat_of, all_bits, choice_of, chosen_type}
+use Rattle.expr_type.specs.Operators.{binary_of, unary_of, by_itself, is_part, concat_of, exprs, repeat_of, all_bits, choice_of, chosen_type}
 use Rattle.expr_type.specs.Forms as F
 use Rattle.expr_type.specs.Literals as L
 use Rattle.expr_type.specs.Shapes.{vector, most_bits, is_unpacked}
@@ -39,7 +41,7 @@ stands-wider v low high low' high' h k s = record {
   inner = s.inner;
   from = let a = s.from in omega arith;
   before = let a = s.before in omega arith;
-  operators = λ w. ascend-wider (v.too_wide w) low high low' high' h k (s.operators w);
+  operators = ascend-wider v.arithmetic low high low' high' h k s.operators;
 }
 
 pub placed-wider : {A : Type 0} (i : ℕ) (x : Checked A) (low high low' high' : ℕ) → low' ≤ low → high ≤ high' → Placed i low high x → Placed i low' high' x
@@ -59,13 +61,13 @@ in-parentheses i opening closing (Ok (Plain v)) gs s = record {
   inner = let a = s.from in omega arith;
   from = let a = s.from in omega arith;
   before = let a = s.before in omega arith;
-  operators = λ w. ascend-wider (v.too_wide w) (suc opening) closing opening (suc closing) (omega arith) (omega arith) (s.operators w);
+  operators = ascend-wider v.arithmetic (suc opening) closing opening (suc closing) (omega arith) (omega arith) s.operators;
 }
 in-parentheses i opening closing (Ok (Pattern tick of)) gs s = operand-wider i (Pattern tick of) (suc opening) closing opening (suc closing) (omega arith) (omega arith) s
 in-parentheses i opening closing (Ok (Stream v)) gs s = operand-wider i (Stream v) (suc opening) closing opening (suc closing) (omega arith) (omega arith) s
 in-parentheses i opening closing (Err b) gs w = wider b i (suc opening) closing opening (suc closing) (omega arith) (omega arith) w
 
-module _ (k : Context) where
+module _ (k : Source) where
   -- an operand that nothing is given to, and a value as an operand
   value-if : (x : Checked Operand) (gs : List Function) (low high : ℕ) → OperandIf k.instance low high x
       → StandsIf k.instance low high (applied x (λ o. rule (is_value k o)) gs).result
@@ -116,104 +118,104 @@ module _ (k : Context) where
 pub binary : (left : Meaning) (op : BinaryOperator) (at : ℕ) (right : Meaning) (low high : ℕ) → low ≤ at → at < high
     → InOrder low at left → InOrder (suc at) high right → InOrder low high (expr_step (Expr-F.Binary left op at right))
 binary left op at right low high h m p q k rs =
-    plain-stands k (both (value k (left.typed k)) (value k (right.typed k)) (λ l r. rule (binary_of op k at l r))) low high
-    (both-stand k (value k (left.typed k)) (value k (right.typed k)) (λ l r. rule (binary_of op k at l r)) low at high h m
-    (value-stands k (left.typed k) low at (p k rs)) (value-stands k (right.typed k) (suc at) high (q k rs))
-    (λ a b x y fs. binary-stands k at low high a b x y op))
+    plain-stands k.source (both (value k.source (left.typed k)) (value k.source (right.typed k)) (λ l r. rule (binary_of op k.source at l r))) low high
+    (both-stand k.source (value k.source (left.typed k)) (value k.source (right.typed k)) (λ l r. rule (binary_of op k.source at l r)) low at high h m
+    (value-stands k.source (left.typed k) low at (p k rs)) (value-stands k.source (right.typed k) (suc at) high (q k rs))
+    (λ a b x y fs. binary-stands k.source at low high a b x y op))
 
 pub unary : (op : UnaryOperator) (at : ℕ) (operand : Meaning) (high : ℕ) → InOrder (suc at) high operand → InOrder at high (expr_step (Expr-F.Unary op at operand))
 unary op at operand high p k rs =
-    plain-stands k (checked (value k (operand.typed k)) (λ v. rule (unary_of op k at v))) at high
-    (checked-stands k (value k (operand.typed k)) (λ v. rule (unary_of op k at v)) at high
-    (value-stands k (operand.typed k) (suc at) high (p k rs)) (λ v x fs. unary-stands k at high v x op))
+    plain-stands k.source (checked (value k.source (operand.typed k)) (λ v. rule (unary_of op k.source at v))) at high
+    (checked-stands k.source (value k.source (operand.typed k)) (λ v. rule (unary_of op k.source at v)) at high
+    (value-stands k.source (operand.typed k) (suc at) high (p k rs)) (λ v x fs. unary-stands k.source at high v x op))
 
 pub parenthesized : (opening : ℕ) (inner : Meaning) (closing : ℕ) → InOrder (suc opening) closing inner
     → InOrder opening (suc closing) (expr_step (Expr-F.«Expr::Parenthesized» opening inner closing None))
-parenthesized opening inner closing p k rs fs = in-parentheses k.instance opening closing (inner.typed k fs).result (inner.typed k fs).functions (p k rs fs)
+parenthesized opening inner closing p k rs fs = in-parentheses k.source.instance opening closing (inner.typed k fs).result (inner.typed k fs).functions (p k rs fs)
 
 -- numbers
-number-stands : (k : Context) (x : Checked Valued) (low high : ℕ) → StandsIf k.instance low high x → OperandTyping k.instance low high (F.plain (rule x))
+number-stands : (k : Source) (x : Checked Valued) (low high : ℕ) → StandsIf k.instance low high x → OperandTyping k.instance low high (F.plain (rule x))
 number-stands k x low high s = plain-stands k (rule x) low high (λ fs. s)
 
-pub leaf : (k : Context) (at low high : ℕ) (of : SvType) (form : Form) → low ≤ at → at < high → Stands low high (by_itself k at of form)
-leaf k at low high of form h m = record { begins = h; inner = omega arith; from = h; before = m; operators = λ w. tt }
+pub leaf : (k : Source) (at low high : ℕ) (of : SvType) (form : Form) → low ≤ at → at < high → Stands low high (by_itself k at of form)
+leaf k at low high of form h m = record { begins = h; inner = omega arith; from = h; before = m; operators = tt }
 
-unsized-leaf : (k : Context) (at low high : ℕ) (of : SvType) (form : Form) → low ≤ at → at < high → Stands low high (F.unsized (by_itself k at of form))
-unsized-leaf k at low high of form h m = record { begins = h; inner = omega arith; from = h; before = m; operators = λ w. tt }
+unsized-leaf : (k : Source) (at low high : ℕ) (of : SvType) (form : Form) → low ≤ at → at < high → Stands low high (F.unsized (by_itself k at of form))
+unsized-leaf k at low high of form h m = record { begins = h; inner = omega arith; from = h; before = m; operators = tt }
 
 pub decimal : (at : ℕ) → InOrder at (suc at) (expr_step (Expr-F.«Expr::Decimal» at))
 decimal at k rs =
-    number-stands k (F.decimal k at) at (suc at)
-    (refused-stands k.instance _ (position k at) 411 (Ok _) at (suc at) (place k at at (suc at) (omega arith) (omega arith))
-    (unsized-leaf k at at (suc at) _ _ (omega arith) (omega arith)))
+    number-stands k.source (F.decimal k.source at) at (suc at)
+    (refused-stands k.source.instance _ (position k.source at) 411 (Ok _) at (suc at) (place k.source at at (suc at) (omega arith) (omega arith))
+    (unsized-leaf k.source at at (suc at) _ _ (omega arith) (omega arith)))
 
 pub based : (at : ℕ) → InOrder at (suc at) (expr_step (Expr-F.Based at))
 based at k rs =
-    number-stands k (F.based k at) at (suc at)
-    (refused-stands k.instance _ (position k at) 411 (Ok _) at (suc at) (place k at at (suc at) (omega arith) (omega arith))
-    (unsized-leaf k at at (suc at) _ _ (omega arith) (omega arith)))
+    number-stands k.source (F.based k.source at) at (suc at)
+    (refused-stands k.source.instance _ (position k.source at) 411 (Ok _) at (suc at) (place k.source at at (suc at) (omega arith) (omega arith))
+    (unsized-leaf k.source at at (suc at) _ _ (omega arith) (omega arith)))
 
-abbrev sized-value : Context → ℕ → ℕ → Valued
+abbrev sized-value : Source → ℕ → ℕ → Valued
 sized-value k size at =
     let n = L.decimal (word k size) in
     by_itself k size (vector n (L.based (word k at)).signed) (T.Literal (L.bits_in n (L.based (word k at))) false)
 
-abbrev sized-few : Context → ℕ → ℕ → Checked Valued
+abbrev sized-few : Source → ℕ → ℕ → Checked Valued
 sized-few k size at = refused (nat_lt F.most_of_literal (L.decimal (word k size))) (position k size) 502 (Ok (sized-value k size at))
 
 pub sized : (size at : ℕ) → size < at → InOrder size (suc at) (expr_step (Expr-F.Sized size at))
 sized size at h k rs =
-    number-stands k (F.sized_number k size at) size (suc at)
-    (refused-stands k.instance (L.decimal (word k size) == 0) (position k size) 411 (sized-few k size at) size (suc at)
-    (place k size size (suc at) (omega arith) (omega arith))
-    (refused-stands k.instance (nat_lt F.most_of_literal (L.decimal (word k size))) (position k size) 502 (Ok (sized-value k size at)) size (suc at)
-    (place k size size (suc at) (omega arith) (omega arith))
-    (leaf k size size (suc at) _ _ (omega arith) (omega arith))))
+    number-stands k.source (F.sized_number k.source size at) size (suc at)
+    (refused-stands k.source.instance (L.decimal (word k.source size) == 0) (position k.source size) 411 (sized-few k.source size at) size (suc at)
+    (place k.source size size (suc at) (omega arith) (omega arith))
+    (refused-stands k.source.instance (nat_lt F.most_of_literal (L.decimal (word k.source size))) (position k.source size) 502 (Ok (sized-value k.source size at)) size (suc at)
+    (place k.source size size (suc at) (omega arith) (omega arith))
+    (leaf k.source size size (suc at) _ _ (omega arith) (omega arith))))
 
 pub fill : (at : ℕ) → InOrder at (suc at) (expr_step (Expr-F.Fill at))
-fill at k rs = number-stands k (F.fill k at) at (suc at) (record { begins = omega arith; inner = omega arith; from = omega arith; before = omega arith; operators = λ w. tt })
+fill at k rs = number-stands k.source (F.fill k.source at) at (suc at) (record { begins = omega arith; inner = omega arith; from = omega arith; before = omega arith; operators = tt })
 
 -- concatenations
-part-if : (k : Context) (x : Checked Valued) (gs : List Function) (low high : ℕ) → StandsIf k.instance low high x
+part-if : (k : Source) (x : Checked Valued) (gs : List Function) (low high : ℕ) → StandsIf k.instance low high x
     → Placed k.instance low high (applied x (λ v. rule (is_part k v)) gs).result
 part-if k (Ok v) gs low high s =
-    placed-refused k.instance v.unsized (position k v.first) 501 (refused (is_unpacked v.expr.of) (position k v.first) 508 (Ok v)) low high
+    placed-refused k.instance v.is_unsized (position k v.first) 501 (refused (is_unpacked v.expr.of) (position k v.first) 508 (Ok v)) low high
     (place k v.first low high s.from s.before)
     (placed-refused k.instance (is_unpacked v.expr.of) (position k v.first) 508 (Ok v) low high (place k v.first low high s.from s.before) tt)
 part-if k (Err b) gs low high w = w
 
-part-placed : (k : Context) (e : Meaning) (low high : ℕ) → RoutinesInOrder k → InOrder low high e → PlacedTyping k.instance low high (part k e)
+part-placed : (k : Context) (e : Meaning) (low high : ℕ) → RoutinesInOrder k → InOrder low high e → PlacedTyping k.source.instance low high (part k e)
 part-placed k e low high rs p fs =
-    let x = value k (e.typed k) in
-    part-if k (x fs).result (x fs).functions low high (value-stands k (e.typed k) low high (p k rs) fs)
+    let x = value k.source (e.typed k) in
+    part-if k.source (x fs).result (x fs).functions low high (value-stands k.source (e.typed k) low high (p k rs) fs)
 
-parts-in-turn : (k : Context) (es : List Meaning) (low high : ℕ) → RoutinesInOrder k → AllInOrder low high es → InTurn k.instance low high (map (part k) es)
+parts-in-turn : (k : Context) (es : List Meaning) (low high : ℕ) → RoutinesInOrder k → AllInOrder low high es → InTurn k.source.instance low high (map (part k) es)
 parts-in-turn k [] low high rs p = p
 parts-in-turn k (e ∷ es) low high rs p = (p.0, p.1, p.2, part-placed k e low p.0 rs p.3, parts-in-turn k es p.0 high rs p.4)
 
-joined-if : (k : Context) (opening closing : ℕ) (x : Checked (List Valued)) (gs : List Function) → opening < closing → Placed k.instance (suc opening) closing x
-    → StandsIf k.instance opening (suc closing) (applied x (λ vs. rule (concat_of k opening vs)) gs).result
-joined-if k opening closing (Ok vs) gs h p = concat-stands k opening (suc closing) vs (omega arith)
+joined-if : (k : Source) (opening closing : ℕ) (x : Checked (List Valued)) (gs : List Function) → opening < closing → Placed k.instance (suc opening) closing x
+    → StandsIf k.instance opening (suc closing) (applied x (λ vs. rule (concat_of k opening (exprs vs))) gs).result
+joined-if k opening closing (Ok vs) gs h p = concat-stands k opening (suc closing) (exprs vs) (omega arith)
 joined-if k opening closing (Err b) gs h p = wider b k.instance (suc opening) closing opening (suc closing) (omega arith) (omega arith) p
 
 pub concatenation : (opening : ℕ) (items : List Meaning) (closing : ℕ) → opening < closing → AllInOrder (suc opening) closing items
     → InOrder opening (suc closing) (expr_step (Expr-F.Concatenation opening items closing))
 concatenation opening items closing h p k rs =
-    plain-stands k (checked (parts k items) (λ vs. rule (concat_of k opening vs))) opening (suc closing)
-    (λ fs. joined-if k opening closing (parts k items fs).result (parts k items fs).functions h
-    (placed-all k.instance (map (part k) items) (suc opening) closing (parts-in-turn k items (suc opening) closing rs p) fs))
+    plain-stands k.source (checked (parts k items) (λ vs. rule (concat_of k.source opening (exprs vs)))) opening (suc closing)
+    (λ fs. joined-if k.source opening closing (parts k items fs).result (parts k items fs).functions h
+    (placed-all k.source.instance (map (part k) items) (suc opening) closing (parts-in-turn k items (suc opening) closing rs p) fs))
 
 -- `?:`
-choice-stands : (k : Context) (at colon low high : ℕ) (on l r : Valued) → at < colon → Stands low at on → Stands (suc at) colon l → Stands (suc colon) high r
+choice-stands : (k : Source) (at colon low high : ℕ) (on l r : Valued) → at < colon → Stands low at on → Stands (suc at) colon l → Stands (suc colon) high r
     → StandsIf k.instance low high (choice_of k at on l r)
 choice-stands k at colon low high on l r h x y z =
     let from : low ≤ at = let a = x.from in let b = x.before in omega arith in
     let to : at < high = let a = z.from in let b = z.before in omega arith in
-    let inner = in-context k on.begins (chosen_type l r) (T.Choose on.expr l.expr r.expr) (λ w. l.too_wide w ++ r.too_wide w) low high x.begins
+    let inner = in-context k on.begins (chosen_type l r) (T.Choose on.expr l.expr r.expr) (l.arithmetic ++ r.arithmetic) low high x.begins
     (let a = x.inner in let b = x.before in omega arith)
-    (λ w. ascend-append (l.too_wide w) (r.too_wide w) low colon high (omega arith) (let a = z.from in let b = z.before in omega arith)
-    (ascend-wider (l.too_wide w) (suc at) colon low colon (omega arith) (omega arith) (y.operators w))
-    (ascend-wider (r.too_wide w) (suc colon) high colon high (omega arith) (omega arith) (z.operators w))) in
+    (ascend-append l.arithmetic r.arithmetic low colon high (omega arith) (let a = z.from in let b = z.before in omega arith)
+    (ascend-wider l.arithmetic (suc at) colon low colon (omega arith) (omega arith) y.operators)
+    (ascend-wider r.arithmetic (suc colon) high colon high (omega arith) (omega arith) z.operators)) in
     refused-stands k.instance (is_unpacked l.expr.of || is_unpacked r.expr.of) (position k at) 504 _ low high (place k at low high from to)
     (refused-stands k.instance (list_any (λ (v : Valued). is_unpacked v.expr.of) (on ∷ [])) (position k at) 508 _ low high (place k at low high from to) inner)
 
@@ -229,7 +231,7 @@ arms-if i (Err x) (Ok b) gs at colon high h m p q = wider x i (suc at) colon (su
 arms-if i (Err x) (Err y) gs at colon high h m p q =
     (colon, omega arith, omega arith, p, wider y i (suc colon) high colon high (omega arith) (omega arith) q)
 
-chosen-if : (k : Context) (x : Checked Valued) (y : Checked Arms) (gs : List Function) (at colon low high : ℕ) → low ≤ at → at < colon → colon < high
+chosen-if : (k : Source) (x : Checked Valued) (y : Checked Arms) (gs : List Function) (at colon low high : ℕ) → low ≤ at → at < colon → colon < high
     → StandsIf k.instance low at x → ArmsIf k.instance at colon high y
     → StandsIf k.instance low high (applied (joined x y) (λ p. rule (choice_of k at p.0 p.1.first p.1.second)) gs).result
 chosen-if k (Ok on) (Ok a) gs at colon low high l h m p q = choice-stands k at colon low high on a.first a.second h p q.0 q.1
@@ -242,17 +244,17 @@ pub conditional : (test : Meaning) (question : ℕ) (first : Meaning) (colon : �
     → InOrder low question test → InOrder (suc question) colon first → InOrder (suc colon) high second
     → InOrder low high (expr_step (Expr-F.Conditional test question first colon second))
 conditional test question first colon second low high l h m p q r k rs =
-    let x = value k (test.typed k) in
-    let y = value k (first.typed k) in
-    let z = value k (second.typed k) in
-    plain-stands k (both x (both y z arms) (λ on a. rule (choice_of k question on a.first a.second))) low high
+    let x = value k.source (test.typed k) in
+    let y = value k.source (first.typed k) in
+    let z = value k.source (second.typed k) in
+    plain-stands k.source (both x (both y z arms) (λ on a. rule (choice_of k.source question on a.first a.second))) low high
     (λ fs.
     let gs = (x fs).functions in
-    chosen-if k (x fs).result (both y z arms gs).result (both y z arms gs).functions question colon low high l h m
-    (value-stands k (test.typed k) low question (p k rs) fs)
-    (arms-if k.instance (y gs).result (z (y gs).functions).result (z (y gs).functions).functions question colon high h m
-    (value-stands k (first.typed k) (suc question) colon (q k rs) gs)
-    (value-stands k (second.typed k) (suc colon) high (r k rs) (y gs).functions)))
+    chosen-if k.source (x fs).result (both y z arms gs).result (both y z arms gs).functions question colon low high l h m
+    (value-stands k.source (test.typed k) low question (p k rs) fs)
+    (arms-if k.source.instance (y gs).result (z (y gs).functions).result (z (y gs).functions).functions question colon high h m
+    (value-stands k.source (first.typed k) (suc question) colon (q k rs) gs)
+    (value-stands k.source (second.typed k) (suc colon) high (r k rs) (y gs).functions)))
 
 -- Constant numbers: each of their breaks stands at their first token.
 abbrev pub NumberIf : ℕ → ℕ → ℕ → Checked Number → Type 0
@@ -263,11 +265,11 @@ either-within : (c : Bool) (p : Position) (r s i low high : ℕ) → K.Stands i 
 either-within true p r s i low high h = h
 either-within false p r s i low high h = h
 
-number-or : (k : Context) (first : ℕ) (o : Option ℤ) (low high : ℕ) → low ≤ first → first < high → NumberIf k.instance low high (number_or k first o)
+number-or : (k : Source) (first : ℕ) (o : Option ℤ) (low high : ℕ) → low ≤ first → first < high → NumberIf k.instance low high (number_or k first o)
 number-or k first None low high h m = place k first low high h m
 number-or k first (Some n) low high h m = (h, m)
 
-module _ (k : Context) (v : Valued) (number : Valued → Option ℤ) (low high : ℕ) (s : Stands low high v) where
+module _ (k : Source) (v : Valued) (number : Valued → Option ℤ) (low high : ℕ) (s : Stands low high v) where
   first-place : Position
   first-place = position k v.first
 
@@ -286,50 +288,50 @@ module _ (k : Context) (v : Valued) (number : Valued → Option ℤ) (low high :
   number-by false false false true = place k v.first low high s.from s.before
   number-by false false false false = number-or k v.first (number v) low high s.from s.before
 
-is-number : (k : Context) (from to : ℤ) (v : Valued) (fs : List Function) (low high : ℕ) → Stands low high v → NumberIf k.instance low high (is_number_in k from to v fs)
+is-number : (k : Source) (from to : ℤ) (v : Valued) (fs : List Function) (low high : ℕ) → Stands low high v → NumberIf k.instance low high (is_number_in k from to v fs)
 is-number k from to v fs low high s =
     number-by k v (λ u. in_range from to (number_of fs u.expr)) low high s (names_any v.expr) (is_unpacked v.expr.of) (holds_stream fs v.expr) (stops fs v.expr)
 
-number-if : (k : Context) (from to : ℤ) (x : Checked Valued) (gs : List Function) (low high : ℕ) → StandsIf k.instance low high x
+number-if : (k : Source) (from to : ℤ) (x : Checked Valued) (gs : List Function) (low high : ℕ) → StandsIf k.instance low high x
     → NumberIf k.instance low high (applied x (λ v. by_functions (is_number_in k from to v)) gs).result
 number-if k from to (Ok v) gs low high s = is-number k from to v gs low high s
 number-if k from to (Err b) gs low high w = w
 
 -- a constant by its first token, whatever it is
-constant-stream : (k : Context) (v : Valued) (b : Bool) (low high : ℕ) → Stands low high v
+constant-stream : (k : Source) (v : Valued) (b : Bool) (low high : ℕ) → Stands low high v
     → StandsIf k.instance low high (refused b (position k v.first) 406 (Err (At (position k v.first) 512)))
 constant-stream k v true low high s = place k v.first low high s.from s.before
 constant-stream k v false low high s = place k v.first low high s.from s.before
 
-constant-if : (k : Context) (x : Checked Operand) (gs : List Function) (low high : ℕ) → OperandIf k.instance low high x
+constant-if : (k : Source) (x : Checked Operand) (gs : List Function) (low high : ℕ) → OperandIf k.instance low high x
     → StandsIf k.instance low high (applied x (λ o. rule (is_constant_value k o)) gs).result
 constant-if k (Ok (Plain v)) gs low high s = s
 constant-if k (Ok (Pattern tick of)) gs low high s = place k tick low high s.0 s.1
 constant-if k (Ok (Stream v)) gs low high s = constant-stream k v (names_any v.expr) low high s
 constant-if k (Err b) gs low high w = w
 
-pub number-stands-in : (k : Context) (from to : ℤ) (x : Typing Operand) (low high : ℕ) → OperandTyping k.instance low high x
+pub number-stands-in : (k : Source) (from to : ℤ) (x : Typing Operand) (low high : ℕ) → OperandTyping k.instance low high x
     → (fs : List Function) → NumberIf k.instance low high (number_within k from to x fs).result
 number-stands-in k from to x low high p fs =
     number-if k from to (constant_in k x fs).result (constant_in k x fs).functions low high (constant-if k (x fs).result (x fs).functions low high (p fs))
 
 -- replications
-count-if : (k : Context) (x : Checked Number) (gs : List Function) (low high : ℕ) → NumberIf k.instance low high x
+count-if : (k : Source) (x : Checked Number) (gs : List Function) (low high : ℕ) → NumberIf k.instance low high x
     → Placed k.instance low high (applied x (λ n. rule (is_count k n)) gs).result
 count-if k (Ok n) gs low high h =
     placed-refused k.instance (unsigned_abs n.number == 0) (position k n.first) 510 (Ok (unsigned_abs n.number)) low high (place k n.first low high h.0 h.1) tt
 count-if k (Err b) gs low high w = w
 
-count-placed : (k : Context) (e : Meaning) (low high : ℕ) → RoutinesInOrder k → InOrder low high e → PlacedTyping k.instance low high (count k e)
+count-placed : (k : Context) (e : Meaning) (low high : ℕ) → RoutinesInOrder k → InOrder low high e → PlacedTyping k.source.instance low high (count k e)
 count-placed k e low high rs p fs =
-    let x = number_within k (pos 0) F.most_of_size (e.typed k) in
-    count-if k (x fs).result (x fs).functions low high (number-stands-in k (pos 0) F.most_of_size (e.typed k) low high (p k rs) fs)
+    let x = number_within k.source (pos 0) F.most_of_size (e.typed k) in
+    count-if k.source (x fs).result (x fs).functions low high (number-stands-in k.source (pos 0) F.most_of_size (e.typed k) low high (p k rs) fs)
 
-repeated-if : (k : Context) (opening inner high : ℕ) (x : Checked ℕ) (y : Checked (List Valued)) (gs : List Function) → opening < inner → inner < high
+repeated-if : (k : Source) (opening inner high : ℕ) (x : Checked ℕ) (y : Checked (List Valued)) (gs : List Function) → opening < inner → inner < high
     → Placed k.instance (suc opening) inner x → Placed k.instance (suc inner) high y
-    → StandsIf k.instance opening high (applied (joined x y) (λ p. rule (repeat_of k opening p.0 p.1)) gs).result
+    → StandsIf k.instance opening high (applied (joined x y) (λ p. rule (repeat_of k opening p.0 (exprs p.1))) gs).result
 repeated-if k opening inner high (Ok n) (Ok vs) gs h m p q =
-    refused-stands k.instance (nat_lt most_bits (n * all_bits vs)) (position k opening) 701 (Ok _) opening high
+    refused-stands k.instance (nat_lt most_bits (n * all_bits (exprs vs))) (position k opening) 701 (Ok _) opening high
     (place k opening opening high (omega arith) (omega arith)) (leaf k opening opening high _ _ (omega arith) (omega arith))
 repeated-if k opening inner high (Ok n) (Err y) gs h m p q = wider y k.instance (suc inner) high opening high (omega arith) (omega arith) q
 repeated-if k opening inner high (Err x) (Ok vs) gs h m p q = wider x k.instance (suc opening) inner opening high (omega arith) (omega arith) p
@@ -345,20 +347,20 @@ pub replication : (opening : ℕ) (times : Meaning) (inner : ℕ) (items : List 
     → InOrder (suc opening) inner times → AllInOrder (suc inner) inner_closing items
     → InOrder opening (suc closing) (expr_step (Expr-F.«Expr::Replication» opening times inner items inner_closing closing))
 replication opening times inner items inner_closing closing h m l p q k rs =
-    plain-stands k (both (count k times) (parts k items) (λ n vs. rule (repeat_of k opening n vs))) opening (suc closing)
+    plain-stands k.source (both (count k times) (parts k items) (λ n vs. rule (repeat_of k.source opening n (exprs vs)))) opening (suc closing)
     (λ fs.
     let gs = (count k times fs).functions in
-    repeated-if k opening inner (suc closing) (count k times fs).result (parts k items gs).result (parts k items gs).functions h (omega arith)
+    repeated-if k.source opening inner (suc closing) (count k times fs).result (parts k items gs).result (parts k items gs).functions h (omega arith)
     (count-placed k times (suc opening) inner rs p fs)
-    (placed-wider k.instance (parts k items gs).result (suc inner) inner_closing (suc inner) (suc closing) (omega arith) (omega arith)
-    (placed-all k.instance (map (part k) items) (suc inner) inner_closing (parts-in-turn k items (suc inner) inner_closing rs q) gs)))
+    (placed-wider k.source.instance (parts k items gs).result (suc inner) inner_closing (suc inner) (suc closing) (omega arith) (omega arith)
+    (placed-all k.source.instance (map (part k) items) (suc inner) inner_closing (parts-in-turn k items (suc inner) inner_closing rs q) gs)))
 
 -- names with selects behind them
 standing-wider : (i : ℕ) (x : Checked Valued) (low high low' high' : ℕ) → low' ≤ low → high ≤ high' → StandsIf i low high x → StandsIf i low' high' x
 standing-wider i (Ok v) low high low' high' h k s = stands-wider v low high low' high' h k s
 standing-wider i (Err b) low high low' high' h k w = wider b i low high low' high' h k w
 
-stepped-stands : (k : Context) (v : Valued) (t : Step) (low between high : ℕ) → between ≤ high → Stands low between v → StepStands between high t
+stepped-stands : (k : Source) (v : Valued) (t : Step) (low between high : ℕ) → between ≤ high → Stands low between v → StepStands between high t
     → StandsIf k.instance low high (stepped k v t)
 stepped-stands k v (Member name) low between high h s t =
     member-stands k name low high v (stands-wider v low between low name (omega arith) t.0 s) t.1
@@ -373,7 +375,7 @@ stepped-stands k v (Slide opening up i n) low between high h s t =
     (selected k opening low high v x t.1 (part_type v.expr.of (n.number -ℤ pos 1) (pos 0)) (T.Slide v.expr i.expr (unsigned_abs n.number) up)
     (width_of (part_type v.expr.of (n.number -ℤ pos 1) (pos 0))))
 
-step-if : (k : Context) (x : Checked Valued) (t : Checked Step) (gs : List Function) (low between high : ℕ) → low ≤ between → between ≤ high
+step-if : (k : Source) (x : Checked Valued) (t : Checked Step) (gs : List Function) (low between high : ℕ) → low ≤ between → between ≤ high
     → StandsIf k.instance low between x → StepIf k.instance between high t
     → StandsIf k.instance low high (applied (joined x t) (λ p. rule (stepped k p.0 p.1)) gs).result
 step-if k (Ok v) (Ok t) gs low between high h m p q = stepped-stands k v t low between high m p q
@@ -382,49 +384,49 @@ step-if k (Err x) (Ok t) gs low between high h m p q = wider x k.instance low be
 step-if k (Err x) (Err y) gs low between high h m p q = (between, h, m, p, q)
 
 path-stands : (k : Context) (ss : List SelectMeaning) (x : Typing Valued) (low between high : ℕ) → RoutinesInOrder k → low ≤ between
-    → StandsTyping k.instance low between x → SelectsInOrder between high ss → StandsTyping k.instance low high (path k x (F.steps k ss))
-path-stands k [] x low between high rs h p q = λ fs. standing-wider k.instance (x fs).result low between low high (omega arith) q (p fs)
+    → StandsTyping k.source.instance low between x → SelectsInOrder between high ss → StandsTyping k.source.instance low high (path k.source x (F.steps k ss))
+path-stands k [] x low between high rs h p q = λ fs. standing-wider k.source.instance (x fs).result low between low high (omega arith) q (p fs)
 path-stands k (s ∷ ss) x low between high rs h p q =
-    path-stands k ss (both x (s.step k) (λ v t. rule (stepped k v t))) low q.0 high rs (let a = q.1 in omega arith)
-    (λ fs. step-if k (x fs).result (s.step k (x fs).functions).result (s.step k (x fs).functions).functions low between q.0 h q.1
+    path-stands k ss (both x (s.step k) (λ v t. rule (stepped k.source v t))) low q.0 high rs (let a = q.1 in omega arith)
+    (λ fs. step-if k.source (x fs).result (s.step k (x fs).functions).result (s.step k (x fs).functions).functions low between q.0 h q.1
     (p fs) (q.3.step k rs (x fs).functions))
     q.4
 
-member-or : (k : Context) (first at : ℕ) (o : Option SignalId) (low high : ℕ) → low ≤ first → first < high → low ≤ at → at < high
+member-or : (k : Source) (first at : ℕ) (o : Option SignalId) (low high : ℕ) → low ≤ first → first < high → low ≤ at → at < high
     → StandsIf k.instance low high (F.signal_or k first at o)
 member-or k first at None low high h m n l = place k at low high n l
 member-or k first at (Some s) low high h m n l = leaf k first low high s.of (T.Signal s.signal) h m
 
 interface-by : (k : Context) (first n : ℕ) (s : SelectMeaning) (ss : List SelectMeaning) (low between high : ℕ) → RoutinesInOrder k → low ≤ first → first < between
     → (o : Option ℕ) → MemberStands low between o → SelectsInOrder between high ss
-    → StandsTyping k.instance low high (elim o [
+    → StandsTyping k.source.instance low high (elim o [
       | None ↦ broken Quiet
-      | Some at ↦ path k (rule (F.signal_or k first at (member_in n (word k at) k.signals))) (F.steps k ss)
+      | Some at ↦ path k.source (rule (F.signal_or k.source first at (member_in n (word k.source at) k.signals))) (F.steps k ss)
     ])
 interface-by k first n s ss low between high rs h m None q r = λ fs. tt
 interface-by k first n s ss low between high rs h m (Some at) q r =
-    path-stands k ss (rule (F.signal_or k first at (member_in n (word k at) k.signals))) low between high rs (omega arith)
-    (λ fs. member-or k first at (member_in n (word k at) k.signals) low between h m q.0 q.1) r
+    path-stands k ss (rule (F.signal_or k.source first at (member_in n (word k.source at) k.signals))) low between high rs (omega arith)
+    (λ fs. member-or k.source first at (member_in n (word k.source at) k.signals) low between h m q.0 q.1) r
 
 lower-member : (low low' high : ℕ) (o : Option ℕ) → low' ≤ low → MemberStands low high o → MemberStands low' high o
 lower-member low low' high None h m = tt
 lower-member low low' high (Some at) h m = (omega arith, m.1)
 
 interface-stands : (k : Context) (first n : ℕ) (ss : List SelectMeaning) (from high : ℕ) → RoutinesInOrder k → first < from → SelectsInOrder from high ss
-    → StandsTyping k.instance first high (F.of_interface k first n ss)
+    → StandsTyping k.source.instance first high (F.of_interface k first n ss)
 interface-stands k first n [] from high rs h q = λ fs. tt
 interface-stands k first n (s ∷ ss) from high rs h q =
     interface-by k first n s ss first q.0 high rs (omega arith) (let a = q.1 in omega arith) s.member
     (lower-member from first q.0 s.member (omega arith) q.3.member) q.4
 
 thing-stands : (k : Context) (first : ℕ) (ss : List SelectMeaning) (from high : ℕ) (t : Thing) → RoutinesInOrder k → first < from → SelectsInOrder from high ss
-    → StandsTyping k.instance first high (F.by_thing k first ss t)
+    → StandsTyping k.source.instance first high (F.by_thing k first ss t)
 thing-stands k first ss from high (N.Signal n t) rs h q =
-    path-stands k ss (whole (by_itself k first t (T.Signal n))) first from high rs (omega arith) (λ fs. leaf k first first from t (T.Signal n) (omega arith) h) q
+    path-stands k ss (whole (by_itself k.source first t (T.Signal n))) first from high rs (omega arith) (λ fs. leaf k.source first first from t (T.Signal n) (omega arith) h) q
 thing-stands k first ss from high (N.Local n t) rs h q =
-    path-stands k ss (whole (by_itself k first t (T.Local n))) first from high rs (omega arith) (λ fs. leaf k first first from t (T.Local n) (omega arith) h) q
+    path-stands k ss (whole (by_itself k.source first t (T.Local n))) first from high rs (omega arith) (λ fs. leaf k.source first first from t (T.Local n) (omega arith) h) q
 thing-stands k first ss from high (N.Constant t v) rs h q =
-    path-stands k ss (whole (by_itself k first t (T.Constant v))) first from high rs (omega arith) (λ fs. leaf k first first from t (T.Constant v) (omega arith) h) q
+    path-stands k ss (whole (by_itself k.source first t (T.Constant v))) first from high rs (omega arith) (λ fs. leaf k.source first first from t (T.Constant v) (omega arith) h) q
 thing-stands k first ss from high (N.TypeName t) rs h q = λ fs. tt
 thing-stands k first ss from high (N.Interface n) rs h q = interface-stands k first n ss from high rs h q
 thing-stands k first ss from high (N.Other n) rs h q = λ fs. tt
@@ -433,29 +435,29 @@ thing-stands k first ss from high N.Nothing rs h q = λ fs. tt
 pub name : (of : QualifiedName) (selects : List SelectMeaning) (high : ℕ) → qualified_first of ≤ of.name → SelectsInOrder (suc of.name) high selects
     → InOrder (qualified_first of) high (expr_step (Expr-F.«Expr::Name» of selects None))
 name of selects high h q k rs =
-    plain-stands k (F.named k of selects) (qualified_first of) high
+    plain-stands k.source (F.named k of selects) (qualified_first of) high
     (thing-stands k (qualified_first of) selects (suc of.name) high (thing k of) rs (omega arith) q)
 
 pub member : (dot name : ℕ) → dot < name → SelectInOrder dot (suc name) (select_step (Select-F.Member dot name))
 member dot name h = record { step = λ k rs fs. (omega arith, omega arith); member = (omega arith, omega arith) }
 
-bits-if : (k : Context) (x : Checked Valued) (gs : List Function) (low high : ℕ) → StandsIf k.instance low high x
+bits-if : (k : Source) (x : Checked Valued) (gs : List Function) (low high : ℕ) → StandsIf k.instance low high x
     → StandsIf k.instance low high (applied x (λ v. rule (has_bits k v)) gs).result
 bits-if k (Ok v) gs low high s = refused-stands k.instance (is_unpacked v.expr.of) (position k v.first) 508 (Ok v) low high (place k v.first low high s.from s.before) s
 bits-if k (Err b) gs low high w = w
 
-index-if : (k : Context) (x : Checked Valued) (gs : List Function) (low high : ℕ) → StandsIf k.instance low high x
+index-if : (k : Source) (x : Checked Valued) (gs : List Function) (low high : ℕ) → StandsIf k.instance low high x
     → StandsIf k.instance low high (applied x (λ v. rule (is_index k v)) gs).result
 index-if k (Ok v) gs low high s = refused-stands k.instance (nat_lt 64 (width v)) (position k v.first) 507 (Ok v) low high (place k v.first low high s.from s.before) s
 index-if k (Err b) gs low high w = w
 
-index-stands : (k : Context) (x : Typing Operand) (low high : ℕ) → OperandTyping k.instance low high x → StandsTyping k.instance low high (index_in k x)
+index-stands : (k : Source) (x : Typing Operand) (low high : ℕ) → OperandTyping k.instance low high x → StandsTyping k.instance low high (index_in k x)
 index-stands k x low high p fs =
     let y = value k x in
     index-if k (bits_in k x fs).result (bits_in k x fs).functions low high
     (bits-if k (y fs).result (y fs).functions low high (value-stands k x low high p fs))
 
-index-step : (k : Context) (x : Checked Valued) (gs : List Function) (opening high : ℕ) → opening < high → StandsIf k.instance (suc opening) high x
+index-step : (k : Source) (x : Checked Valued) (gs : List Function) (opening high : ℕ) → opening < high → StandsIf k.instance (suc opening) high x
     → StepIf k.instance opening (suc high) (applied x (λ v. rule (Ok (Index opening v))) gs).result
 index-step k (Ok v) gs opening high h s = (omega arith, omega arith)
 index-step k (Err b) gs opening high h w = wider b k.instance (suc opening) high opening (suc high) (omega arith) (omega arith) w
@@ -464,7 +466,7 @@ pub index : (opening : ℕ) (e : Meaning) (closing : ℕ) → opening < closing 
     → SelectInOrder opening (suc closing) (select_step (Select-F.Index opening e closing))
 index opening e closing h p = record {
   step = λ k rs fs.
-      index-step k (index_in k (e.typed k) fs).result (index_in k (e.typed k) fs).functions opening closing h
-      (index-stands k (e.typed k) (suc opening) closing (p k rs) fs);
+      index-step k.source (index_in k.source (e.typed k) fs).result (index_in k.source (e.typed k) fs).functions opening closing h
+      (index-stands k.source (e.typed k) (suc opening) closing (p k rs) fs);
   member = tt;
 }

@@ -12,9 +12,11 @@ use Rattle.b4_core.specs.declared.operators.ShiftOp.{ShiftOp}
 use Rattle.b4_core.specs.declared.operators.ShiftOp.TheVariants as S
 use Rattle.b4_core.specs.declared.operators.UnOp.TheVariants as U
 use Rattle.sv_tree.specs.declared.operators.BinaryOperator.{BinaryOperator}
-use Rattle.sv_tree.specs.declared.operators.BinaryOperator.TheVariants as N
+use Rattle.expr_type.specs.declared.kinds.BinaryKind.{BinaryKind}
+use Rattle.expr_type.specs.declared.kinds.BinaryKind.TheVariants as N
 use Rattle.sv_tree.specs.declared.operators.UnaryOperator.{UnaryOperator}
-use Rattle.sv_tree.specs.declared.operators.UnaryOperator.TheVariants as M
+use Rattle.expr_type.specs.declared.kinds.UnaryKind.{UnaryKind}
+use Rattle.expr_type.specs.declared.kinds.UnaryKind.TheVariants as M
 use Rattle.sv_types.specs.declared.expression.Expr.{Expr}
 use Rattle.sv_types.specs.declared.expression.Form.{Form}
 use Rattle.sv_types.specs.declared.expression.Form.TheVariants as F
@@ -25,8 +27,10 @@ use Rattle.expr_type.specs.Breaks as K
 use Rattle.expr_type.specs.Typings.{Checked, refused, unless, at_all, and_at}
 use Rattle.expr_type.specs.Placed.{Ascend, Stands, StandsIf}
 use Rattle.expr_type.specs.Shapes.{most_bits, most_arithmetic, is_unpacked, is_indexed, enum_of, element_of, members_of}
-use Rattle.expr_type.specs.Names.{Context, position, word}
-use Rattle.expr_type.specs.Operands.{Number, Valued, width}
+use Rattle.expr_type.specs.Names.{Source, position, word}
+use Rattle.expr_type.specs.declared.operand.Number.{Number}
+use Rattle.expr_type.specs.declared.operand.Valued.{Valued}
+use Rattle.expr_type.specs.Operands.{too_wide, width}
 use Rattle.expr_type.specs.Operators as P
 use Rattle.expr_type.specs.Selects as L
 
@@ -38,6 +42,14 @@ ascend-wider (t ∷ ts) low high low' high' h k a = (omega arith, omega arith, a
 pub ascend-append : (as' bs : List ℕ) (low between high : ℕ) → low ≤ between → between ≤ high → Ascend low between as' → Ascend between high bs → Ascend low high (as' ++ bs)
 ascend-append [] bs low between high h k a b = ascend-wider bs between high low high h (omega arith) b
 ascend-append (t ∷ ts) bs low between high h k a b = (a.0, omega arith, ascend-append ts bs (suc t) between high (omega arith) k a.2 b)
+
+pub ascend-wide : (w : ℕ) (ats : List ℕ) (low high : ℕ) → Ascend low high ats → Ascend low high (too_wide w ats)
+ascend-wide w [] low high a = tt
+ascend-wide w (t ∷ ts) low high a = by (nat_lt most_arithmetic w)
+  where
+    by : (b : Bool) → Ascend low high (cond b (t ∷ ts) [])
+    by true = a
+    by false = tt
 
 ascend-over : (at w low high : ℕ) → low ≤ at → at < high → Ascend low high (P.over at w)
 ascend-over at w low high h k = by (nat_lt most_arithmetic w)
@@ -68,18 +80,18 @@ pub refused-stands : (i : ℕ) (b : Bool) (p : Position) (r : ℕ) (x : Checked 
 refused-stands i true p r x low high s q = s
 refused-stands i false p r x low high s q = q
 
-module _ (k : Context) where
+module _ (k : Source) where
   pub place : (at low high : ℕ) → low ≤ at → at < high → K.Stands k.instance low high (position k at)
   place at low high h m = record { instance = refl; from = h; before = m }
 
   itself : (first : ℕ) (of : SvType) (form : Form) (low high : ℕ) → low ≤ first → first < high → Stands low high (P.by_itself k first of form)
-  itself first of form low high h m = record { begins = h; inner = omega arith; from = h; before = m; operators = λ w. tt }
+  itself first of form low high h m = record { begins = h; inner = omega arith; from = h; before = m; operators = tt }
 
-  pub in-context : (first : ℕ) (of : SvType) (form : Form) (wide : ℕ → List ℕ) (low high : ℕ) → low ≤ first → first < high
-      → ((w : ℕ) → Ascend low high (wide w)) → StandsIf k.instance low high (P.in_context k first of form wide)
-  in-context first of form wide low high h m a =
-      unless-stands k.instance (at_all k.instance 502 (wide (width_of of))) (P.valued k first of form wide) low high
-      (all-within k.instance 502 (wide (width_of of)) low high (a (width_of of)))
+  pub in-context : (first : ℕ) (of : SvType) (form : Form) (ats : List ℕ) (low high : ℕ) → low ≤ first → first < high
+      → Ascend low high ats → StandsIf k.instance low high (P.in_context k first of form ats)
+  in-context first of form ats low high h m a =
+      unless-stands k.instance (at_all k.instance 502 (too_wide (width_of of) ats)) (P.valued k first of form ats) low high
+      (all-within k.instance 502 (too_wide (width_of of) ats) low high (ascend-wide (width_of of) ats low high a))
       (record { begins = h; inner = omega arith; from = h; before = m; operators = a })
 
   checked-at : (ts : List ℕ) (first : ℕ) (of : SvType) (form : Form) (low high : ℕ) → low ≤ first → first < high
@@ -102,119 +114,104 @@ module _ (k : Context) where
     at-before : at < high
     at-before = let b = y.from in let c = y.before in omega arith
 
-    operands : (w : ℕ) → Ascend low high (l.too_wide w ++ r.too_wide w)
-    operands w =
-        ascend-append (l.too_wide w) (r.too_wide w) low at high at-within (let e = at-before in omega arith) (x.operators w)
-        (ascend-wider (r.too_wide w) (suc at) high at high (omega arith) (omega arith) (y.operators w))
+    operands : Ascend low high (l.arithmetic ++ r.arithmetic)
+    operands =
+        ascend-append l.arithmetic r.arithmetic low at high at-within (let e = at-before in omega arith) x.operators
+        (ascend-wider r.arithmetic (suc at) high at high (omega arith) (omega arith) y.operators)
 
-    with-operator : (w v : ℕ) → Ascend low high (l.too_wide w ++ (P.over at v ++ r.too_wide w))
-    with-operator w v =
-        ascend-append (l.too_wide w) (P.over at v ++ r.too_wide w) low at high at-within (let e = at-before in omega arith) (x.operators w)
-        (ascend-append (P.over at v) (r.too_wide w) at (suc at) high (omega arith) at-before
-        (ascend-over at v at (suc at) (omega arith) (omega arith)) (y.operators w))
+    with-operator : Ascend low high (l.arithmetic ++ at ∷ r.arithmetic)
+    with-operator =
+        ascend-append l.arithmetic (at ∷ r.arithmetic) low at high at-within (let e = at-before in omega arith) x.operators
+        (omega arith, at-before, y.operators)
 
-    bitwise : (op : BinOp) → StandsIf k.instance low high (P.bitwise op k at l r)
-    bitwise op = in-context l.begins (P.both_type l r) (F.Binary op l.expr r.expr) (λ w. l.too_wide w ++ r.too_wide w) low high from-first before-end operands
+    bitwise : (op : BinOp) → StandsIf k.instance low high (P.bitwise op k l r)
+    bitwise op =
+        in-context l.begins (P.both_type l r) (F.Binary op l.expr r.expr) (l.arithmetic ++ r.arithmetic) low high from-first before-end operands
 
     arithmetic : (op : BinOp) → StandsIf k.instance low high (P.arithmetic op k at l r)
     arithmetic op =
-        in-context l.begins (P.both_type l r) (F.Binary op l.expr r.expr) (λ w. l.too_wide w ++ (P.over at w ++ r.too_wide w)) low high from-first before-end
-        (λ w. with-operator w w)
+        in-context l.begins (P.both_type l r) (F.Binary op l.expr r.expr) (l.arithmetic ++ at ∷ r.arithmetic) low high from-first before-end with-operator
 
-    equality : (op : EqOp) (negated : Bool) → StandsIf k.instance low high (P.equality op negated k at l r)
+    equality : (op : EqOp) (negated : Bool) → StandsIf k.instance low high (P.equality op negated k l r)
     equality op negated =
-        checked-at (l.too_wide (P.both_wide l r) ++ r.too_wide (P.both_wide l r)) l.begins _ (F.Equal op negated l.expr r.expr) low high from-first before-end
-        (operands (P.both_wide l r))
+        checked-at (too_wide (P.both_wide l r) (l.arithmetic ++ r.arithmetic)) l.begins _ (F.Equal op negated l.expr r.expr) low high from-first before-end
+        (ascend-wide (P.both_wide l r) (l.arithmetic ++ r.arithmetic) low high operands)
 
     order : (op : OrdOp) → StandsIf k.instance low high (P.order op k at l r)
     order op =
-        checked-at (l.too_wide (P.both_wide l r) ++ (P.over at (P.both_wide l r) ++ r.too_wide (P.both_wide l r))) l.begins _ (F.Order op l.expr r.expr) low high
-        from-first before-end (with-operator (P.both_wide l r) (P.both_wide l r))
+        checked-at (too_wide (P.both_wide l r) (l.arithmetic ++ at ∷ r.arithmetic)) l.begins _ (F.Order op l.expr r.expr) low high from-first before-end
+        (ascend-wide (P.both_wide l r) (l.arithmetic ++ at ∷ r.arithmetic) low high with-operator)
 
-    shift : (op : ShiftOp) → StandsIf k.instance low high (P.shift op k at l r)
-    shift op =
-        in-context l.begins (P.same_type l) (F.Shift op l.expr r.expr) l.too_wide low high from-first before-end
-        (λ w. ascend-wider (l.too_wide w) low at low high (omega arith) (let e = at-before in omega arith) (x.operators w))
+    left-operand : Ascend low high l.arithmetic
+    left-operand = ascend-wider l.arithmetic low at low high (omega arith) (let e = at-before in omega arith) x.operators
+
+    shift : (op : ShiftOp) → StandsIf k.instance low high (P.shift op k l r)
+    shift op = in-context l.begins (P.same_type l) (F.Shift op l.expr r.expr) l.arithmetic low high from-first before-end left-operand
 
     power : StandsIf k.instance low high (P.power k at l r)
     power =
-        in-context l.begins (P.same_type l) (F.Power l.expr r.expr) (λ w. l.too_wide w ++ P.over at (max w (width r))) low high from-first before-end
-        (λ w. ascend-append (l.too_wide w) (P.over at (max w (width r))) low at high at-within (let e = at-before in omega arith) (x.operators w)
-        (ascend-over at (max w (width r)) at high (omega arith) at-before))
+        unless-stands k.instance (at_all k.instance 502 (too_wide (width l) l.arithmetic ++ P.over at (P.both_wide l r)))
+        (P.valued k l.begins (P.same_type l) (F.Power l.expr r.expr) (l.arithmetic ++ at ∷ [])) low high
+        (all-within k.instance 502 (too_wide (width l) l.arithmetic ++ P.over at (P.both_wide l r)) low high
+        (ascend-append (too_wide (width l) l.arithmetic) (P.over at (P.both_wide l r)) low at high at-within (let e = at-before in omega arith)
+        (ascend-wide (width l) l.arithmetic low at x.operators) (ascend-over at (P.both_wide l r) at high (omega arith) at-before)))
+        (record {
+          begins = from-first;
+          inner = omega arith;
+          from = from-first;
+          before = before-end;
+          operators =
+              ascend-append l.arithmetic (at ∷ []) low at high at-within (let e = at-before in omega arith) x.operators (omega arith, at-before, tt);
+        })
 
-    logical : (form : Expr → Expr → Form) → StandsIf k.instance low high (P.logical form k at l r)
+    logical : (form : Expr → Expr → Form) → StandsIf k.instance low high (P.logical form k l r)
     logical form = itself l.begins _ (form l.expr r.expr) low high from-first before-end
 
-    by-operator : (op : BinaryOperator) → StandsIf k.instance low high (P.by_operator op k at l r)
-    by-operator N.LogicalOr = logical F.Either
-    by-operator N.LogicalAnd = logical F.Both
-    by-operator N.Or = bitwise B.Or
-    by-operator N.Xor = bitwise B.Xor
-    by-operator N.Xnor = bitwise B.Xnor
-    by-operator N.And = bitwise B.And
-    by-operator N.Equal = equality Q.Logic false
-    by-operator N.NotEqual = equality Q.Logic true
-    by-operator N.CaseEqual = equality Q.Case false
-    by-operator N.CaseNotEqual = equality Q.Case true
-    by-operator N.WildcardEqual = equality Q.Wild false
-    by-operator N.WildcardNotEqual = equality Q.Wild true
-    by-operator N.Less = order O.Less
-    by-operator N.LessOrEqual = order O.LessEqual
-    by-operator N.Greater = order O.Greater
-    by-operator N.GreaterOrEqual = order O.GreaterEqual
-    by-operator N.ShiftLeft = shift S.Left
-    by-operator N.ShiftRight = shift S.Right
-    by-operator N.ArithmeticShiftLeft = shift S.Left
-    by-operator N.ArithmeticShiftRight = shift S.Arith
-    by-operator N.Add = arithmetic B.Add
-    by-operator N.Subtract = arithmetic B.Sub
-    by-operator N.Multiply = arithmetic B.Mul
-    by-operator N.Divide = arithmetic B.Div
-    by-operator N.Remainder = arithmetic B.Rem
-    by-operator N.Power = power
+    by-kind : (op : BinaryKind) → StandsIf k.instance low high (P.by_kind op k at l r)
+    by-kind N.Either = logical F.Either
+    by-kind N.Both = logical F.Both
+    by-kind (N.Bitwise op) = bitwise op
+    by-kind (N.Arithmetic op) = arithmetic op
+    by-kind (N.Equality op negated) = equality op negated
+    by-kind (N.Order op) = order op
+    by-kind (N.Shift op) = shift op
+    by-kind N.Power = power
 
     pub binary-stands : (op : BinaryOperator) → StandsIf k.instance low high (P.binary_of op k at l r)
     binary-stands op =
-        refused-stands k.instance _ (position k at) 508 (P.by_operator op k at l r) low high (place at low high at-within at-before) (by-operator op)
+        refused-stands k.instance _ (position k at) 508 (P.by_kind (P.binary_kind op) k at l r) low high (place at low high at-within at-before) (by-kind (P.binary_kind op))
 
   -- an operator before an operand
   module _ (at high : ℕ) (v : Valued) (x : Stands (suc at) high v) where
     operator-before : at < high
     operator-before = let a = x.from in let b = x.before in omega arith
 
-    operand : (w : ℕ) → Ascend at high (v.too_wide w)
-    operand w = ascend-wider (v.too_wide w) (suc at) high at high (omega arith) (omega arith) (x.operators w)
+    operand : Ascend at high v.arithmetic
+    operand = ascend-wider v.arithmetic (suc at) high at high (omega arith) (omega arith) x.operators
 
     plus-by : (o : Option ℕ) → StandsIf k.instance at high (elim o [
-      | None ↦ Ok (record v { first = at; begins = at; unsized = false })
+      | None ↦ Ok (record v { first = at; begins = at; is_unsized = false })
       | Some n ↦ Ok (P.by_itself k at (P.same_type v) (F.Cast v.expr))
     ])
     plus-by None = record { begins = omega arith; inner = omega arith; from = omega arith; before = operator-before; operators = operand }
     plus-by (Some n) = itself at _ (F.Cast v.expr) at high (omega arith) operator-before
 
-    by-prefix : (op : UnaryOperator) → StandsIf k.instance at high (P.by_prefix op k at v)
+    by-prefix : (op : UnaryKind) → StandsIf k.instance at high (P.by_prefix op k at v)
     by-prefix M.Plus = plus-by (enum_of v.expr.of)
     by-prefix M.Minus =
-        in-context at (P.same_type v) (F.Unary U.Neg v.expr) (λ w. P.over at w ++ v.too_wide w) at high (omega arith) operator-before
-        (λ w. ascend-append (P.over at w) (v.too_wide w) at (suc at) high (omega arith) operator-before
-        (ascend-over at w at (suc at) (omega arith) (omega arith)) (x.operators w))
-    by-prefix M.Not = itself at _ _ at high (omega arith) operator-before
-    by-prefix M.Invert = in-context at (P.same_type v) (F.Unary U.Not v.expr) v.too_wide at high (omega arith) operator-before operand
-    by-prefix M.ReduceAnd = itself at _ _ at high (omega arith) operator-before
-    by-prefix M.ReduceNand = itself at _ _ at high (omega arith) operator-before
-    by-prefix M.ReduceOr = itself at _ _ at high (omega arith) operator-before
-    by-prefix M.ReduceNor = itself at _ _ at high (omega arith) operator-before
-    by-prefix M.ReduceXor = itself at _ _ at high (omega arith) operator-before
-    by-prefix M.ReduceXnor = itself at _ _ at high (omega arith) operator-before
+        in-context at (P.same_type v) (F.Unary U.Neg v.expr) (at ∷ v.arithmetic) at high (omega arith) operator-before (omega arith, operator-before, x.operators)
+    by-prefix M.Negation = itself at _ _ at high (omega arith) operator-before
+    by-prefix M.Inversion = in-context at (P.same_type v) (F.Unary U.Not v.expr) v.arithmetic at high (omega arith) operator-before operand
+    by-prefix (M.Reduction op) = itself at _ _ at high (omega arith) operator-before
 
     pub unary-stands : (op : UnaryOperator) → StandsIf k.instance at high (P.unary_of op k at v)
-    unary-stands op = refused-stands k.instance _ (position k at) 508 (P.by_prefix op k at v) at high (place at at high (omega arith) operator-before) (by-prefix op)
+    unary-stands op = refused-stands k.instance _ (position k at) 508 (P.by_prefix (P.unary_kind op) k at v) at high (place at at high (omega arith) operator-before) (by-prefix (P.unary_kind op))
 
   -- concatenations, whose parts are valued alone
-  pub concat-stands : (opening high : ℕ) (vs : List Valued) → opening < high → StandsIf k.instance opening high (P.concat_of k opening vs)
-  concat-stands opening high vs h =
-      refused-stands k.instance (nat_lt most_bits (P.all_bits vs)) (position k opening) 701 _ opening high (place opening opening high (omega arith) h)
-      (itself opening _ (F.Concat (P.exprs vs)) opening high (omega arith) h)
+  pub concat-stands : (opening high : ℕ) (es : List Expr) → opening < high → StandsIf k.instance opening high (P.concat_of k opening es)
+  concat-stands opening high es h =
+      refused-stands k.instance (nat_lt most_bits (P.all_bits es)) (position k opening) 701 _ opening high (place opening opening high (omega arith) h)
+      (itself opening _ (F.Concat es) opening high (omega arith) h)
 
   -- a select behind what it selects from
   module _ (at low high : ℕ) (v : Valued) (x : Stands low at v) (h : at < high) where

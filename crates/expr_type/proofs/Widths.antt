@@ -4,7 +4,7 @@ use Rattle.std.specs.Prelude.{pos, ◌-ℤ◌}
 use Rattle.sv_types.specs.declared.types.SvType.{SvType, the_lemmas}
 use Rattle.sv_types.specs.declared.types.SvType.TheVariants as V
 use Rattle.sv_types.specs.Layouts.{Layout, layout, array_layout, with_bits, width_of, repeated}
-use Rattle.expr_type.specs.Shapes.{sign_of, vector}
+use Rattle.expr_type.specs.Shapes.{one_bit, sign_of, vector}
 
 layout-PackedArray : (left right : ℤ) (s : Bool) (item : SvType) → layout (V.PackedArray left right s item) ≡ array_layout left right s (layout item)
 layout-PackedArray left right s item = search (rules, the_lemmas)
@@ -23,6 +23,9 @@ layout-vector w s =
 
 pub sign-vector : (w : ℕ) (s : Bool) → sign_of (vector w s) ≡ s
 sign-vector w s = ap (λ (l : Layout). l.signed) (layout-vector w s)
+
+pub width-1 : width_of one_bit ≡ 1
+width-1 = ap (λ (l : Layout). length l.two_state) (layout-Scalar true false)
 
 pub width-4 : (s : Bool) → width_of (vector 4 s) ≡ 4
 unfolding repeated

@@ -21,9 +21,10 @@ use Rattle.expr_type.specs.Breaks.{At, Quiet}
 use Rattle.expr_type.specs.Typings.{Checked, Typing, where_whole, refused, all_of, whole, broken, rule, checked, both, all, from_token}
 use Rattle.expr_type.specs.Shapes.{most_bits, integer, one_bit, vector, is_assignable, is_unpacked}
 use Rattle.expr_type.specs.Literals as L
-use Rattle.expr_type.specs.Names.{Called, Context, Thing, Signal, Local, Constant, TypeName, Interface, Other, Nothing, position, thing, word, member_in}
-use Rattle.expr_type.specs.Operands.{Operand, Plain, Pattern, Stream, Valued, value, bits_in, passed, width, number_within}
-use Rattle.expr_type.specs.Operators.{by_itself, exprs, all_bits, is_signed, not_too_long}
+use Rattle.expr_type.specs.Names.{Called, Context, Source, Thing, Signal, Local, Constant, TypeName, Interface, Other, Nothing, position, thing, word, member_in}
+use Rattle.expr_type.specs.declared.operand.Valued.{Valued}
+use Rattle.expr_type.specs.Operands.{Operand, Plain, Pattern, Stream, value, bits_in, passed, width, number_within}
+use Rattle.expr_type.specs.Operators.{by_itself, all_bits, is_signed, not_too_long}
 use Rattle.expr_type.specs.Selects.{Step, path}
 use Rattle.expr_type.specs.KeywordTypes.{Dim, named_type}
 
@@ -31,33 +32,33 @@ abbrev pub most_of_literal : ℕ
 most_of_literal = 128
 
 abbrev pub unsized : Valued → Valued
-unsized v = record v { unsized = true }
+unsized v = record v { is_unsized = true }
 
 -- Numbers. One without a size has 32 bits (E411), one with a size at most 128 (E502).
-abbrev pub decimal : Context → ℕ → Checked Valued
+abbrev pub decimal : Source → ℕ → Checked Valued
 decimal k at =
     let n = L.decimal (word k at) in
     refused (nat_le (2 ^ 32) n) (position k at) 411 (Ok (unsized (by_itself k at (vector 32 true) (F.Literal (vec 32 (pos n)) false))))
 
-abbrev pub based : Context → ℕ → Checked Valued
+abbrev pub based : Source → ℕ → Checked Valued
 based k at =
     let b = L.based (word k at) in
     refused (not (L.fits_unsized b)) (position k at) 411
     (Ok (unsized (by_itself k at (vector 32 b.signed) (F.Literal (L.bits_in 32 b) (not b.signed && not (known4 (L.above b)))))))
 
-abbrev pub sized_number : Context → ℕ → ℕ → Checked Valued
+abbrev pub sized_number : Source → ℕ → ℕ → Checked Valued
 sized_number k size at =
     let n = L.decimal (word k size) in
     let b = L.based (word k at) in
     refused (n == 0) (position k size) 411
     (refused (nat_lt most_of_literal n) (position k size) 502 (Ok (by_itself k size (vector n b.signed) (F.Literal (L.bits_in n b) false))))
 
-abbrev pub fill : Context → ℕ → Checked Valued
+abbrev pub fill : Source → ℕ → Checked Valued
 fill k at = Ok (by_itself k at one_bit (F.Fill (L.fill_digit (word k at))))
 
 -- Names with the selects behind them. A member of an interface's instance or port is a signal (E405). What has a broken
 -- declaration isn't whole, and breaks nothing here.
-abbrev pub signal_or : Context → ℕ → ℕ → Option SignalId → Checked Valued
+abbrev pub signal_or : Source → ℕ → ℕ → Option SignalId → Checked Valued
 signal_or k first at None = Err (At (position k at) 405)
 signal_or k first at (Some s) = Ok (by_itself k first s.of (F.Signal s.signal))
 
@@ -77,13 +78,13 @@ abbrev pub of_interface : Context → ℕ → ℕ → List SelectMeaning → Typ
 of_interface k first n [] = broken Quiet
 of_interface k first n (s ∷ ss) = elim s.member [
   | None ↦ broken Quiet
-  | Some at ↦ path k (rule (signal_or k first at (member_in n (word k at) k.signals))) (steps k ss)
+  | Some at ↦ path k.source (rule (signal_or k.source first at (member_in n (word k.source at) k.signals))) (steps k ss)
 ]
 
 abbrev pub by_thing : Context → ℕ → List SelectMeaning → Thing → Typing Valued
-by_thing k first ss (Signal n t) = path k (whole (by_itself k first t (F.Signal n))) (steps k ss)
-by_thing k first ss (Local n t) = path k (whole (by_itself k first t (F.Local n))) (steps k ss)
-by_thing k first ss (Constant t v) = path k (whole (by_itself k first t (F.Constant v))) (steps k ss)
+by_thing k first ss (Signal n t) = path k.source (whole (by_itself k.source first t (F.Signal n))) (steps k ss)
+by_thing k first ss (Local n t) = path k.source (whole (by_itself k.source first t (F.Local n))) (steps k ss)
+by_thing k first ss (Constant t v) = path k.source (whole (by_itself k.source first t (F.Constant v))) (steps k ss)
 by_thing k first ss (TypeName t) = broken Quiet
 by_thing k first ss (Interface n) = of_interface k first n ss
 by_thing k first ss (Other n) = broken Quiet
@@ -103,11 +104,11 @@ type_of_thing (Other n) = None
 type_of_thing Nothing = None
 
 -- An unpacked type doesn't stand under packed dimensions (E404).
-abbrev pub under : Context → SvType → List Dim → Checked SvType
+abbrev pub under : Source → SvType → List Dim → Checked SvType
 under k t [] = Ok t
 under k t (d ∷ ds) = refused (is_unpacked t) (position k d.opening) 404 (Ok (named_type t (d ∷ ds)))
 
-abbrev pub dimensioned : Context → SvType → Typing (List Dim) → Typing SvType
+abbrev pub dimensioned : Source → SvType → Typing (List Dim) → Typing SvType
 dimensioned k t ds = checked ds (λ d. rule (under k t d))
 
 -- What stands behind the tick of a cast: a value, or a pattern.
@@ -117,72 +118,72 @@ pub record Inside : Type 0 where
   pub of : Operand
 
 -- A cast to a type converts as an assignment does, but an enum takes any value that has bits.
-abbrev pub cast_expr : Context → ℕ → SvType → Expr → Valued
+abbrev pub cast_expr : Source → ℕ → SvType → Expr → Valued
 cast_expr k first t e = by_itself k first t (F.Cast e)
 
-abbrev pub converted : Context → ℕ → ℕ → SvType → Operand → Checked Valued
+abbrev pub converted : Source → ℕ → ℕ → SvType → Operand → Checked Valued
 converted k first tick t (Plain v) =
     not_too_long k tick (width_of t) (refused (not (is_assignable t v.expr.of)) (position k v.first) 501 (Ok (cast_expr k first t v.expr)))
 converted k first tick t (Pattern other of) = where_whole (of other t) (λ e. not_too_long k tick (width_of t) (Ok (cast_expr k first t e)))
 converted k first tick t (Stream v) = Err (At (position k v.first) 512)
 
-abbrev pub pattern_of_type : Context → ℕ → SvType → Operand → Checked Valued
+abbrev pub pattern_of_type : Source → ℕ → SvType → Operand → Checked Valued
 pattern_of_type k first t (Plain v) = Err Quiet
-pattern_of_type k first t (Pattern tick of) = where_whole (of first t) (λ e. Ok (record { first = first; begins = first; unsized = false; expr = e; too_wide = λ w. [] }))
+pattern_of_type k first t (Pattern tick of) = where_whole (of first t) (λ e. Ok (record { first = first; begins = first; is_unsized = false; expr = e; arithmetic = [] }))
 pattern_of_type k first t (Stream v) = Err Quiet
 
-abbrev pub type_cast : Context → ℕ → SvType → Inside → Checked Valued
+abbrev pub type_cast : Source → ℕ → SvType → Inside → Checked Valued
 type_cast k first t i = cond i.is_pattern (pattern_of_type k first t i.of) (converted k first i.tick t i.of)
 
 -- A cast to a size keeps the sign, one to a sign the width. A pattern there has no type.
-abbrev pub not_pattern : {A : Type 0} → Context → Inside → Typing A → Typing A
+abbrev pub not_pattern : {A : Type 0} → Source → Inside → Typing A → Typing A
 not_pattern k i x = cond i.is_pattern (broken (At (position k i.tick) 505)) x
 
-abbrev pub bits_inside : Context → Typing Inside → Typing (ℕ × Valued)
+abbrev pub bits_inside : Source → Typing Inside → Typing (ℕ × Valued)
 bits_inside k x = checked x (λ i. not_pattern k i (checked (bits_in k (whole i.of)) (λ v. whole (i.tick, v))))
 
-abbrev pub size_cast : Context → ℕ → ℕ → ℕ × Valued → Checked Valued
+abbrev pub size_cast : Source → ℕ → ℕ → ℕ × Valued → Checked Valued
 size_cast k first n i = not_too_long k i.0 n (Ok (by_itself k first (vector n (is_signed i.1)) (F.Cast i.1.expr)))
 
 abbrev pub most_of_size : ℤ
 most_of_size = pos (2 ^ 32) -ℤ pos 1
 
-abbrev pub by_size : Context → ℕ → Typing Operand → Typing Inside → Typing Valued
+abbrev pub by_size : Source → ℕ → Typing Operand → Typing Inside → Typing Valued
 by_size k first x i = both (number_within k (pos 1) most_of_size x) (bits_inside k i) (λ n p. rule (size_cast k first (unsigned_abs n.number) p))
 
-abbrev pub written_size : Context → ℕ → Checked ℕ
+abbrev pub written_size : Source → ℕ → Checked ℕ
 written_size k at =
     let n = L.decimal (word k at) in
     refused (n == 0 || nat_le (2 ^ 32) n) (position k at) 411 (Ok n)
 
-abbrev pub by_written_size : Context → ℕ → Typing Inside → Typing Valued
+abbrev pub by_written_size : Source → ℕ → Typing Inside → Typing Valued
 by_written_size k at i = both (rule (written_size k at)) (bits_inside k i) (λ n p. rule (size_cast k at n p))
 
 abbrev pub is_signed_by : Signing → Bool
 is_signed_by (Signed at) = true
 is_signed_by (Unsigned at) = false
 
-abbrev pub with_sign : Context → ℕ → Bool → Valued → Valued
+abbrev pub with_sign : Source → ℕ → Bool → Valued → Valued
 with_sign k first s v = by_itself k first (vector (width v) s) (F.Cast v.expr)
 
-abbrev pub by_sign : Context → ℕ → Bool → Typing Inside → Typing Valued
+abbrev pub by_sign : Source → ℕ → Bool → Typing Inside → Typing Valued
 by_sign k first s i = checked (bits_inside k i) (λ p. whole (with_sign k first s p.1))
 
-abbrev pub by_type : Context → ℕ → Typing SvType → Typing Inside → Typing Valued
+abbrev pub by_type : Source → ℕ → Typing SvType → Typing Inside → Typing Valued
 by_type k first t i = both t i (λ u j. rule (type_cast k first u j))
 
 -- System functions. `$bits` doesn't value what it is asked of.
-abbrev pub bits_number : Context → ℕ → ℕ → Valued
+abbrev pub bits_number : Source → ℕ → ℕ → Valued
 bits_number k name w = by_itself k name integer (F.Constant (value_of_bits integer (vec 32 (pos w))))
 
-abbrev pub bits_of : Context → ℕ → Option (Typing SvType) → Typing Operand → Typing Valued
+abbrev pub bits_of : Source → ℕ → Option (Typing SvType) → Typing Operand → Typing Valued
 bits_of k name (Some t) x = checked t (λ u. whole (bits_number k name (width_of u)))
 bits_of k name None x = checked (value k x) (λ v. whole (bits_number k name (width v)))
 
-abbrev pub is_word : Context → ℕ → List ℕ → Bool
+abbrev pub is_word : Source → ℕ → List ℕ → Bool
 is_word k at text = bytes_eq (word k at) text
 
-abbrev pub system_call : Context → ℕ → Option (Typing SvType) → Typing Operand → Typing Valued
+abbrev pub system_call : Source → ℕ → Option (Typing SvType) → Typing Operand → Typing Valued
 system_call k name t x =
     cond (is_word k name (codes "$bits")) (bits_of k name t x)
     (checked (bits_in k x) (λ v.
@@ -192,41 +193,41 @@ system_call k name t x =
 -- Calls. A function that isn't known is looked at from the call on.
 abbrev pub needed : Context → ℕ → Option ℕ → Typing Called
 needed k at None = broken Quiet
-needed k at (Some n) = from_token (position k at) (k.routine n)
+needed k at (Some n) = from_token (position k.source at) (k.routine n)
 
-abbrev pub passed_to : Context → Formal × Operand → Checked Expr
+abbrev pub passed_to : Source → Formal × Operand → Checked Expr
 passed_to k p = passed k p.0.local.of p.1
 
-abbrev pub call_of : Context → ℕ → ℕ → Called → List Operand → Checked Valued
+abbrev pub call_of : Source → ℕ → ℕ → Called → List Operand → Checked Valued
 call_of k first name c os =
     refused (not (length c.of.formals == length os)) (position k name) 405
     (where_whole (all_of (map (passed_to k) (zip c.of.formals os))) (λ es. Ok (by_itself k first c.of.of (F.Call c.place es))))
 
 abbrev pub call : Context → QualifiedName → List (Typing Operand) → Typing Valued
-call k of xs = both (needed k of.name (k.finds of)) (all xs) (λ c os. rule (call_of k (qualified_first of) of.name c os))
+call k of xs = both (needed k of.name (k.finds of)) (all xs) (λ c os. rule (call_of k.source (qualified_first of) of.name c os))
 
 -- Streams. A part is any value, or a stream; a number there has a size (E501).
-abbrev pub is_streamed_part : Context → Operand → Checked Valued
-is_streamed_part k (Plain v) = refused v.unsized (position k v.first) 501 (Ok v)
+abbrev pub is_streamed_part : Source → Operand → Checked Valued
+is_streamed_part k (Plain v) = refused v.is_unsized (position k v.first) 501 (Ok v)
 is_streamed_part k (Pattern tick of) = Err (At (position k tick) 505)
 is_streamed_part k (Stream v) = Ok v
 
-abbrev pub streamed_part : Context → Typing Operand → Typing Valued
+abbrev pub streamed_part : Source → Typing Operand → Typing Valued
 streamed_part k x = checked x (λ o. rule (is_streamed_part k o))
 
 abbrev pub reverses : StreamOperator → Bool
 reverses D.Left = true
 reverses D.Right = false
 
-abbrev pub stream_of : Context → ℕ → Bool → ℕ → List Valued → Checked Valued
-stream_of k opening reversed n vs =
-    let w = all_bits vs in
-    not_too_long k opening w (Ok (by_itself k opening (vector w false) (F.Stream reversed n (exprs vs))))
+abbrev pub stream_of : Source → ℕ → Bool → ℕ → List Expr → Checked Valued
+stream_of k opening reversed n es =
+    let w = all_bits es in
+    not_too_long k opening w (Ok (by_itself k opening (vector w false) (F.Stream reversed n es)))
 
-abbrev pub slice_of : Context → ℕ → ℕ → Checked ℕ
+abbrev pub slice_of : Source → ℕ → ℕ → Checked ℕ
 slice_of k at n = refused (n == 0 || nat_lt most_bits n) (position k at) 411 (Ok n)
 
-abbrev pub slice_within : Context → Typing Operand → Typing ℕ
+abbrev pub slice_within : Source → Typing Operand → Typing ℕ
 slice_within k x = checked (number_within k (pos 1) (pos most_bits) x) (λ n. whole (unsigned_abs n.number))
 
 abbrev pub plain : Typing Valued → Typing Operand
@@ -234,6 +235,6 @@ plain x = checked x (λ v. whole (Plain v))
 
 abbrev pub slice_by_name : Context → QualifiedName → Typing ℕ
 slice_by_name k of = elim (type_of_thing (thing k of)) [
-  | Some t ↦ rule (slice_of k (qualified_first of) (width_of t))
-  | None ↦ slice_within k (plain (named k of []))
+  | Some t ↦ rule (slice_of k.source (qualified_first of) (width_of t))
+  | None ↦ slice_within k.source (plain (named k of []))
 ]

@@ -55,10 +55,10 @@ pub record FormalFound : Type 0 where
 abbrev pub formal_found : Context → Way → TypeFound → ℕ → SvType → List ParamValue → Checked FormalFound
 formal_found k way f at t names =
     let id = local_id k at t in
-    not_too_long k at (width_of t) (Ok (record {
+    not_too_long k.source at (width_of t) (Ok (record {
       before = record { way = way; of = Some f };
       id = id;
-      formal = record { local = record { number = id.number; of = t; initial = None }; way = way; spot = spot k at };
+      formal = record { local = record { number = id.number; of = t; initial = None }; way = way; spot = spot k.source at };
       names = names;
     }))
 
@@ -121,7 +121,7 @@ abbrev pub function_result : Context → ℕ → List Dimension → FunctionResu
 function_result k name ds (R.Void keyword) = whole (record { kind = K.Routine; of = one_bit; names = [] })
 function_result k name ds (R.Value of) =
     both_by (typed_text of k) (λ o. declared_type (names_if k o) (type_if o) ds)
-    (λ f t. rule (not_too_long k name (width_of t) (Ok (record { kind = K.Plain; of = t; names = f.names }))))
+    (λ f t. rule (not_too_long k.source name (width_of t) (Ok (record { kind = K.Plain; of = t; names = f.names }))))
 
 abbrev pub is_plain : FunctionKind → Bool
 is_plain K.Plain = true
@@ -151,7 +151,7 @@ pub record Head : Type 0 where
   pub formals : List FormalFound
 
 abbrev pub head_of : Context → ℕ → ResultFound → List FormalFound → Checked Head
-head_of k name r fs = not_too_long k name (output_bits fs) (Ok (record { result = r; formals = fs }))
+head_of k name r fs = not_too_long k.source name (output_bits fs) (Ok (record { result = r; formals = fs }))
 
 abbrev pub head : Context → ℕ → Typing ResultFound → List G.Formal → Typing Head
 head k name x gs = both_by x (λ o. formals (in_body k name o) at_first gs) (λ r fs. rule (head_of k name r fs))
@@ -166,8 +166,8 @@ function_path h name = elim h.path [ [] ↦ name | c ∷ cs ↦ h.path ++ (codes
 abbrev pub function_of : Context → Home → ℕ → Head → Stmt → Function
 function_of k h name x body = record {
   instance = h.instance;
-  path = function_path h (word k name);
-  spot = spot k name;
+  path = function_path h (word k.source name);
+  spot = spot k.source name;
   kind = x.result.kind;
   of = x.result.of;
   formals = map (λ (f : FormalFound). f.formal) x.formals;

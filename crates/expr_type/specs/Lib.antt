@@ -13,6 +13,7 @@ pub mod Patterns
 pub mod TargetNames
 pub mod Expressions
 pub mod Placed
+pub mod Answers
 pub mod Types
 pub mod Targets
 pub mod Statements

@@ -37,12 +37,16 @@ pub data RoutineText : Type 0 where
   OfFunction : T.Function → RoutineText
   OfTask : Task → RoutineText
 
--- Where a text stands: the tokens; the instance; by number of declaration what the names of the text stand for so far; the
+-- the tokens of a source, and the instance in whose text they are read
+pub record Source : Type 0 where
+  pub tokens : List Token
+  pub instance : ℕ
+
+-- Where a text stands: the tokens and the instance; by number of declaration what the names of the text stand for so far; the
 -- declaration that a name finds at its token; the declaration that stands at a token; which declarations are instances and
 -- ports of interfaces; and the type of what `return` gives.
 pub record Context : Type 0 where
-  pub tokens : List Token
-  pub instance : ℕ
+  pub source : Source
   pub values : List ParamValue
   pub types : List ParamType
   pub signals : List SignalId
@@ -63,7 +67,7 @@ pub record Context : Type 0 where
   pub home : ℕ → Home
   pub routine : ℕ → Typing Called
 
-abbrev pub position : Context → ℕ → Position
+abbrev pub position : Source → ℕ → Position
 position k at = record { instance = k.instance; at = at }
 
 -- places and words of tokens
@@ -75,10 +79,10 @@ abbrev pub place_in : Option Token → Place
 place_in None = record { file = 0; line = 1; col = 1 }
 place_in (Some t) = t.place
 
-abbrev pub word : Context → ℕ → List ℕ
+abbrev pub word : Source → ℕ → List ℕ
 word k at = word_in (slice_get k.tokens at)
 
-abbrev pub spot : Context → ℕ → Spot
+abbrev pub spot : Source → ℕ → Spot
 spot k at = record { at = at; place = place_in (slice_get k.tokens at); word = word k at }
 
 -- A name stands for a signal, a local, a value, a type, or an instance or port of an interface, of which members are named.

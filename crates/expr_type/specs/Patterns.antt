@@ -16,8 +16,9 @@ use Rattle.pattern_fit.specs.declared.pattern.Rest.TheVariants.{Absent, Plain, T
 use Rattle.pattern_fit.specs.Fits.{fits, places_of, by_default}
 use Rattle.expr_type.specs.Breaks.{At, Quiet}
 use Rattle.expr_type.specs.Typings.{Checked, where_whole, all_of, least_of_all}
-use Rattle.expr_type.specs.Names.{Context, Thing, Signal, Local, Constant, TypeName, Interface, Other, Nothing, position, thing, word}
-use Rattle.expr_type.specs.Operands.{Operand, Valued, passed, has_bits, number_of}
+use Rattle.expr_type.specs.Names.{Context, Source, Thing, Signal, Local, Constant, TypeName, Interface, Other, Nothing, position, thing, word}
+use Rattle.expr_type.specs.declared.operand.Valued.{Valued}
+use Rattle.expr_type.specs.Operands.{Operand, passed, has_bits, number_of}
 use Rattle.expr_type.specs.Operands as V
 use Rattle.sv_types.specs.Layouts.{width_of}
 use Rattle.expr_type.specs.Operators.{expr_at, by_itself, not_too_long}
@@ -54,22 +55,22 @@ abbrev pub key_of_number : Option ℤ → Option Key
 key_of_number None = None
 key_of_number (Some n) = Some (K.Index n)
 
-abbrev pub constant_key : Context → Valued → Checked (Option Key)
+abbrev pub constant_key : Source → Valued → Checked (Option Key)
 constant_key k v = where_whole (has_bits k v) (λ u. where_whole (is_index k u) (λ i. Ok (key_of_number (number_of [] i.expr))))
 
 abbrev pub named_key : Context → ℕ → Thing → Checked (Option Key)
-named_key k at (Signal n t) = Err (At (position k at) 406)
-named_key k at (Local n t) = Err (At (position k at) 406)
-named_key k at (Constant t v) = constant_key k (by_itself k at t (F.Constant v))
-named_key k at (TypeName t) = Err (At (position k at) 404)
-named_key k at (Interface n) = Err (At (position k at) 404)
-named_key k at (Other n) = cond (k.stands n) (Err Quiet) (Err (At (position k at) 404))
+named_key k at (Signal n t) = Err (At (position k.source at) 406)
+named_key k at (Local n t) = Err (At (position k.source at) 406)
+named_key k at (Constant t v) = constant_key k.source (by_itself k.source at t (F.Constant v))
+named_key k at (TypeName t) = Err (At (position k.source at) 404)
+named_key k at (Interface n) = Err (At (position k.source at) 404)
+named_key k at (Other n) = cond (k.stands n) (Err Quiet) (Err (At (position k.source at) 404))
 named_key k at Nothing = Ok None
 
 abbrev pub key_in : Context → SvType → ItemKey → Checked (Option Key)
 key_in k t InPlace = Ok (Some K.Place)
 key_in k t ByDefault = Ok None
-key_in k t (Named of) = cond (has_members t) (Ok (Some (K.Member (word k of.name)))) (named_key k (qualified_first of) (thing k of))
+key_in k t (Named of) = cond (has_members t) (Ok (Some (K.Member (word k.source of.name)))) (named_key k (qualified_first of) (thing k of))
 key_in k t (Numbered n) = Ok (key_of_number n)
 
 -- all keys, if each stands for something
@@ -137,7 +138,7 @@ abbrev pub leaves : ℕ → Rest → SvType → List SvType
 leaves zero rest t = t ∷ []
 leaves (suc n) rest t = cond (takes_itself rest t) (t ∷ []) (flat_map (leaves n rest) (types_in t))
 
-abbrev pub spread : Context → ℕ → ℕ → Rest → (SvType → Checked Expr) → SvType → Checked Expr
+abbrev pub spread : Source → ℕ → ℕ → Rest → (SvType → Checked Expr) → SvType → Checked Expr
 spread k tick zero rest give t = give t
 spread k tick (suc n) rest give t =
     cond (takes_itself rest t) (give t)
@@ -164,11 +165,11 @@ default_types rest p = elim p.0 [
 ]
 
 -- what is given to each of some types: of the breaks the least counts
-abbrev pub tried : Context → Operand → List SvType → Checked (List Expr)
+abbrev pub tried : Source → Operand → List SvType → Checked (List Expr)
 tried k v ts = least_of_all (map (λ t. passed k t v) ts)
 
 -- all items in the order of the text
-abbrev pub tries : Context → ℕ → Rest → List Taken → ℕ → List Item → List (Checked (List Expr))
+abbrev pub tries : Source → ℕ → Rest → List Taken → ℕ → List Item → List (Checked (List Expr))
 tries k count rest ps n [] = []
 tries k count rest ps n (i ∷ is) =
     cond (is_default i.key)
@@ -176,11 +177,11 @@ tries k count rest ps n (i ∷ is) =
     (tried k i.value (by_item count n ps) ∷ tries k count rest ps (suc n) is)
 
 -- what each member or element is given
-abbrev pub value_of : Option Item → Context → SvType → Checked Expr
+abbrev pub value_of : Option Item → Source → SvType → Checked Expr
 value_of None k t = Err Quiet
 value_of (Some i) k t = passed k t i.value
 
-abbrev pub made : Context → ℕ → List Item → Taken → Checked Expr
+abbrev pub made : Source → ℕ → List Item → Taken → Checked Expr
 made k tick items p =
     let by_default = spread k tick (levels p.1) (rest_of (defaults items)) (value_of (slice_get (defaults items) 0) k) p.1 in
     elim p.0 [
@@ -189,7 +190,7 @@ made k tick items p =
       | I.Spread ↦ by_default
     ]
 
-abbrev pub fitted_by : Context → ℕ → ℕ → SvType → List Item → Option (List PatternItem) → Checked Expr
+abbrev pub fitted_by : Source → ℕ → ℕ → SvType → List Item → Option (List PatternItem) → Checked Expr
 fitted_by k tick at t items None = Err (At (position k tick) 505)
 fitted_by k tick at t items (Some takes) =
     let ps = zip takes (types_in t) in
@@ -206,4 +207,4 @@ taken_by t p (Some ks) = taken t p ks
 abbrev pub fitted : Context → ℕ → Parts → ℕ → SvType → Checked Expr
 fitted k tick p at t =
     where_whole (all_of (map (λ (i : Item). key_in k t i.key) (keyed p.items)))
-    (λ ks. fitted_by k tick at t p.items (taken_by t p (all_keys ks)))
+    (λ ks. fitted_by k.source tick at t p.items (taken_by t p (all_keys ks)))

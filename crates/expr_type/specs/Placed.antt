@@ -5,7 +5,8 @@ use Rattle.expr_type.specs.Breaks.{Within}
 use Rattle.expr_type.specs.Typings.{Checked, Typing}
 use Rattle.sv_types.specs.declared.types.SvType.{SvType}
 use Rattle.expr_type.specs.Names.{Context}
-use Rattle.expr_type.specs.Operands.{Operand, Plain, Pattern, Stream, Valued}
+use Rattle.expr_type.specs.declared.operand.Valued.{Valued}
+use Rattle.expr_type.specs.Operands.{Operand, Plain, Pattern, Stream}
 use Rattle.sv_tree.specs.declared.expressions.Expr.{Expr-F}
 use Rattle.sv_tree.specs.declared.operators.BinaryOperator.{BinaryOperator}
 use Rattle.sv_tree.specs.declared.operators.UnaryOperator.{UnaryOperator}
@@ -40,7 +41,7 @@ pub record Stands (low high : ℕ) (v : Valued) : Type 0 where
   pub inner : v.begins ≤ v.first
   pub from : low ≤ v.first
   pub before : v.first < high
-  pub operators : (w : ℕ) → Ascend low high (v.too_wide w)
+  pub operators : Ascend low high v.arithmetic
 
 -- what is made of whole parts stands in the part of the text, and so do its breaks
 abbrev pub StandsIf : ℕ → ℕ → ℕ → Checked Valued → Type 0
@@ -69,7 +70,7 @@ RoutinesInOrder k = (n : ℕ) (fs : List Function) → ((i : ℕ) × (low : ℕ)
 
 -- An expression in a part of a text, in any context: it stands there, and so do its breaks, in the order of the text.
 abbrev pub InOrder : ℕ → ℕ → Meaning → Type 0
-InOrder low high e = (k : Context) → RoutinesInOrder k → OperandTyping k.instance low high (e.typed k)
+InOrder low high e = (k : Context) → RoutinesInOrder k → OperandTyping k.source.instance low high (e.typed k)
 
 -- expressions that stand behind one another
 abbrev pub AllInOrder : ℕ → ℕ → List Meaning → Type 0
@@ -92,7 +93,7 @@ MemberStands low high None = Unit {0}
 MemberStands low high (Some at) = (low ≤ at) × (at < high)
 
 pub record SelectInOrder (low high : ℕ) (s : SelectMeaning) : Type 0 where
-  pub step : (k : Context) → RoutinesInOrder k → (fs : List Function) → StepIf k.instance low high (s.step k fs).result
+  pub step : (k : Context) → RoutinesInOrder k → (fs : List Function) → StepIf k.source.instance low high (s.step k fs).result
   pub member : MemberStands low high s.member
 
 abbrev pub SelectsInOrder : ℕ → ℕ → List SelectMeaning → Type 0

@@ -9,8 +9,10 @@ use Rattle.sv_types.specs.Layouts.{layout, width_of}
 use Rattle.expr_type.specs.Breaks.{At}
 use Rattle.expr_type.specs.Typings.{Checked, Typing, refused, checked, both, rule}
 use Rattle.expr_type.specs.Shapes.{is_unpacked, is_indexed, element_of, members_of}
-use Rattle.expr_type.specs.Names.{Context, position, word}
-use Rattle.expr_type.specs.Operands.{Operand, Number, Valued, width, bits_in, number_within}
+use Rattle.expr_type.specs.Names.{Source, position, word}
+use Rattle.expr_type.specs.declared.operand.Number.{Number}
+use Rattle.expr_type.specs.declared.operand.Valued.{Valued}
+use Rattle.expr_type.specs.Operands.{Operand, width, bits_in, number_within}
 use Rattle.expr_type.specs.Operators.{by_itself, not_too_long}
 
 -- the member with a name, by its number and type
@@ -22,33 +24,33 @@ abbrev pub named : ℕ → List M.Member → List ℕ → Option Place
 named n [] name = None
 named n (m ∷ ms) name = cond (bytes_eq m.name name) (Some (record { number = n; of = m.of })) (named (suc n) ms name)
 
-abbrev pub member_or : Context → ℕ → Valued → Option Place → Checked Valued
+abbrev pub member_or : Source → ℕ → Valued → Option Place → Checked Valued
 member_or k at v None = Err (At (position k at) 405)
 member_or k at v (Some m) = not_too_long k at (width_of m.of) (Ok (by_itself k v.first m.of (F.Member v.expr m.number)))
 
 -- `.name` (E405)
-abbrev pub member_of : Context → ℕ → Valued → Checked Valued
+abbrev pub member_of : Source → ℕ → Valued → Checked Valued
 member_of k at v = member_or k at v (named 0 (members_of v.expr.of) (word k at))
 
 -- an index has at most 64 bits (E507)
 abbrev pub most_of_index : ℕ
 most_of_index = 64
 
-abbrev pub is_index : Context → Valued → Checked Valued
+abbrev pub is_index : Source → Valued → Checked Valued
 is_index k v = refused (nat_lt most_of_index (width v)) (position k v.first) 507 (Ok v)
 
-abbrev pub index_in : Context → Typing Operand → Typing Valued
+abbrev pub index_in : Source → Typing Operand → Typing Valued
 index_in k x = checked (bits_in k x) (λ v. rule (is_index k v))
 
 -- bounds of selects and dimensions are 64 bits wide, widths of selects 32
-abbrev pub bound_in : Context → Typing Operand → Typing Number
+abbrev pub bound_in : Source → Typing Operand → Typing Number
 bound_in k = number_within k (neg_ℤ (pos (2 ^ 63))) (pos (2 ^ 63) -ℤ pos 1)
 
-abbrev pub width_in : Context → Typing Operand → Typing Number
+abbrev pub width_in : Source → Typing Operand → Typing Number
 width_in k = number_within k (pos 1) (pos (2 ^ 32) -ℤ pos 1)
 
 -- `[index]`
-abbrev pub element : Context → ℕ → Valued → Valued → Checked Valued
+abbrev pub element : Source → ℕ → Valued → Valued → Checked Valued
 element k opening v i =
     let of = element_of v.expr.of in
     refused (not (is_indexed v.expr.of)) (position k opening) 508
@@ -66,7 +68,7 @@ abbrev pub part_type : SvType → ℤ → ℤ → SvType
 part_type t left right = PackedArray left right false (element_of t)
 
 -- `[left:right]`, of which the wrong direction breaks E411 at the left bound
-abbrev pub part : Context → ℕ → Valued → Number → Number → Checked Valued
+abbrev pub part : Source → ℕ → Valued → Number → Number → Checked Valued
 part k opening v left right =
     let of = part_type v.expr.of left.number right.number in
     refused (is_unpacked v.expr.of) (position k opening) 508
@@ -74,7 +76,7 @@ part k opening v left right =
     (not_too_long k opening (width_of of) (Ok (by_itself k v.first of (F.Part v.expr left.number right.number)))))
 
 -- `[base +: width]` and `[base -: width]`
-abbrev pub slide : Context → ℕ → Bool → Valued → Valued → ℤ → Checked Valued
+abbrev pub slide : Source → ℕ → Bool → Valued → Valued → ℤ → Checked Valued
 slide k opening up v i n =
     let of = part_type v.expr.of (n -ℤ pos 1) (pos 0) in
     refused (is_unpacked v.expr.of) (position k opening) 508
@@ -87,13 +89,13 @@ pub data Step : Type 0 where
   Part : ℕ → Number → Number → Step
   Slide : ℕ → Bool → Valued → Number → Step
 
-abbrev pub stepped : Context → Valued → Step → Checked Valued
+abbrev pub stepped : Source → Valued → Step → Checked Valued
 stepped k v (Member name) = member_of k name v
 stepped k v (Index opening i) = element k opening v i
 stepped k v (Part opening left right) = part k opening v left right
 stepped k v (Slide opening up i n) = slide k opening up v i n.number
 
 -- what selects behind it make of what stands before them
-abbrev pub path : Context → Typing Valued → List (Typing Step) → Typing Valued
+abbrev pub path : Source → Typing Valued → List (Typing Step) → Typing Valued
 path k x [] = x
 path k x (s ∷ ss) = path k (both x s (λ v t. rule (stepped k v t))) ss

@@ -50,7 +50,8 @@ use Rattle.expr_type.specs.Breaks.{At, Quiet}
 use Rattle.expr_type.specs.Typings.{Checked, Typing, whole, broken, rule, by_functions, checked, both, both_by, all, all_of, joined, lesser, looked_at, where_whole, refused, unless, at_all}
 use Rattle.expr_type.specs.Shapes.{one_bit, vector, sign_of, is_assignable, is_plain_to_enum}
 use Rattle.expr_type.specs.Names.{Called, Context, LocalId, position, spot, with_values, with_types, with_locals, local_id}
-use Rattle.expr_type.specs.Operands.{is_constant_value, constant_alone, constant_of, first_of, Operand, Plain, Pattern, Stream, Valued, given, no_stream, passed, unstreamed, is_value, bits_in, width, value_by}
+use Rattle.expr_type.specs.declared.operand.Valued.{Valued}
+use Rattle.expr_type.specs.Operands.{is_constant_value, constant_alone, constant_of, first_of, Operand, Plain, Pattern, Stream, given, no_stream, passed, unstreamed, is_value, bits_in, too_wide, width, value_by}
 use Rattle.expr_type.specs.Operators.{by_itself, expr_at, exprs, binary_of, not_too_long}
 use Rattle.expr_type.specs.Forms.{cast_expr, needed}
 use Rattle.expr_type.specs.Expressions as E
@@ -85,14 +86,14 @@ is_later _ = false
 abbrev pub as_operand : Context → Target → Checked Valued
 as_operand k (ToPath v) = Ok v
 as_operand k (ToParts v vs) = Ok v
-as_operand k (ToStream v) = Err (At (position k v.first) 512)
+as_operand k (ToStream v) = Err (At (position k.source v.first) 512)
 
 abbrev pub combined : Context → ℕ → Option BinaryOperator → Target → Operand → Checked Operand
 combined k at None t o = Ok o
-combined k at (Some op) t o = where_whole (as_operand k t) (λ l. where_whole (is_value k o) (λ r. where_whole (binary_of op k at l r) (λ v. Ok (Plain v))))
+combined k at (Some op) t o = where_whole (as_operand k t) (λ l. where_whole (is_value k.source o) (λ r. where_whole (binary_of op k.source at l r) (λ v. Ok (Plain v))))
 
 abbrev pub assign : Context → ℕ → Bool → Target → Expr → R.Stmt
-assign k at later t e = S.Assign (parts_of t) e later (spot k at)
+assign k at later t e = S.Assign (parts_of t) e later (spot k.source at)
 
 abbrev pub assignment : Context → ℕ → AssignmentOperator → Target → Operand → Checked R.Stmt
 assignment k at op t o = where_whole (combined k at (operator_of op) t o) (λ v. where_whole (assigned k t v) (λ e. Ok (assign k at (is_later op) t e)))
@@ -103,7 +104,7 @@ continuous k to at e = both (target to k false) (operand k e) (λ t o. rule (ass
 
 -- `a++` is `a = a + 1`
 abbrev pub one : Context → ℕ → Operand
-one k at = Plain (by_itself k at (vector 32 true) (F.Literal (vec 32 (pos 1)) false))
+one k at = Plain (by_itself k.source at (vector 32 true) (F.Literal (vec 32 (pos 1)) false))
 
 abbrev pub step_operator : StepOperator → AssignmentOperator
 step_operator U.Increment = A.Add
@@ -142,12 +143,12 @@ in_turn k (d ∷ ds) = both_by (d k) (λ o. in_turn (behind_if k o) ds) (λ a b.
 -- Variables. A value in a declaration counts as an assignment, each time that the declaration is reached.
 abbrev pub initial_value : Context → SvType → Option Initializer → Typing (Option Expr)
 initial_value k t None = whole None
-initial_value k t (Some i) = checked (operand k i.value) (λ o. rule (where_whole (given k t o) (λ e. Ok (Some e))))
+initial_value k t (Some i) = checked (operand k i.value) (λ o. rule (where_whole (given k.source t o) (λ e. Ok (Some e))))
 
 abbrev pub local_of : Context → ℕ → SvType → Option Expr → Checked Declared
 local_of k at t e =
     let id = local_id k at t in
-    not_too_long k at (width_of t) (Ok (record nothing { ids = id ∷ []; locals = record { number = id.number; of = t; initial = e } ∷ [] }))
+    not_too_long k.source at (width_of t) (Ok (record nothing { ids = id ∷ []; locals = record { number = id.number; of = t; initial = e } ∷ [] }))
 
 -- of a broken type the value is looked at by itself
 abbrev pub with_type : Context → Option SvType → Option Initializer → Typing (Option Expr)
@@ -183,14 +184,14 @@ abbrev pub param_value : Context → ℕ → SvType → List Function → Expr �
 param_value k at t fs e = Ok (record { decl = k.declared at; of = t; value = value_by fs t e })
 
 abbrev pub constant_value : Context → ℕ → Option SvType → Operand → List Function → Checked ParamValue
-constant_value k at None o fs = where_whole (is_constant_value k o) (λ v. where_whole (constant_alone k v fs) (param_value k at v.expr.of fs))
-constant_value k at (Some t) o fs = where_whole (constant_of k t o fs) (param_value k at t fs)
+constant_value k at None o fs = where_whole (is_constant_value k.source o) (λ v. where_whole (constant_alone k.source v fs) (param_value k at v.expr.of fs))
+constant_value k at (Some t) o fs = where_whole (constant_of k.source t o fs) (param_value k at t fs)
 
 abbrev pub constant : Context → ℕ → Option SvType → Option Initializer → Typing Declared
-constant k at t None = broken (At (position k at) 405)
+constant k at t None = broken (At (position k.source at) 405)
 constant k at t (Some i) =
     checked (operand k i.value)
-    (λ o. checked (by_functions (constant_value k at t o)) (λ v. rule (not_too_long k at (width_of v.of) (Ok (record nothing { values = v ∷ [] })))))
+    (λ o. checked (by_functions (constant_value k at t o)) (λ v. rule (not_too_long k.source at (width_of v.of) (Ok (record nothing { values = v ∷ [] })))))
 
 -- the type that is written, or that of the parameter before; none where the value gives it
 abbrev pub nothing_written : Option Signing → List Dimension → Bool
@@ -225,7 +226,7 @@ pub record Parameter : Type 0 where
   pub declared : Declared
 
 abbrev pub type_parameter : Context → ℕ → Option Initializer → Typing Parameter
-type_parameter k at None = broken (At (position k at) 405)
+type_parameter k at None = broken (At (position k.source at) 405)
 type_parameter k at (Some i) = elim ((meaning i.value).as_type k) [
   | None ↦ broken Quiet
   | Some t ↦ checked t (λ u. whole (record { kind = IsType; declared = record nothing { types = record { decl = k.declared at; of = u } ∷ [] } }))
@@ -307,12 +308,12 @@ abbrev pub empty : R.Stmt
 empty = S.Block [] []
 
 abbrev pub result : Context → ℕ → SvType → Expr
-result k at t = expr_at k at t (F.Local 0)
+result k at t = expr_at k.source at t (F.Local 0)
 
 abbrev pub return_value : Context → ℕ → Option SvType → Operand → Checked R.Stmt
 return_value k at None o = Err Quiet
 return_value k at (Some t) o =
-    where_whole (given k t o) (λ e. Ok (S.Block [] (S.Assign (result k at t ∷ []) e false (spot k at) ∷ S.Return ∷ [])))
+    where_whole (given k.source t o) (λ e. Ok (S.Block [] (S.Assign (result k at t ∷ []) e false (spot k.source at) ∷ S.Return ∷ [])))
 
 abbrev pub returned : Context → ℕ → Option X.Expr → Typing R.Stmt
 returned k at None = whole S.Return
@@ -320,7 +321,7 @@ returned k at (Some e) = checked (operand k e) (λ o. rule (return_value k at k.
 
 -- the condition of a statement
 abbrev pub condition : Context → X.Expr → Typing Valued
-condition k e = bits_in k (operand k e)
+condition k e = bits_in k.source (operand k e)
 
 -- the branches of an `if`
 pub record Branches : Type 0 where
@@ -362,7 +363,7 @@ default_body (c ∷ cs) = cond c.is_default (Some c.body) (default_body cs)
 
 -- the operators in the selector and the values that are too wide, where all of these are whole
 abbrev pub in_widest : List Valued → List ℕ
-in_widest vs = let w = most (map width vs) in flat_map (λ (u : Valued). u.too_wide w) vs
+in_widest vs = let w = most (map width vs) in flat_map (λ (u : Valued). too_wide w u.arithmetic) vs
 
 abbrev pub too_wide_in : Checked (Valued × List (List Valued)) → List ℕ
 too_wide_in (Ok p) = in_widest (p.0 ∷ flat_map (λ vs. vs) p.1)
@@ -372,23 +373,23 @@ abbrev pub case_stmt : Context → CaseKind → Checked Valued → List CaseFoun
 case_stmt k kind on cs =
     let values = joined on (all_of (map (λ (c : CaseFound). c.values) cs)) in
     where_whole
-    (lesser (joined on (all_of (map whole_item cs))) (unless (at_all k.instance 502 (too_wide_in values)) kind))
+    (lesser (joined on (all_of (map whole_item cs))) (unless (at_all k.source.instance 502 (too_wide_in values)) kind))
     (λ p. Ok (S.Case kind p.0.0.expr (case_items p.0.1) (default_body p.0.1)))
 
 -- Loops. The first value is converted to the variable's type. A cast values its inside alone, so what is given to a wider variable
 -- has its width from a `?:`, of which it is the arm that is always taken.
 abbrev pub always : Context → ℕ → Expr
-always k at = expr_at k at one_bit (F.Literal (One ∷ []) false)
+always k at = expr_at k.source at one_bit (F.Literal (One ∷ []) false)
 
 abbrev pub widened : Context → ℕ → ℕ → Expr → Expr
 widened k at w e =
     let t = vector w (sign_of e.of) in
-    cond (nat_lt (width_of e.of) w) (expr_at k at t (F.Choose (always k at) e (expr_at k at t (F.Literal (vec w (pos 0)) false)))) e
+    cond (nat_lt (width_of e.of) w) (expr_at k.source at t (F.Choose (always k at) e (expr_at k.source at t (F.Literal (vec w (pos 0)) false)))) e
 
 abbrev pub loop_first : Context → SvType → Operand → Checked Expr
-loop_first k t (Plain v) = where_whole (passed k t (Plain v)) (λ e. Ok (cast_expr k v.first t (widened k v.first (width_of t) e)).expr)
-loop_first k t (Pattern tick of) = where_whole (of tick t) (λ e. Ok (cast_expr k tick t e).expr)
-loop_first k t (Stream v) = passed k t (Stream v)
+loop_first k t (Plain v) = where_whole (passed k.source t (Plain v)) (λ e. Ok (cast_expr k.source v.first t (widened k v.first (width_of t) e)).expr)
+loop_first k t (Pattern tick of) = where_whole (of tick t) (λ e. Ok (cast_expr k.source tick t e).expr)
+loop_first k t (Stream v) = passed k.source t (Stream v)
 
 pub record LoopVariable : Type 0 where
   pub id : LocalId
@@ -401,7 +402,7 @@ first_by k l (Some f) = checked (operand k l.value) (λ o. rule (loop_first k f.
 abbrev pub loop_variable : Context → LoopStart → Typing LoopVariable
 loop_variable k l =
     both_by (typed_text l.of k) (first_by k l)
-    (λ f e. rule (not_too_long k l.name (width_of f.of) (Ok (record { id = local_id k l.name f.of; first = e }))))
+    (λ f e. rule (not_too_long k.source l.name (width_of f.of) (Ok (record { id = local_id k l.name f.of; first = e }))))
 
 abbrev pub in_loop : Context → Option LoopVariable → Context
 in_loop k None = k
@@ -412,7 +413,7 @@ loop_target k name = checked (named_target k true (simple_name name) []) (λ v. 
 
 -- what is assigned behind each turn; no stream stands there
 abbrev pub step_value : Context → ℕ → AssignmentOperator → Target → Operand → Checked Expr
-step_value k at op t o = where_whole (no_stream k o) (λ p. where_whole (combined k at (operator_of op) t p) (assigned k t))
+step_value k at op t o = where_whole (no_stream k.source o) (λ p. where_whole (combined k at (operator_of op) t p) (assigned k t))
 
 abbrev pub loop_step : Context → LoopStep → Typing Expr
 loop_step k (L.Assign name op at e) = both (loop_target k name) (operand k e) (λ t o. rule (step_value k at op t o))
@@ -434,7 +435,7 @@ abbrev pub turns : Control → R.Stmt → Typing Turns
 turns c s = whole (record { control = c; body = s })
 
 abbrev pub loop_stmt : Context → ℕ → LoopVariable → Turns → R.Stmt
-loop_stmt k at v t = S.Loop v.id.number v.first t.control.test.expr t.control.step t.body (spot k at)
+loop_stmt k at v t = S.Loop v.id.number v.first t.control.test.expr t.control.step t.body (spot k.source at)
 
 -- Calls of tasks and void functions. An input is passed, an output assigned to the actual, which is a target (E501).
 pub record Actual : Type 0 where
@@ -442,12 +443,12 @@ pub record Actual : Type 0 where
   pub target : Option Valued
 
 abbrev pub as_value : Context → Meaning → Typing Actual
-as_value k e = checked (unstreamed k (e.typed k)) (λ o. whole (record { value = Some o; target = None }))
+as_value k e = checked (unstreamed k.source (e.typed k)) (λ o. whole (record { value = Some o; target = None }))
 
 -- what isn't in the form of a target is looked at as a value, and broken at its first token
 abbrev pub as_target : Context → Meaning → Typing Actual
 as_target k e = elim (e.as_target k) [
-  | None ↦ checked (e.typed k) (λ o. broken (At (position k (first_of o)) 501))
+  | None ↦ checked (e.typed k) (λ o. broken (At (position k.source (first_of o)) 501))
   | Some x ↦ checked x (λ v. whole (record { value = None; target = Some v }))
 ]
 
@@ -468,8 +469,8 @@ actuals k (w ∷ ws) (e ∷ es) = actual_by k (Some w) e ∷ actuals k ws es
 
 abbrev pub takes_result : Context → Bool → SvType → Valued → Checked Expr
 takes_result k back t v =
-    refused (not (is_assignable v.expr.of t) || (back && not (is_assignable t v.expr.of))) (position k v.first) 501
-    (refused (is_plain_to_enum v.expr.of t || (back && is_plain_to_enum t v.expr.of)) (position k v.first) 503 (Ok v.expr))
+    refused (not (is_assignable v.expr.of t) || (back && not (is_assignable t v.expr.of))) (position k.source v.first) 501
+    (refused (is_plain_to_enum v.expr.of t || (back && is_plain_to_enum t v.expr.of)) (position k.source v.first) 503 (Ok v.expr))
 
 abbrev pub is_inout : Way → Bool
 is_inout W.Input = false
@@ -478,7 +479,7 @@ is_inout W.Inout = true
 
 abbrev pub value_passed : Context → SvType → Option Operand → Checked Expr
 value_passed k t None = Err Quiet
-value_passed k t (Some o) = passed k t o
+value_passed k t (Some o) = passed k.source t o
 
 abbrev pub actual_expr : Context → Formal → Actual → Checked Expr
 actual_expr k f a = elim a.target [
@@ -493,8 +494,8 @@ all_actuals k (f ∷ fs) (a ∷ as') = actual_expr k f a ∷ all_actuals k fs as
 
 abbrev pub call_stmt_of : Context → ℕ → Called → List Actual → Checked R.Stmt
 call_stmt_of k at c as' =
-    refused (not (length c.of.formals == length as')) (position k at) 405
-    (where_whole (all_of (all_actuals k c.of.formals as')) (λ es. Ok (S.Call c.place es (spot k at))))
+    refused (not (length c.of.formals == length as')) (position k.source at) 405
+    (where_whole (all_of (all_actuals k c.of.formals as')) (λ es. Ok (S.Call c.place es (spot k.source at))))
 
 abbrev pub call_stmt : Context → QualifiedName → List Meaning → Typing R.Stmt
 call_stmt k of es =

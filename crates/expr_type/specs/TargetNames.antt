@@ -7,8 +7,8 @@ use Rattle.sv_types.specs.declared.frame.SignalId.{SignalId}
 use Rattle.expr_type.specs.Breaks.{At, Quiet}
 use Rattle.expr_type.specs.Typings.{Checked, Typing, whole, broken, rule, checked, refused}
 use Rattle.expr_type.specs.Shapes.{is_unpacked}
-use Rattle.expr_type.specs.Names.{Context, Thing, Signal, Local, Constant, TypeName, Interface, Other, Nothing, position, thing, word, member_in}
-use Rattle.expr_type.specs.Operands.{Valued}
+use Rattle.expr_type.specs.Names.{Context, Source, Thing, Signal, Local, Constant, TypeName, Interface, Other, Nothing, position, thing, word, member_in}
+use Rattle.expr_type.specs.declared.operand.Valued.{Valued}
 use Rattle.expr_type.specs.Operators.{by_itself}
 use Rattle.expr_type.specs.Selects.{path}
 use Rattle.expr_type.specs.Forms.{SelectMeaning, steps}
@@ -16,16 +16,16 @@ use Rattle.expr_type.specs.Forms.{SelectMeaning, steps}
 -- Names. Statements assign to no net, of an interface either (E404), and nothing assigns to what a modport lists as input (E410).
 -- An actual that is no variable can't be assigned (E501).
 abbrev pub member_target : Context → Bool → ℕ → ℕ → ℕ → Option SignalId → Checked Valued
-member_target k in_statement first n at None = Err (At (position k at) 405)
+member_target k in_statement first n at None = Err (At (position k.source at) 405)
 member_target k in_statement first n at (Some s) =
-    refused (in_statement && k.is_net_member n (word k at)) (position k at) 404
-    (refused s.input (position k at) 410 (Ok (by_itself k first s.of (F.Signal s.signal))))
+    refused (in_statement && k.is_net_member n (word k.source at)) (position k.source at) 404
+    (refused s.input (position k.source at) 410 (Ok (by_itself k.source first s.of (F.Signal s.signal))))
 
 abbrev pub interface_target : Context → Bool → ℕ → ℕ → List SelectMeaning → Typing Valued
 interface_target k in_statement first n [] = broken Quiet
 interface_target k in_statement first n (s ∷ ss) = elim s.member [
   | None ↦ broken Quiet
-  | Some at ↦ path k (rule (member_target k in_statement first n at (member_in n (word k at) k.signals))) (steps k ss)
+  | Some at ↦ path k.source (rule (member_target k in_statement first n at (member_in n (word k.source at) k.signals))) (steps k ss)
 ]
 
 abbrev pub is_net_found : Context → Option ℕ → Bool
@@ -34,9 +34,9 @@ is_net_found k (Some n) = k.is_net n
 
 abbrev pub thing_target : Context → Bool → ℕ → Bool → List SelectMeaning → Thing → Typing Valued
 thing_target k in_statement first net ss (Signal n t) =
-    path k (rule (refused (in_statement && net) (position k first) 501 (Ok (by_itself k first t (F.Signal n))))) (steps k ss)
-thing_target k in_statement first net ss (Local n t) = path k (whole (by_itself k first t (F.Local n))) (steps k ss)
-thing_target k in_statement first net ss (Constant t v) = broken (At (position k first) 501)
+    path k.source (rule (refused (in_statement && net) (position k.source first) 501 (Ok (by_itself k.source first t (F.Signal n))))) (steps k ss)
+thing_target k in_statement first net ss (Local n t) = path k.source (whole (by_itself k.source first t (F.Local n))) (steps k ss)
+thing_target k in_statement first net ss (Constant t v) = broken (At (position k.source first) 501)
 thing_target k in_statement first net ss (TypeName t) = broken Quiet
 thing_target k in_statement first net ss (Interface n) = interface_target k in_statement first n ss
 thing_target k in_statement first net ss (Other n) = broken Quiet
@@ -48,7 +48,7 @@ named_target k in_statement of ss = thing_target k in_statement (qualified_first
 -- an actual of an output: no net, of an interface either, can be assigned there (E501)
 abbrev pub is_net_of : Context → ℕ → List SelectMeaning → Bool
 is_net_of k n [] = false
-is_net_of k n (s ∷ ss) = elim s.member [ None ↦ false | Some at ↦ k.is_net_member n (word k at) ]
+is_net_of k n (s ∷ ss) = elim s.member [ None ↦ false | Some at ↦ k.is_net_member n (word k.source at) ]
 
 abbrev pub is_net_thing : Context → List SelectMeaning → Thing → Bool
 is_net_thing k ss (Signal n t) = false
@@ -61,11 +61,11 @@ is_net_thing k ss Nothing = false
 
 abbrev pub actual_target : Context → QualifiedName → List SelectMeaning → Typing Valued
 actual_target k of ss =
-    cond (is_net_thing k ss (thing k of)) (broken (At (position k (qualified_first of)) 501)) (named_target k true of ss)
+    cond (is_net_thing k ss (thing k of)) (broken (At (position k.source (qualified_first of)) 501)) (named_target k true of ss)
 
 -- a part of a concatenated target has bits (E508)
-abbrev pub is_packed_target : Context → Valued → Checked Valued
+abbrev pub is_packed_target : Source → Valued → Checked Valued
 is_packed_target k v = refused (is_unpacked v.expr.of) (position k v.first) 508 (Ok v)
 
-abbrev pub packed_target : Context → Typing Valued → Typing Valued
+abbrev pub packed_target : Source → Typing Valued → Typing Valued
 packed_target k x = checked x (λ v. rule (is_packed_target k v))

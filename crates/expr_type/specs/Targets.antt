@@ -8,7 +8,8 @@ use Rattle.expr_type.specs.Breaks.{At}
 use Rattle.expr_type.specs.Typings.{Checked, Typing, whole, rule, checked, both, all, where_whole, refused}
 use Rattle.expr_type.specs.Shapes.{is_unpacked}
 use Rattle.expr_type.specs.Names.{Context, position}
-use Rattle.expr_type.specs.Operands.{Operand, Plain, Pattern, Stream, Valued, given, width}
+use Rattle.expr_type.specs.declared.operand.Valued.{Valued}
+use Rattle.expr_type.specs.Operands.{Operand, Plain, Pattern, Stream, given, width}
 use Rattle.expr_type.specs.Operators.{concat_of, exprs, all_bits}
 use Rattle.expr_type.specs.Forms.{reverses, stream_of}
 use Rattle.expr_type.specs.Expressions.{select_meaning, slice_meaning}
@@ -27,18 +28,18 @@ whole_of (ToStream v) = v
 
 -- a part of a concatenated target has bits (E508), and is no stream (E512)
 abbrev pub is_target_part : Context → Target → Checked Valued
-is_target_part k (ToPath v) = refused (is_unpacked v.expr.of) (position k v.first) 508 (Ok v)
+is_target_part k (ToPath v) = refused (is_unpacked v.expr.of) (position k.source v.first) 508 (Ok v)
 is_target_part k (ToParts v vs) = Ok v
-is_target_part k (ToStream v) = Err (At (position k v.first) 512)
+is_target_part k (ToStream v) = Err (At (position k.source v.first) 512)
 
 abbrev pub joined_target : Context → ℕ → List Valued → Checked Target
-joined_target k opening vs = where_whole (concat_of k opening vs) (λ v. Ok (ToParts v vs))
+joined_target k opening vs = where_whole (concat_of k.source opening (exprs vs)) (λ v. Ok (ToParts v vs))
 
 -- a stream that reverses its slices has whole slices alone (E511)
 abbrev pub stream_target : Context → ℕ → Bool → ℕ → List Valued → Checked Target
 stream_target k opening reversed n vs =
-    refused (reversed && not (all_bits vs % n == 0)) (position k opening) 511
-    (where_whole (stream_of k opening reversed n vs) (λ v. Ok (ToStream v)))
+    refused (reversed && not (all_bits (exprs vs) % n == 0)) (position k.source opening) 511
+    (where_whole (stream_of k.source opening reversed n (exprs vs)) (λ v. Ok (ToStream v)))
 
 abbrev pub TargetMeaning : Type 0
 TargetMeaning = Context → Bool → Typing Target
@@ -73,11 +74,11 @@ parts_of (ToStream v) = v.expr ∷ []
 -- A target stream takes no more bits than its value has (E501). What is given to another target is assigned to its bits.
 abbrev pub has_enough : Context → Valued → Operand → Checked Expr
 has_enough k v (Plain u) =
-    refused (nat_lt (width u) (width v)) (position k v.first) 501 (refused (is_unpacked u.expr.of) (position k u.first) 501 (Ok u.expr))
-has_enough k v (Pattern tick of) = Err (At (position k tick) 505)
-has_enough k v (Stream u) = refused (nat_lt (width u) (width v)) (position k v.first) 501 (Ok u.expr)
+    refused (nat_lt (width u) (width v)) (position k.source v.first) 501 (refused (is_unpacked u.expr.of) (position k.source u.first) 501 (Ok u.expr))
+has_enough k v (Pattern tick of) = Err (At (position k.source tick) 505)
+has_enough k v (Stream u) = refused (nat_lt (width u) (width v)) (position k.source v.first) 501 (Ok u.expr)
 
 abbrev pub assigned : Context → Target → Operand → Checked Expr
-assigned k (ToPath v) o = given k v.expr.of o
-assigned k (ToParts v vs) o = given k v.expr.of o
+assigned k (ToPath v) o = given k.source v.expr.of o
+assigned k (ToParts v vs) o = given k.source v.expr.of o
 assigned k (ToStream v) o = has_enough k v o

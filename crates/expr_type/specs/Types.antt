@@ -51,7 +51,7 @@ found_type None = broken Quiet
 found_type (Some t) = whole t
 
 abbrev pub named_with : Context → QualifiedName → List Dimension → Typing SvType
-named_with k of ds = both (found_type (type_of_thing (thing k of))) (dims k ds) (λ t d. dimensioned k t (whole d))
+named_with k of ds = both (found_type (type_of_thing (thing k of))) (dims k ds) (λ t d. dimensioned k.source t (whole d))
 
 -- Enums. Names are constants (E701). Values are distinct and fit the base; one that isn't written is one more than that before it, the first 0.
 abbrev pub int_type : SvType
@@ -67,7 +67,7 @@ abbrev pub base_type : Context → Option EnumBase → Typing SvType
 base_type k None = whole int_type
 base_type k (Some (B.Keyword of ds)) = checked (dims k ds) (λ d. whole (keyword_type of d))
 base_type k (Some (B.Named of ds)) =
-    checked (named_with k of ds) (λ t. rule (refused (is_unpacked t) (position k (qualified_first of)) 404 (Ok t)))
+    checked (named_with k of ds) (λ t. rule (refused (is_unpacked t) (position k.source (qualified_first of)) 404 (Ok t)))
 
 pub record NameValue : Type 0 where
   pub at : ℕ
@@ -80,10 +80,10 @@ next_value (Some n) = n +ℤ pos 1
 abbrev pub written_value : Context → SvType → ℕ → Option ℤ → Option Initializer → Typing ℤ
 written_value k base at before None =
     let n = next_value before in
-    rule (refused (not (int_le (least_value base) n && int_le n (most_value base))) (position k at) 411 (Ok n))
+    rule (refused (not (int_le (least_value base) n && int_le n (most_value base))) (position k.source at) 411 (Ok n))
 written_value k base at before (Some i) =
-    checked (constant_in k (operand k i.value))
-    (λ v. checked (by_functions (is_number_in k (least_value base) (most_value base) v)) (λ n. whole n.number))
+    checked (constant_in k.source (operand k i.value))
+    (λ v. checked (by_functions (is_number_in k.source (least_value base) (most_value base) v)) (λ n. whole n.number))
 
 abbrev pub is_taken : List NameValue → ℤ → Bool
 is_taken vs n = list_any (λ (v : NameValue). int_eq v.number n) vs
@@ -91,7 +91,7 @@ is_taken vs n = list_any (λ (v : NameValue). int_eq v.number n) vs
 abbrev pub name_value : Context → SvType → List NameValue → Option ℤ → W.EnumName → Typing NameValue
 name_value k base before last n =
     checked (written_value k base n.name last n.value)
-    (λ m. rule (refused (is_taken before m) (position k n.name) 509 (not_too_long k n.name (width_of base) (Ok (record { at = n.name; number = m })))))
+    (λ m. rule (refused (is_taken before m) (position k.source n.name) 509 (not_too_long k.source n.name (width_of base) (Ok (record { at = n.name; number = m })))))
 
 -- inside the enum a name has the base's type; one that isn't written hangs on the one before it
 abbrev pub value_in : Context → SvType → NameValue → ParamValue
@@ -122,7 +122,7 @@ name_values k base lost before last (n ∷ ns) =
     (λ v vs. whole (v ∷ vs))
 
 abbrev pub enum_name : Context → SvType → NameValue → EnumName
-enum_name k base v = record { name = word k v.at; value = vec (width_of base) v.number }
+enum_name k base v = record { name = word k.source v.at; value = vec (width_of base) v.number }
 
 abbrev pub enum_found : Context → ℕ → SvType → List NameValue → TypeFound
 enum_found k at base vs =
@@ -141,7 +141,7 @@ pub record Fields : Type 0 where
 abbrev pub field : Context → Bool → SvType → DimensionedName → Typing Field
 field k inside t n =
     checked (dims k n.unpacked)
-    (λ ds. let u = unpacked ds t in rule (refused (inside && is_unpacked u) (position k n.name) 404 (Ok (record { at = n.name; of = u }))))
+    (λ ds. let u = unpacked ds t in rule (refused (inside && is_unpacked u) (position k.source n.name) 404 (Ok (record { at = n.name; of = u }))))
 
 abbrev pub FieldsMeaning : Type 0
 FieldsMeaning = Context → Bool → Typing Fields
@@ -160,7 +160,7 @@ all_fields k inside (m ∷ ms) =
     (λ f g. whole (record { fields = f.fields ++ g.fields; names = f.names ++ g.names }))
 
 abbrev pub member : Context → Field → Member
-member k f = record { name = word k f.at; of = f.of }
+member k f = record { name = word k.source f.at; of = f.of }
 
 abbrev pub first_width : List Field → ℕ
 first_width [] = 0
@@ -168,7 +168,7 @@ first_width (f ∷ fs) = width_of f.of
 
 abbrev pub same_widths : Context → ℕ → List Field → Checked SvType → Checked SvType
 same_widths k w [] other = other
-same_widths k w (f ∷ fs) other = refused (not (width_of f.of == w)) (position k f.at) 506 (same_widths k w fs other)
+same_widths k w (f ∷ fs) other = refused (not (width_of f.of == w)) (position k.source f.at) 506 (same_widths k w fs other)
 
 abbrev pub sign_by : Option Packing → Bool
 sign_by None = false
@@ -179,7 +179,7 @@ aggregate k (A.Struct at) p fs = Ok (Struct at (is_some p) (sign_by p) (map (mem
 aggregate k (A.Union at) p fs = same_widths k (first_width fs) fs (Ok (Union at (sign_by p) (map (member k) fs)))
 
 abbrev pub with_dims : Context → List Dimension → TypeFound → Typing TypeFound
-with_dims k ds f = checked (dimensioned k f.of (dims k ds)) (λ t. whole (record f { of = t }))
+with_dims k ds f = checked (dimensioned k.source f.of (dims k ds)) (λ t. whole (record f { of = t }))
 
 abbrev pub member_step : Member-F TypeMeaning FieldsMeaning → FieldsMeaning
 member_step m k inside =
@@ -196,7 +196,7 @@ type_step (TypeText-F.Structure of packing opening members closing ds) k =
     (checked (all_fields k (is_some packing) members)
     (λ f. checked (rule (aggregate k of packing f.fields)) (λ t. whole (record { of = t; names = f.names }))))
     (λ o. dims (behind o) ds)
-    (λ f d. checked (dimensioned k f.of (whole d)) (λ t. whole (record f { of = t })))
+    (λ f d. checked (dimensioned k.source f.of (whole d)) (λ t. whole (record f { of = t })))
   where
     behind : Option TypeFound → Context
     behind None = k
@@ -205,7 +205,7 @@ type_step (TypeText-F.Enumeration keyword base opening names closing ds) k =
     both_by
     (both_by (base_type k base) (λ o. values_by o names) (λ b vs. whole (enum_found k keyword b vs)))
     (λ o. dims (behind o) ds)
-    (λ f d. checked (dimensioned k f.of (whole d)) (λ t. whole (record f { of = t })))
+    (λ f d. checked (dimensioned k.source f.of (whole d)) (λ t. whole (record f { of = t })))
   where
     values_by : Option SvType → List W.EnumName → Typing (List NameValue)
     values_by None ns = broken Quiet

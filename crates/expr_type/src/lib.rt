@@ -5,6 +5,16 @@
 ghost use Rattle.expr_type.specs.Breaks.{FirstsAreLeast};
 ghost use Rattle.expr_type.specs.Placed.{FormsKeepOrder};
 
+mod halt;
+mod kinds;
+mod operand;
+mod source;
+
+pub use halt::Halt;
+pub use kinds::{BinaryKind, UnaryKind};
+pub use operand::{Number, Valued};
+pub use source::Source;
+
 /// Where breaks stand in the order of the text, the first of them is the least by turn and rule.
 pub fn firsts_are_least()
     ensures { FirstsAreLeast }

@@ -1,5 +1,5 @@
 -- Lists of helpers that grow.
-use Rattle.std.proofs.Common.{◌≡◌, ℕ, List, [], ◌∷◌, ◌++◌, append_assoc, append-nil, inl, inr, refl, ap, sym, ◌∙◌, subst}
+use Rattle.std.proofs.Common.{◌≡◌, ◌↔◌, ℕ, zero, suc, ◌<◌, Bool, true, false, IsTrue, List, [], ◌∷◌, ◌++◌, length, get_or, arith, append_assoc, append-nil, inl, inr, refl, ap, sym, ◌∙◌, subst}
 use Rattle.row_machine.specs.Valuation.{Member}
 use Rattle.v_tree.specs.Printing.{helper_text}
 use Rattle.v_tree.specs.declared.names.Helper.{Helper}
@@ -56,3 +56,16 @@ grows-next hs h one none = record { more = h ∷ []; is = refl; sized = sized-ne
 
 pub there-next : (hs : List Helper) (h : Helper) → Member (hs ++ h ∷ []) h
 there-next hs h = member-last hs h
+
+-- tests that say whether something holds
+pub yes-by : (b : Bool) (P : Type 0) → b ≡ true → (IsTrue b ↔ P) → P
+yes-by b P is w = w.0 is
+
+pub no-by : (b : Bool) (P : Type 0) → b ≡ false → (IsTrue b ↔ P) → P → ⊥
+no-by b P is w p = let t : b ≡ true = w.1 p in cc
+
+-- one that is found
+pub found-at : (xs : List Helper) (i : ℕ) (d h : Helper) → i < length xs → get_or xs i d ≡ h → Member xs h
+found-at [] i d h less is = absurd (omega arith)
+found-at (x ∷ xs) zero d h less is = inl (sym is)
+found-at (x ∷ xs) (suc i) d h less is = inr (found-at xs i d h (omega arith) is)

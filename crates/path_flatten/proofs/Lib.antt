@@ -4,3 +4,5 @@ pub mod Helping
 pub mod Sees
 pub mod Selecting
 pub mod Stepping
+pub mod Naming
+pub mod Losing

@@ -27,10 +27,9 @@ use Rattle.lowering_laws.specs.Same.{HasBits}
 use Rattle.lowering_laws.specs.Signed.{FitsSigned}
 use Rattle.lowering_laws.specs.Terms as terms
 use Rattle.lowering_laws.proofs.Assigned.{given-alone}
-use Rattle.lowering_laws.proofs.Constants.{bits-alone, length-fill}
+use Rattle.lowering_laws.proofs.Constants.{bits-alone}
 use Rattle.lowering_laws.proofs.Extensions.{ext-at}
 use Rattle.lowering_laws.proofs.Paths.{one-window, one-width, no-window, no-width}
-use Rattle.lowering_laws.proofs.Pieces.{literal-bits, fill-bits}
 use Rattle.lowering_laws.proofs.SignedNumbers.{literal-signed, known-vec, length-vec}
 use Rattle.lowering_laws.proofs.Slides.{picked-slide, slide-read}
 use Rattle.lowering_laws.proofs.WriteAt.{part-tight}
@@ -172,9 +171,6 @@ cut-call s m hs r w low n of_is part_is index few call c sc v has long fits some
     (select-at s m (pos low) 32 hs r c sc v index call helps has (long ∙ sym of_is) (omega arith) (omega arith) (small-fits low few)))
 
 -- x in each bit
-pub unknown-has : (n : ℕ) (sc : Scope) (v : Valuation) → HasBits (T.repetition n (T.literal (X ∷ []) ∷ [])) (replicate n X) sc v
-unknown-has n sc v = fill-bits n X (T.literal (X ∷ [])) sc v (literal-bits (X ∷ []) sc v)
-
 all-x : (n : ℕ) → tabulated n (λ j. X) ≡ replicate n X
 all-x zero = refl
 all-x (suc n) = ap (λ x. X ∷ x) (all-x n)
@@ -182,15 +178,12 @@ all-x (suc n) = ap (λ x. X ∷ x) (all-x n)
 pub seen-none : (c : List Bit4) (path : Window) (n : ℕ) → ((j : ℕ) → j < n → picked path j ≡ None) → seen c path n ≡ replicate n X
 seen-none c path n none = tabulated-same n _ (λ j. X) (λ j less. ap (bit_at c) (none j less)) ∙ all-x n
 
-empty-picks : (path : Window) (j : ℕ) → path.high ≤ path.low → picked path j ≡ None
+pub empty-picks : (path : Window) (j : ℕ) → path.high ≤ path.low → picked path j ≡ None
 empty-picks path j empty = by (pos j +ℤ path.shift)
   where
     by : (k : ℤ) → pick path.low path.high k ≡ None
     by (pos n) = (let out : (int_le (pos path.low) (pos n) && int_lt (pos n) (pos path.high)) ≡ false = grind (arith, nat_tests) in ap (λ b. cond b (Some n) None) out)
     by (negsuc n) = refl
-
-pub unknown-reads : (c : List Bit4) (path : Window) (n : ℕ) (sc : Scope) (v : Valuation) → path.high ≤ path.low → HasBits (T.repetition n (T.literal (X ∷ []) ∷ [])) (seen c path n) sc v
-unknown-reads c path n sc v empty = subst (λ x. HasBits (T.repetition n (T.literal (X ∷ []) ∷ [])) x sc v) (sym (seen-none c path n (λ j less. empty-picks path j empty))) (unknown-has n sc v)
 
 -- where the bits in range begin above the first bit of a path
 record IsAbove (path : Window) (n : ℕ) (below : ℤ) : Type 0 where
@@ -284,10 +277,6 @@ pub cuts-value : (root : Root) (x : VExpr) (w low n : ℕ) (hs : List Helper) (m
 cuts-value root x w low n hs m is cuts = subst (λ r. Cuts r w low n hs m) (sym is) cuts
 
 -- all bits of a reading
-pub reads-none : (r : Reading) (n : ℕ) (hs : List Helper) (m : T.Meaning) → r.window.high ≤ r.window.low → m ≡ T.repetition n (T.literal (X ∷ []) ∷ []) → ReadsAll r n hs m
-reads-none r n hs m empty is c sc v root long inside some few stays helps =
-    subst (λ (y : T.Meaning). HasBits y (seen c (window_of r.window) n) sc v) (sym is) (unknown-reads c (window_of r.window) n sc v empty)
-
 pub reads-exactly : (r : Reading) (n : ℕ) (hs : List Helper) (m : T.Meaning) → r.window.low < r.window.high → r.window.shift ≡ pos r.window.low → r.window.high - r.window.low ≡ n
     → Cuts r.root r.width r.window.low (r.window.high - r.window.low) hs m → ReadsAll r n hs m
 reads-exactly r n hs m some at size cuts c sc v root long inside one few stays helps =
@@ -297,3 +286,7 @@ pub reads-partly : (r : Reading) (n : ℕ) (old hs : List Helper) (there m : T.M
     → Cuts r.root r.width r.window.low (r.window.high - r.window.low) old there → ReadsPartly there r.window n hs m → ReadsAll r n hs m
 reads-partly r n old hs there m some grows cuts partly c sc v root long inside one few stays helps =
     partly c r.width sc v (cuts c sc v root long (omega arith) (omega arith) (helps-before old hs sc grows helps)) some inside one few stays helps
+
+-- a call by what its offset means
+pub call-like : (s : Slice) (m o p : T.Meaning) (hs : List Helper) (r : T.Meaning) → o ≡ p → IsSelectCall s m o hs r → IsSelectCall s m p hs r
+call-like s m o p hs r is call = subst (λ y. IsSelectCall s m y hs r) is call

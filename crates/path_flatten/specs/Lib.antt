@@ -4,3 +4,4 @@ pub mod Helping
 pub mod Reading
 pub mod Selecting
 pub mod Stepping
+pub mod Naming

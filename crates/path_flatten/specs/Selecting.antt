@@ -1,6 +1,9 @@
 -- What selects of names and of expressions read.
-use Rattle.std.specs.Prelude.{◌≡◌, ℕ, ◌+◌, ◌-◌, ◌≤◌, ◌<◌, List, [], ◌∷◌, length}
+use Rattle.std.specs.Prelude.{◌≡◌, ℕ, ◌+◌, ◌-◌, ◌≤◌, ◌<◌, ◌==◌, cond, List, [], ◌∷◌, length, replicate}
 use Rattle.b4_core.specs.declared.bit.Bit4.{Bit4}
+use Rattle.b4_core.specs.declared.bit.Bit4.TheVariants.{X}
+use Rattle.b4_core.specs.declared.operators.BinOp.TheVariants as B
+use Rattle.b4_core.specs.declared.operators.RedOp.TheVariants as D
 use Rattle.row_machine.specs.Valuation.{Valuation, Member}
 use Rattle.picks.specs.Windows.{seen}
 use Rattle.v_tree.specs.Names.{Name}
@@ -12,6 +15,7 @@ use Rattle.v_meaning.specs.Values as T
 use Rattle.eval_parts.specs.declared.paths.Window.{Window}
 use Rattle.eval_parts.specs.Places.{window_of}
 use Rattle.lowering_laws.specs.Same.{HasBits}
+use Rattle.lowering_laws.specs.Terms.{braced}
 use Rattle.path_flatten.specs.declared.readings.Root.{Root}
 use Rattle.path_flatten.specs.declared.readings.Reading.{Reading}
 use Rattle.path_flatten.specs.declared.readings.Slice.{Slice}
@@ -39,6 +43,18 @@ CutsValue m w low n hs r = (c : List Bit4) (sc : Scope) (v : Valuation)
 abbrev pub Cuts : Root → ℕ → ℕ → ℕ → List Helper → T.Meaning → Type 0
 Cuts root w low n hs r = (c : List Bit4) (sc : Scope) (v : Valuation)
     → HasRoot root w c sc v → length c ≡ w → low + n ≤ w → 1 ≤ n → EachHelps hs sc → HasBits r (slice_of c w low n) sc v
+
+-- a bit that is x whatever an expression is, `{(^m) ^ 1'bx}`, which names what that names
+abbrev pub lost_bit : T.Meaning → T.Meaning
+lost_bit m = braced (T.binary B.Xor (T.reduce D.Xor m) (T.literal (X ∷ [])))
+
+-- it, n times
+abbrev pub times : ℕ → T.Meaning → T.Meaning
+times n m = cond (n == 1) m (T.repetition n (m ∷ []))
+
+-- n bits of what a reading stands on, all of them out of range
+abbrev pub CutsNone : Root → ℕ → ℕ → T.Meaning → Type 0
+CutsNone root w n r = (c : List Bit4) (sc : Scope) (v : Valuation) → HasRoot root w c sc v → HasBits r (replicate n X) sc v
 
 -- the n bits of a window, by those of them that are in range
 abbrev pub ReadsPartly : T.Meaning → Window → ℕ → List Helper → T.Meaning → Type 0

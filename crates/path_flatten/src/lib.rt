@@ -3,6 +3,7 @@
 #![tactic(auto)]
 
 mod copies;
+mod helpers;
 mod numbers;
 mod places;
 mod ranks;
@@ -10,7 +11,8 @@ mod readings;
 mod steps;
 
 pub use copies::copy_expr;
+pub use helpers::{Helpers, need};
 pub use places::Place;
 pub use ranks::{Rank, falling_rank, free_rank, guarded_rank};
-pub use readings::{Reading, Root, cut_name};
+pub use readings::{Reading, Root, all_bits};
 pub use steps::{between_step, element_step, member_step, whole_name, whole_value};

@@ -1,9 +1,11 @@
 //! Steps of select paths that need no arithmetic in the text: they only narrow what is read (IEEE 1800-2017 clauses 7.2.1,
 //! 7.4.5 and 11.5.1).
 
-ghost use Rattle.std.specs.Prelude.{◌≤◌, ◌^◌, unsigned_abs, IfSome, IfOk};
+ghost use Rattle.std.specs.Prelude.{◌≡◌, ◌≤◌, ◌^◌, unsigned_abs, IfSome, IfOk};
 ghost use Rattle.sv_types.specs.Layouts.{width_of};
 ghost use Rattle.v_meaning.specs.Values.{meaning};
+ghost use Rattle.path_flatten.specs.declared.readings.Root.TheVariants as roots;
+ghost use Rattle.path_flatten.specs.Naming.{RootNames};
 ghost use Rattle.path_flatten.specs.Stepping.{IsSound, ReadsMember, ReadsElement, ReadsBetween, ReadsName, ReadsValue};
 
 use crate::ranks::braced;
@@ -18,6 +20,7 @@ use v_tree::VExpr;
 pub fn whole_name(name: Text, width: u32) -> Reading
     ensures sound { IsSound result }
     ensures reads { ReadsName name width result }
+    ensures root { result.root ≡ roots.Name name }
 {
     Reading {
         root: Root::Name(name),
@@ -30,6 +33,7 @@ pub fn whole_name(name: Text, width: u32) -> Reading
 pub fn whole_value(alloc: Global, value: VExpr, width: u32) -> Result<Reading, AllocError>
     ensures sound { IfOk result IsSound }
     ensures reads { IfOk result (ReadsValue (meaning value) width) }
+    ensures names { IfOk result (λ r. RootNames (meaning value) r.root) }
 {
     let braces = braced(alloc, value)?;
     Ok(Reading {
@@ -45,6 +49,7 @@ pub fn member_step(reading: Reading, of: &SvType, k: u32) -> Reading
     requires sound { IsSound reading }
     ensures sound { IsSound result }
     ensures reads { ReadsMember reading of.now k result }
+    ensures root { result.root ≡ reading.root }
 {
     Reading {
         root: reading.root,
@@ -60,6 +65,7 @@ pub fn element_step(reading: Reading, of: &SvType, index: Option<i128>) -> Readi
     requires sound { IsSound reading }
     ensures sound { IsSound result }
     ensures reads { ReadsElement reading of.now index result }
+    ensures root { result.root ≡ reading.root }
 {
     Reading {
         root: reading.root,
@@ -74,6 +80,7 @@ pub fn between_step(reading: Reading, of: &SvType, left: i64, right: i64) -> Rea
     requires sound { IsSound reading }
     ensures sound { IsSound result }
     ensures reads { ReadsBetween reading of.now left right result }
+    ensures root { result.root ≡ reading.root }
 {
     Reading {
         root: reading.root,

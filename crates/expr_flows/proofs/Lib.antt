@@ -1,0 +1,10 @@
+pub mod FullLevels
+pub mod Operands
+pub mod Wholes
+pub mod Adding
+pub mod Writing
+pub mod Paths
+pub mod Values
+pub mod Longs
+pub mod Reading
+pub mod Parting

@@ -1,0 +1,5 @@
+pub mod Known
+pub mod Full
+pub mod Traces
+pub mod Reads
+pub mod Targets

@@ -1,0 +1,10 @@
+//! What the rules of elaboration ask of types, and types that they give (IEEE 1800-2017 clauses 6.11, 6.22 and 7.2 to 7.4).
+#![tactic(auto)]
+
+mod copies;
+mod kinds;
+mod makes;
+
+pub use copies::copy_type;
+pub use kinds::{enum_of, is_array, is_indexed, is_plain_to_enum, is_same_enum, is_unpacked};
+pub use makes::{one_bit, vector};
