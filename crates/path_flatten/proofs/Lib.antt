@@ -6,3 +6,6 @@ pub mod Selecting
 pub mod Stepping
 pub mod Naming
 pub mod Losing
+pub mod Beginning
+pub mod Sliding
+pub mod NamingSlides

@@ -5,3 +5,5 @@ pub mod Reading
 pub mod Selecting
 pub mod Stepping
 pub mod Naming
+pub mod Distances
+pub mod Sliding

@@ -5,14 +5,18 @@
 mod copies;
 mod helpers;
 mod numbers;
+mod offsets;
 mod places;
 mod ranks;
 mod readings;
+mod slides;
 mod steps;
 
 pub use copies::copy_expr;
 pub use helpers::{Helpers, need};
+pub use offsets::Index;
 pub use places::Place;
 pub use ranks::{Rank, falling_rank, free_rank, guarded_rank};
 pub use readings::{Reading, Root, all_bits};
+pub use slides::{PartSelect, index_step, slide_step};
 pub use steps::{between_step, element_step, member_step, whole_name, whole_value};
