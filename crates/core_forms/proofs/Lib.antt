@@ -1,0 +1,6 @@
+pub mod Levels
+pub mod Gathering
+pub mod Expressions
+pub mod Induction
+pub mod Statements
+pub mod Machines
