@@ -1,5 +1,5 @@
 -- What the tokens of a text are made of.
-use Rattle.std.proofs.Common.{◌≡◌, ◌≤◌, ◌+◌, ◌==◌, ℕ, zero, suc, min, cond, Bool, true, false, not, ◌&&◌, nat_le, nat_lt, if◌then◌else◌, List, [], ◌∷◌, map, take, drop, length, reverse, codes, find, Option, Some, None, refl, sym, ap, subst, ◌∙◌, arith, one-add}
+use Rattle.std.proofs.Common.{◌≡◌, ◌≤◌, ◌+◌, ◌==◌, ℕ, zero, suc, cond, Bool, true, false, not, ◌&&◌, nat_le, nat_lt, if◌then◌else◌, List, [], ◌∷◌, map, take, drop, length, reverse, codes, find, Option, Some, None, refl, sym, ap, subst, ◌∙◌, arith, one-add}
 use Rattle.std.proofs.lemmas.Bool.Decides.{nat_tests}
 use Rattle.std.proofs.lemmas.List.{length-map, length-reverse, length-take-le}
 use Rattle.std.proofs.lemmas.List.Sums.{prefix_len-le-length}
@@ -56,8 +56,8 @@ word-fits c text h =
     named-fits (c ∷ take (prefix_len is_word text) text)
     (both (is_printable c) (list_all is_printable (take (prefix_len is_word text) text)) (letter-prints c h) (front-passes is_word is_printable word-prints text))
 
-decimal-fits : (value : ℕ) → is_decimal (min value 4294967295) ≡ true
-decimal-fits value = grind (arith, nat_tests)
+decimal-fits : (value : ℕ) → TokenFits (decimal_token value)
+decimal-fits value = if-fits TokenFits (nat_lt value 4294967296) (Token.decimal value) Token.stray (λ e. e) (λ e. tt)
 
 -- a number's bits
 first-yes : (a b : Bool) → (a && b) ≡ true → a ≡ true

@@ -11,21 +11,21 @@ pub at_least : (n : ℕ) (ds : List ℕ) → n ≤ digits_value_after 10 n ds
 at_least n [] = omega arith
 at_least n (c ∷ ds) = let more = at_least (n * 10 + digit_value c) ds in omega (arith, more)
 
-pub small_or_great : (n : ℕ) → (n ≤ 4294967295) ⊎ (4294967295 < n)
-small_or_great n = by_test (nat_lt 4294967295 n) refl
+pub small_or_great : (n : ℕ) → (n ≤ 4294967296) ⊎ (4294967296 < n)
+small_or_great n = by_test (nat_lt 4294967296 n) refl
   where
-    by_test : (b : Bool) → nat_lt 4294967295 n ≡ b → (n ≤ 4294967295) ⊎ (4294967295 < n)
-    by_test true e = inr (ltb-true 4294967295 n e)
-    by_test false e = inl (ltb-false 4294967295 n e)
+    by_test : (b : Bool) → nat_lt 4294967296 n ≡ b → (n ≤ 4294967296) ⊎ (4294967296 < n)
+    by_test true e = inr (ltb-true 4294967296 n e)
+    by_test false e = inl (ltb-false 4294967296 n e)
 
 -- a number that is cut at the most goes on as the whole one, as far as it is told apart
-pub capped : (n : ℕ) (ds : List ℕ) → min (digits_value_after 10 (min n 4294967295) ds) 4294967295 ≡ min (digits_value_after 10 n ds) 4294967295
+pub capped : (n : ℕ) (ds : List ℕ) → min (digits_value_after 10 (min n 4294967296) ds) 4294967296 ≡ min (digits_value_after 10 n ds) 4294967296
 capped n ds = by_size (small_or_great n)
   where
-    by_size : (n ≤ 4294967295) ⊎ (4294967295 < n) → min (digits_value_after 10 (min n 4294967295) ds) 4294967295 ≡ min (digits_value_after 10 n ds) 4294967295
-    by_size (inl h) = let e : min n 4294967295 ≡ n = omega (arith, h) in ap (λ k. min (digits_value_after 10 k ds) 4294967295) e
+    by_size : (n ≤ 4294967296) ⊎ (4294967296 < n) → min (digits_value_after 10 (min n 4294967296) ds) 4294967296 ≡ min (digits_value_after 10 n ds) 4294967296
+    by_size (inl h) = let e : min n 4294967296 ≡ n = omega (arith, h) in ap (λ k. min (digits_value_after 10 k ds) 4294967296) e
     by_size (inr h) =
-        let one = at_least (min n 4294967295) ds in
+        let one = at_least (min n 4294967296) ds in
         let two = at_least n ds in
         omega (arith, one, two, h)
 
@@ -58,11 +58,11 @@ digit-at ds i all within = by_test (is_digit (get_or ds i 0)) refl
 
 -- a step of the loop
 pub digit-goes : (digits : List ℕ) (at value digit : ℕ) (whole : ℕ) → at < length digits → is_digit (get_or digits at 0) ≡ true → digit ≡ get_or digits at 0 - 48
-    → min (digits_value_after 10 value (drop at digits)) 4294967295 ≡ whole
-    → min (digits_value_after 10 (min (value * 10 + digit) 4294967295) (drop (at + 1) digits)) 4294967295 ≡ whole
+    → min (digits_value_after 10 value (drop at digits)) 4294967296 ≡ whole
+    → min (digits_value_after 10 (min (value * 10 + digit) 4294967296) (drop (at + 1) digits)) 4294967296 ≡ whole
 digit-goes digits at value digit whole within is same so_far =
     let next : drop at digits ≡ get_or digits at 0 ∷ drop (at + 1) digits = rw (add-one, drop-cons digits at 0 within) in
     let d : digit ≡ digit_value (get_or digits at 0) = same ∙ sym (digit-is (get_or digits at 0) is) in
     capped (value * 10 + digit) (drop (at + 1) digits)
-    ∙ ap (λ k. min (digits_value_after 10 (value * 10 + k) (drop (at + 1) digits)) 4294967295) d
-    ∙ sym (ap (λ ds. min (digits_value_after 10 value ds) 4294967295) next) ∙ so_far
+    ∙ ap (λ k. min (digits_value_after 10 (value * 10 + k) (drop (at + 1) digits)) 4294967296) d
+    ∙ sym (ap (λ ds. min (digits_value_after 10 value ds) 4294967296) next) ∙ so_far

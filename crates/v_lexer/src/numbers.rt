@@ -8,19 +8,19 @@ ghost use Rattle.v_tree.specs.Tokens as spec;
 use b4_core::{Bit4, Vec4};
 use std::alloc::{AllocError, Global};
 
-/// The greatest decimal number that is told apart.
-pub const MOST: u64 = 4_294_967_295;
+/// No decimal number is so great.
+pub const BOUND: u64 = 4_294_967_296;
 
-/// The number that some digits write, or 2^32 - 1 where it is greater.
-pub fn decimal(digits: &[u8]) -> u32
+/// The number that some digits write, or 2^32 where it is greater.
+pub fn decimal(digits: &[u8]) -> u64
     requires { list_all spec.is_digit digits.now ≡ true }
-    ensures { result ≡ min (digits_value 10 digits.now) 4294967295 }
+    ensures { result ≡ min (digits_value 10 digits.now) 4294967296 }
 {
     let mut value: u64 = 0;
     for digit in digits {
-        value = (value * 10 + u64::from(*digit - b'0')).min(MOST);
+        value = (value * 10 + u64::from(*digit - b'0')).min(BOUND);
     }
-    value as u32
+    value
 }
 
 fn bit(byte: u8) -> Bit4

@@ -8,7 +8,7 @@ ghost use Rattle.v_lexer.specs.Seen.{piece_of, first_piece, length_behind, sized
 use crate::bytes::{
     begins, bits, digits, is_digit, is_letter, is_white, line_rest, printables, words,
 };
-use crate::numbers::{decimal, vector};
+use crate::numbers::{BOUND, decimal, vector};
 use crate::spelled::{mark, single, spelled_symbol};
 use crate::token::Says;
 use std::alloc::{AllocError, Global};
@@ -54,6 +54,18 @@ fn number(value: u32, further: usize) -> Piece
     Piece::Token(symbol, Says::Decimal(value), further)
 }
 
+// Digits: a decimal number below 2^32, or no token.
+#[tactic(auto, using(crate::proofs::Cuts::decimals))]
+fn decimal_piece(value: u64, further: usize) -> Piece
+    ensures { result ≡ piece_of (spec.cut (spec.decimal_token value) further) }
+{
+    if value < BOUND {
+        number(value as u32, further)
+    } else {
+        stray(further)
+    }
+}
+
 // A reserved word, or a simple name (IEEE 1364-2005 clauses 3.7 and 3.8).
 fn word_piece(alloc: Global, first: u8, text: &[u8], bytes: &[u8]) -> Result<Piece, AllocError>
     requires whole { bytes.now ≡ first ∷ text.now }
@@ -70,7 +82,7 @@ fn word_piece(alloc: Global, first: u8, text: &[u8], bytes: &[u8]) -> Result<Pie
 }
 
 // Whether so many bits stand behind `'b`.
-fn is_sized(size: u32, text: &[u8]) -> bool
+fn is_sized(size: u64, text: &[u8]) -> bool
     ensures value { result ≡ sized size text.now }
     ensures within { result ≡ true → size + 2 ≤ length text.now }
 {
@@ -81,13 +93,13 @@ fn is_sized(size: u32, text: &[u8]) -> bool
 }
 
 // A sized binary number, or a decimal one, of which the first digits give the size.
-fn sized_piece(alloc: Global, further: usize, size: u32, text: &[u8]) -> Result<Piece, AllocError>
+fn sized_piece(alloc: Global, further: usize, size: u64, text: &[u8]) -> Result<Piece, AllocError>
     requires { further + length text.now < 2 ^ 62 }
     ensures value { IfOk result (λ p. p ≡ piece_of (spec.sized_cut further size text.now)) }
     ensures within { IfOk result (λ p. length_behind p ≤ further + length text.now) }
 {
     if !is_sized(size, text) {
-        return Ok(number(size, further));
+        return Ok(decimal_piece(size, further));
     }
     let (_, behind) = text.split_at(2);
     let (digits, _) = behind.split_at(size as usize);

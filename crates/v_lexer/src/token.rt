@@ -12,7 +12,7 @@ pub enum Says {
     Name(Text),
     /// A sized binary number, its bits least first.
     Number(Vec4),
-    /// A decimal number, 2^32 - 1 where it is greater.
+    /// A decimal number.
     Decimal(u32),
 }
 

@@ -1,5 +1,5 @@
 -- The tokens of a target text (IEEE 1364-2005 clauses 3.1 to 3.7): the longest one at each place, from left to right.
-use Rattle.std.specs.Prelude.{ℕ, zero, suc, ◌+◌, ◌-◌, ◌==◌, Bool, true, false, not, ◌&&◌, ◌||◌, nat_le, nat_lt, min, if◌then◌else◌, List, [], ◌∷◌, map, take, drop, length, reverse, codes, Option, Some, None, find}
+use Rattle.std.specs.Prelude.{ℕ, zero, suc, ◌+◌, ◌-◌, ◌==◌, Bool, true, false, not, ◌&&◌, ◌||◌, nat_le, nat_lt, if◌then◌else◌, List, [], ◌∷◌, map, take, drop, length, reverse, codes, Option, Some, None, find}
 use Rattle.std.specs.List.{prefix_len, list_all}
 use Rattle.std.specs.Str.Parse.{digits_value}
 use Rattle.b4_core.specs.declared.bit.Bit4.{Bit4}
@@ -69,9 +69,9 @@ named bytes = if is_reserved bytes then word bytes else name bytes
 abbrev pub word_cut : ℕ → List ℕ → Cut
 word_cut c text = let n = prefix_len is_word text in cut (named (c ∷ take n text)) n
 
--- A decimal number counts as 2^32 - 1 where it is greater: no signal and no select reaches so far.
+-- A decimal number is below 2^32: digits that write a greater one are no token.
 abbrev pub decimal_token : ℕ → Token
-decimal_token value = decimal (min value 4294967295)
+decimal_token value = if nat_lt value 4294967296 then decimal value else stray
 
 -- behind n digits that give `size`: a size from 1 to 128, `'b` and exactly so many bits, or else a decimal number
 abbrev pub sized_cut : ℕ → ℕ → List ℕ → Cut

@@ -1,11 +1,11 @@
 -- The tokens of a piece that is written.
-use Rattle.std.proofs.Common.{◌≡◌, ℕ, zero, suc, ◌+◌, ◌<◌, ◌≤◌, ◌^◌, min, ◌==◌, Bool, true, false, not, ◌&&◌, List, [], ◌∷◌, ◌++◌, map, take, drop, length, reverse, codes, decimal, get_or, refl, sym, ap, subst, ◌∙◌, append_assoc, le-leb, lt-ltb, arith}
+use Rattle.std.proofs.Common.{◌≡◌, ℕ, zero, suc, ◌+◌, ◌<◌, ◌≤◌, ◌^◌, ◌==◌, Bool, true, false, not, ◌&&◌, List, [], ◌∷◌, ◌++◌, map, take, drop, length, reverse, codes, decimal, get_or, refl, sym, ap, subst, ◌∙◌, append_assoc, le-leb, lt-ltb, arith}
 use Rattle.std.specs.Prelude.{nat_le, nat_lt, if◌then◌else◌}
 use Rattle.std.specs.List.{prefix_len, list_all}
 use Rattle.std.specs.Char.{is_ascii_digit}
 use Rattle.std.specs.Str.{all_ascii_digits}
 use Rattle.std.specs.Str.Parse.{digits_value}
-use Rattle.std.proofs.lemmas.Bool.{and_parts, false≢true}
+use Rattle.std.proofs.lemmas.Bool.{and_parts, false≢true, lt-ltb}
 use Rattle.std.proofs.lemmas.Bool.Decides.{nat_tests}
 use Rattle.std.proofs.lemmas.Fmt.{digits_decimal, digits_value-decimal, first_decimal, decimal_nonempty, decimal_digit}
 use Rattle.std.proofs.lemmas.Str.Parse.{IsNumeralModel, numerals_by_value, tells_all_ascii_digits}
@@ -182,7 +182,7 @@ no-size n k c behind e =
     then cut (Token.number (reverse (map bit_of (take n (drop 1 behind))))) (k + (2 + n)) else cut (decimal_token n) k) e
 
 small-token : (n : ℕ) → n < 2 ^ 32 → decimal_token n ≡ Token.decimal n
-small-token n h = let same : min n 4294967295 ≡ n = omega (arith, h) in ap Token.decimal same
+small-token n h = ap (λ b. if b then Token.decimal n else Token.stray) (lt-ltb n 4294967296 (omega (arith, h)))
 
 wide : (n : ℕ) → n < 2 ^ 32 → n < 2 ^ 64
 wide n h = omega (arith, h)
