@@ -4,3 +4,5 @@ pub mod Expressions
 pub mod Induction
 pub mod Statements
 pub mod Machines
+pub mod TypedLevels
+pub mod Vectors
