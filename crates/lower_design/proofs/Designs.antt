@@ -1,5 +1,6 @@
 -- What is lowered of a design's core form is right for the design.
-use Rattle.std.proofs.Common.{◌≡◌, ◌⊎◌, ℕ, ◌≤◌, ◌^◌, Bool, true, false, List, [], ◌∷◌, length, Option, Some, None, refl, sym, ap, subst, ◌∙◌, inl, inr, arith}
+use Rattle.std.proofs.Common.{◌≡◌, ◌⊎◌, ℕ, zero, suc, ◌≤◌, ◌^◌, Bool, true, false, List, [], ◌∷◌, length, Option, Some, None, refl, sym, ap, subst, ◌∙◌, inl, inr, arith}
+use Rattle.std.specs.Prelude.{nat_le, if◌then◌else◌}
 use Rattle.std.specs.List.{slice_get, AllZip}
 use Rattle.std.proofs.lemmas.Bool.{false≢true}
 use Rattle.row_machine.specs.Valuation.{Valuation, Member}
@@ -11,10 +12,10 @@ use Rattle.sv_types.specs.declared.design.Signal.{Signal as TypedSignal}
 use Rattle.sv_types.specs.declared.design.Design as Final
 use Rattle.sv_types.specs.Machine as Source
 use Rattle.sv_types.specs.Layouts.{width_of}
-use Rattle.core_forms.specs.Forms.{each, signal_of, process_of, top_of, design_with, core_of}
+use Rattle.core_forms.specs.Forms.{then_one, each, signal_kind_of, signal_with, signal_of, process_of, top_of, design_with, core_of}
 use Rattle.core_forms.specs.Laws.{IsModest}
-use Rattle.core_forms.proofs.Expressions.{two-some}
-use Rattle.core_forms.proofs.Machines.{each-get, signal-core, cores_have_the_traces}
+use Rattle.core_forms.proofs.Expressions.{one-some, two-some, none-some}
+use Rattle.core_forms.proofs.Machines.{cores_have_the_traces}
 use Rattle.sv_core.specs.declared.design.SignalKind.{SignalKind}
 use Rattle.sv_core.specs.declared.design.SignalKind.TheVariants.{InputNet}
 use Rattle.sv_core.specs.declared.design.Signal.{Signal}
@@ -36,6 +37,32 @@ use Rattle.lower_design.specs.Lowered.{lowered}
 use Rattle.lower_design.proofs.Levels.{assign-level}
 use Rattle.lower_design.proofs.Machines.{few}
 use Rattle.lower_design.proofs.Right.{lowers}
+
+-- the core form of a signal has its path and its width
+pub record FormOf (s : TypedSignal) (t : Signal) : Type 0 where
+  pub width : t.width ≡ width_of s.of
+  pub path : t.path ≡ s.path
+
+form-of : (s : TypedSignal) (t : Signal) → signal_of s ≡ Some t → FormOf s t
+form-of s t e = by_width (nat_le (width_of s.of) 4194304) e
+  where
+    by_width : (b : Bool) → (if b then then_one (signal_with s) (signal_kind_of s.kind) else None) ≡ Some t → FormOf s t
+    by_width false h = absurd (none-some t h)
+    by_width true h =
+        let r = one-some (signal_with s) (signal_kind_of s.kind) t h in
+        record { width = ap (λ (x : Signal). x.width) (sym r.2); path = ap (λ (x : Signal). x.path) (sym r.2) }
+
+form-at : (xs : List TypedSignal) (ys : List Signal) → each signal_of xs ≡ Some ys → (n : ℕ) (s : TypedSignal) → slice_get xs n ≡ Some s
+    → (t : Signal) × (slice_get ys n ≡ Some t) × FormOf s t
+form-at [] ys e n s g = cc
+form-at (x ∷ xs) ys e zero s g =
+    let r = two-some (λ y zs. y ∷ zs) (signal_of x) (each signal_of xs) ys e in
+    let same : x ≡ s = cc in
+    (r.first, ap (λ zs. slice_get zs 0) (sym r.made), form-of s r.first (ap signal_of (sym same) ∙ r.first_is))
+form-at (x ∷ xs) ys e (suc n) s g =
+    let r = two-some (λ y zs. y ∷ zs) (signal_of x) (each signal_of xs) ys e in
+    let more = form-at xs r.second r.second_is n s g in
+    (more.0, ap (λ zs. slice_get zs (suc n)) (sym r.made) ∙ more.1, more.2)
 
 -- what is written of either list of targets is a target
 module _ (c : Design) (t : Translatable c) where
@@ -75,11 +102,10 @@ module _ (d : Final.Design) (t : IsTranslatable d) (e : VDesign) (is : e ≡ low
 
   agrees : (v u : Valuation) → Agree t.core e v u → DesignsAgree d e v u
   agrees v u a n s there =
-      let r = each-get signal_of d.signals (t.core).signals parts.1 n s there in
-      let g = signal-core s r.0 r.2 in
-      ap (λ (x : Signal). vector_at v n x.width) g.is
+      let r = form-at d.signals (t.core).signals parts.1 n s there in
+      ap (vector_at v n) (sym (r.2).width)
       ∙ a n r.0 r.1
-      ∙ (λ i. held u (of_top e (sym parts.0 i) ((sym g.is) i).path))
+      ∙ (λ i. held u (of_top e (sym parts.0 i) ((r.2).path i)))
 
   all-agree : (vs us : List Valuation) → TracesAgree t.core e vs us → DesignTracesAgree d e vs us
   all-agree [] [] h = tt

@@ -305,7 +305,7 @@ module _ (ss : List Signal) (some : (s : Signal) → Member ss s → 1 ≤ s.wid
         (assign-typed to value later);
   }
 
-  pub stmt-typed : (s : Stmt) → Done s
+  stmt-typed : (s : Stmt) → Done s
   stmt-typed = by_statement Done typed-steps
 
 module _ (d : Design) (t : Translatable d) where

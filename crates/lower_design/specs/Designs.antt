@@ -13,6 +13,7 @@ use Rattle.sv_types.specs.Layouts.{width_of}
 use Rattle.sv_types.specs.Machine as Source
 use Rattle.sv_core.specs.declared.design.Design as Core
 use Rattle.core_forms.specs.Forms.{top_of, core_of}
+use Rattle.core_forms.specs.Typed.{typed}
 use Rattle.core_forms.specs.Typing.{IsPlain}
 use Rattle.v_tree.specs.declared.items.VDesign.{VDesign}
 use Rattle.v_tree.specs.Grammatical.{is_of_grammar}
@@ -59,3 +60,7 @@ pub record LowersDesign (d : Design) (e : VDesign) : Type 0 where
       → (vs : List Valuation) × HasTrace (Source.machine d) rows vs × DesignTracesAgree d e vs us
   -- in each settling of the target the rounds reach the settled valuation
   pub rounds : (s : Started) (base v : Valuation) → Settled (Target.machine e (top_of d.instances)) s base v → Reaches (Target.machine e (top_of d.instances)) s base v
+
+-- A core design that is translated is so with its types too.
+abbrev pub TypedIsTranslatable : Type 0
+TypedIsTranslatable = (d : Core.Design) → Translatable d → IsTranslatable (typed d)

@@ -1,7 +1,7 @@
 //! The target design of an elaborated design.
 
 ghost use Rattle.std.specs.Prelude.{◌≡◌, IfOk};
-ghost use Rattle.lower_design.specs.Designs.{IsTranslatable, LowersDesign};
+ghost use Rattle.lower_design.specs.Designs.{IsTranslatable, LowersDesign, TypedIsTranslatable};
 ghost use Rattle.lower_design.specs.Lowered.{AllFit, lowered};
 
 use crate::module::lower_module;
@@ -29,3 +29,8 @@ pub fn lower_elaborated(alloc: Global, d: &sv_types::Design) -> Result<VDesign, 
         None => unreachable!(),
     }
 }
+
+/// A core design that `lower` takes is one that `lower_elaborated` takes, once it has its types. The function does nothing.
+pub fn typed_is_translatable()
+    ensures { TypedIsTranslatable }
+{}

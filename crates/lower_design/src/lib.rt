@@ -6,5 +6,5 @@ mod elaborated;
 mod module;
 mod process;
 
-pub use elaborated::lower_elaborated;
+pub use elaborated::{lower_elaborated, typed_is_translatable};
 pub use module::lower;
