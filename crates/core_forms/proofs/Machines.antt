@@ -305,10 +305,10 @@ module _ (d : Final.Design) (c : Design) (plain : IsPlain d) (is_core : core_of 
   inputs-same : filter (λ q. F.of_signal (map signal_meaning d.signals) false (λ s. s.is_top_input) q.signal) (F.places_from 0 (map signal_meaning d.signals)) ≡ C.inputs_from 0 c.signals
   inputs-same = inputs-from _ 0 d.signals c.signals cores.signals
       (λ i s there q same.
-          let start : 0 + i ≡ i = omega arith in
-          ap (F.of_signal (map signal_meaning d.signals) false (λ s. s.is_top_input)) (same ∙ start)
-          ∙ of-signal false (λ s. s.is_top_input) i s there
-          ∙ top-input s (plain.of_top s (member-at d.signals i s there)))
+      let start : 0 + i ≡ i = omega arith in
+      ap (F.of_signal (map signal_meaning d.signals) false (λ s. s.is_top_input)) (same ∙ start)
+      ∙ of-signal false (λ s. s.is_top_input) i s there
+      ∙ top-input s (plain.of_top s (member-at d.signals i s there)))
 
   -- what a signal holds before the first row
   holds-x : (s : G.Signal) → Member d.signals s → (b : ℕ) → slice_index_or (signal_meaning s).initial b X ≡ X

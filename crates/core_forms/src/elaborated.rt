@@ -187,11 +187,7 @@ fn statements(
 /// A statement as it stands in an `if`.
 #[cycle(typed)]
 #[tactic(auto, using(crate::proofs::TypedLevels::levels))]
-fn boxed(
-    alloc: Global,
-    signals: &[Signal],
-    s: &sv_core::Stmt,
-) -> Result<Boxed<Stmt>, AllocError>
+fn boxed(alloc: Global, signals: &[Signal], s: &sv_core::Stmt) -> Result<Boxed<Stmt>, AllocError>
     ensures { IfOk result (λ b. b ≡ means.typed_stmt signals.now s.now) }
 {
     Boxed::new(alloc, statement(alloc, signals, s)?)
@@ -200,11 +196,7 @@ fn boxed(
 /// A statement.
 #[cycle(typed)]
 #[tactic(auto, using(crate::proofs::TypedLevels::levels))]
-fn statement(
-    alloc: Global,
-    signals: &[Signal],
-    s: &sv_core::Stmt,
-) -> Result<Stmt, AllocError>
+fn statement(alloc: Global, signals: &[Signal], s: &sv_core::Stmt) -> Result<Stmt, AllocError>
     ensures { IfOk result (λ t. t ≡ means.typed_stmt signals.now s.now) }
 {
     match s {
@@ -257,11 +249,7 @@ fn kind(alloc: Global, kind: &sv_core::ProcessKind) -> Result<ProcessKind, Alloc
 }
 
 /// A process.
-fn process(
-    alloc: Global,
-    signals: &[Signal],
-    p: &sv_core::Process,
-) -> Result<Process, AllocError>
+fn process(alloc: Global, signals: &[Signal], p: &sv_core::Process) -> Result<Process, AllocError>
     ensures { IfOk result (λ t. t ≡ means.typed_process signals.now p.now) }
 {
     let (kind, body) = both(kind(alloc, &p.kind), statement(alloc, signals, &p.body))?;

@@ -241,7 +241,10 @@ fn statement(alloc: Global, s: &sv_types::Stmt) -> Result<Option<Stmt>, AllocErr
         sv_types::Stmt::Case { .. } => Ok(None),
         sv_types::Stmt::Loop { .. } => Ok(None),
         sv_types::Stmt::Assign {
-            to, value, later, ..
+            to,
+            value,
+            later,
+            ..
         } => assignment(alloc, to.as_slice(), value, *later),
         sv_types::Stmt::Call { .. } => Ok(None),
         sv_types::Stmt::Made { .. } => Ok(None),

@@ -150,11 +150,7 @@ fn check_names(alloc: Global, tree: &SourceTree) -> Result<(), Fail>
 
 /// The design of a source text, by the top's name. Its first break of the rules on names is refused, then a form that isn't
 /// built with E999, and a text without a module with E408.
-pub fn elaborate(
-    alloc: Global,
-    tree: &SourceTree,
-    top: &[u8],
-) -> Result<sv_types::Design, Fail>
+pub fn elaborate(alloc: Global, tree: &SourceTree, top: &[u8]) -> Result<sv_types::Design, Fail>
     ensures { TreeGives tree.now top.now result }
 {
     check_names(alloc, tree)?;
