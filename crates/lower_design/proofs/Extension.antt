@@ -24,6 +24,7 @@ use Rattle.sv_core.specs.declared.design.Process.{Process}
 use Rattle.sv_core.specs.declared.design.Stmt.{Stmt, Stmt-F, out-Stmt}
 use Rattle.sv_core.specs.declared.design.Stmt.TheVariants as S
 use Rattle.sv_core.specs.declared.design.Design.{Design}
+use Rattle.sv_core.specs.Numbers.{each_once}
 use Rattle.sv_core.specs.Statements as SD
 use Rattle.sv_core.specs.Statements.{width_of, width_or_zero, doing, stmt_doing, expr_signals}
 use Rattle.sv_core.specs.Machine as Source
@@ -46,25 +47,10 @@ use Rattle.lower_design.proofs.Levels.{assign-level, assign-out}
 use Rattle.lower_design.proofs.Meanings.{use_named}
 use Rattle.lower_design.proofs.Runs.{Same, Triggered, same-assignment, body-same, triggered-same}
 use Rattle.lower_design.proofs.Hangs.{stmt-tame}
-use Rattle.lower_design.proofs.Sound.{at-number, comb-member, comb-writes, edge-member, edge-writes, sound}
+use Rattle.lower_design.proofs.Sound.{comb-member, edge-member, sound}
 use Rattle.lower_design.proofs.Refinement.{ReadsMore, SameEdges, CombBelow, EdgeBelow, SameBelow, Extends, under_own, translates}
 use Rattle.lower_design.proofs.Items.{kind_of, image_of, images, helpers, trigger_signal, values, target, has_comb, us, sc, top-items, top-parts, all-signals, range_keeps, get-below, below-get, found-at, image-there, trigger-there, trigger-found}
-use Rattle.lower_design.proofs.Machines.{bool-same, has-filter, has-places, parts, count, AllBelow, UsesSignals, uses, covered-named, there, comb-reads, edge-same}
-
-inputs-below : (k : ℕ) (ss : List Signal) (q : Place) → has (Source.inputs_from k ss) q ≡ true → q.signal < k + length ss
-unfolding has
-inputs-below k [] q e = absurd (false≢true e)
-inputs-below k (s ∷ ss) q e =
-    elim (or_cases _ _ (sym (has-append (Source.input_places k s) (Source.inputs_from (suc k) ss) q) ∙ e)) [
-      | inl h ↦ (let same : q.signal ≡ k = here s.path s.width s.kind h in omega (arith, same))
-      | inr h ↦ (let below : q.signal < suc k + length ss = inputs-below (suc k) ss q h in omega (arith, below))
-    ]
-  where
-    here : (path : List ℕ) (width : ℕ) (kind : SignalKind) →
-        (let s : Signal = record { path = path; width = width; kind = kind } in has (Source.input_places k s) q ≡ true → q.signal ≡ k)
-    here path width InputNet h = has-signal k 0 width q h
-    here path width OutputVar h = absurd (false≢true h)
-    here path width Variable h = absurd (false≢true h)
+use Rattle.lower_design.proofs.Machines.{bool-same, has-filter, has-places, parts, count, AllBelow, UsesSignals, uses, covered-named, there, comb-reads, edge-same, is_own, signal-below, place-own, places-own}
 
 -- an input's place is of a signal that is one, and the other way round
 pub record InputAt (k : ℕ) (ss : List Signal) (q : Place) : Type 0 where
@@ -337,6 +323,28 @@ module _ (d : Design) (t : Translatable d) where
       by_bit a false h = refl
       by_bit a true h = never _ (by_kind a (inside a h) a.signal.kind refl (is_driven ps q.signal) refl)
 
+  -- and so it does in the source
+  rests-below : (q : Place) → is_own ss q ≡ true → has (Source.inputs_from 0 ss) q ≡ false → Source.rest_or_x (slice_get ss q.signal) ≡ X
+  rests-below q own none = let a = at q (signal-below ss q own) in ap Source.rest_or_x a.is_there ∙ by_kind a a.signal.kind refl
+    where
+      inside : (w : ℕ) → width_of ss q.signal ≡ w → q.bit < width_of ss q.signal → q.bit < 0 + w
+      inside w same low = omega (arith, same, low)
+
+      by_kind : (a : At q) (kind : SignalKind) → a.signal.kind ≡ kind → Source.rest_of kind ≡ X
+      by_kind a InputNet k =
+          let index : q.signal ≡ 0 + q.signal = omega arith in
+          absurd (false≢true (sym none ∙ at-input 0 ss q.signal a.signal q a.is_there k
+          (subst (λ j. has (places_of j a.signal.width) q ≡ true) index
+          (has-place q.signal 0 a.signal.width q refl (omega arith) (inside a.signal.width (ap width_or_zero a.is_there) (ltb-true q.bit (width_of ss q.signal) own))))))
+      by_kind a OutputVar k = refl
+      by_kind a Variable k = refl
+
+  inputs-own : (q : Place) → has (Source.inputs_from 0 ss) q ≡ true → is_own ss q ≡ true
+  inputs-own q h =
+      let o = input-at 0 ss q h in
+      let index : 0 + o.number ≡ o.number = omega arith in
+      place-own ss o.number q (sym (λ i. has (places_of (index i) (sym (ap width_or_zero o.is_there) i)) q) ∙ o.is_at)
+
   -- the trigger starts what reads it
   first : has_comb ps ≡ true → (p : T.Process) → list_any (λ n. n == length ss) (p.does.names p.scope) ≡ true → Target.is_triggered (count d t) (parts d t) p ≡ true
   first h p reads =
@@ -370,7 +378,7 @@ module _ (d : Design) (t : Translatable d) where
       initial-one = ap (λ o. elim o [ None ↦ X | Some s ↦ slice_index_or s.initial 0 X ]) (trigger-there d t h)
 
   combs-same : (qs : List Process) → ((p : Process) → Member qs p → Member ps p)
-      → AllZip (ReadsMore (length ss)) (Source.combs_of ss qs) (flat_map (λ (p : T.Process). Target.comb_of (count d t) (parts d t) p.starts p) (map (target (sc d t) ss) qs))
+      → AllZip (ReadsMore (is_own ss)) (Source.combs_of ss qs) (flat_map (λ (p : T.Process). Target.comb_of (count d t) (parts d t) p.starts p) (map (target (sc d t) ss) qs))
   combs-same [] among = tt
   combs-same (p ∷ qs) among = by_kind (combs-same qs (λ x m. among x (inr m))) p.kind refl (t.kinds p (among p (inl refl)))
     where
@@ -378,7 +386,7 @@ module _ (d : Design) (t : Translatable d) where
       u = uses-signals p (among p (inl refl))
 
       driver : (to : ℕ) (value : Expr) → p.body ≡ S.Assign to value false
-          → ReadsMore (length ss) (comb_process ss (S.Assign to value false)) (Target.comb (count d t) (parts d t) true [] (T.process_of (sc d t) (Drive (whole_target (name_of ss to)) (lowered_expr ss value))))
+          → ReadsMore (is_own ss) (comb_process ss (S.Assign to value false)) (Target.comb (count d t) (parts d t) true [] (T.process_of (sc d t) (Drive (whole_target (name_of ss to)) (lowered_expr ss value))))
       driver to value e =
           let is : doing (S.Assign to value false) ≡ SD.assignment to value false = assign-level SD.Doing stmt_doing to value false in
           let v : UsesSignals d t (doing (S.Assign to value false)) = subst (λ b. UsesSignals d t (doing b)) e u in
@@ -388,8 +396,8 @@ module _ (d : Design) (t : Translatable d) where
           (same.run (uses d t _ v)) same.writes
           (λ q low. ap (λ xs. covered xs q) same.reads ∙ covered-named d t _ q v.reads)
 
-      star : has_comb ps ≡ true → ReadsMore (length ss) (comb_process ss p.body) (Target.star (count d t) (parts d t) (T.process_of (sc d t) (process_by ss Comb p.body)))
-      star h = subst (ReadsMore (length ss) (comb_process ss p.body)) (sym started) (comb-reads d t p.body u star-process refl (same.run (uses d t _ u)) same.writes reads)
+      star : has_comb ps ≡ true → ReadsMore (is_own ss) (comb_process ss p.body) (Target.star (count d t) (parts d t) (T.process_of (sc d t) (process_by ss Comb p.body)))
+      star h = subst (ReadsMore (is_own ss) (comb_process ss p.body)) (sym started) (comb-reads d t p.body u star-process refl (same.run (uses d t _ u)) same.writes reads)
         where
           star-process : T.Process
           star-process = T.process_of (sc d t) (process_by ss Comb p.body)
@@ -418,14 +426,14 @@ module _ (d : Design) (t : Translatable d) where
               ∙ ap (λ b. b || covered (map (use_named ss (sc d t)) (doing p.body).reads) q) (not-trigger q low)
               ∙ covered-named d t (doing p.body).reads q u.reads
 
-      by_kind : AllZip (ReadsMore (length ss)) (Source.combs_of ss qs) (flat_map (λ (x : T.Process). Target.comb_of (count d t) (parts d t) x.starts x) (map (target (sc d t) ss) qs))
+      by_kind : AllZip (ReadsMore (is_own ss)) (Source.combs_of ss qs) (flat_map (λ (x : T.Process). Target.comb_of (count d t) (parts d t) x.starts x) (map (target (sc d t) ss) qs))
           → (kind : ProcessKind) → p.kind ≡ kind → KindFits ss kind p.body
-          → AllZip (ReadsMore (length ss)) (Source.comb_of ss kind p.body (Source.combs_of ss qs))
+          → AllZip (ReadsMore (is_own ss)) (Source.comb_of ss kind p.body (Source.combs_of ss qs))
           (flat_map (λ (x : T.Process). Target.comb_of (count d t) (parts d t) x.starts x) (T.process_of (sc d t) (process_by ss kind p.body) ∷ map (target (sc d t) ss) qs))
       by_kind rest Continuous e fits =
-          subst (λ b. AllZip (ReadsMore (length ss)) (comb_process ss b ∷ Source.combs_of ss qs)
+          subst (λ b. AllZip (ReadsMore (is_own ss)) (comb_process ss b ∷ Source.combs_of ss qs)
           (flat_map (λ (x : T.Process). Target.comb_of (count d t) (parts d t) x.starts x) (T.process_of (sc d t) (driver_in ss (out-Stmt b)) ∷ map (target (sc d t) ss) qs))) (sym fits.2)
-          (subst (λ x. AllZip (ReadsMore (length ss)) (comb_process ss (S.Assign fits.0 fits.1 false) ∷ Source.combs_of ss qs)
+          (subst (λ x. AllZip (ReadsMore (is_own ss)) (comb_process ss (S.Assign fits.0 fits.1 false) ∷ Source.combs_of ss qs)
           (flat_map (λ (x : T.Process). Target.comb_of (count d t) (parts d t) x.starts x) (T.process_of (sc d t) (driver_in ss x) ∷ map (target (sc d t) ss) qs)))
           (sym (assign-out fits.0 fits.1 false)) (driver fits.0 fits.1 fits.2, rest))
       by_kind rest Comb e fits =
@@ -434,24 +442,24 @@ module _ (d : Design) (t : Translatable d) where
       by_kind rest (Edges es) e fits = rest
 
   edges-same : (qs : List Process) → ((p : Process) → Member qs p → Member ps p)
-      → AllZip (SameEdges (length ss)) (Source.edges_of ss qs) (flat_map (λ (p : T.Process). Target.edge_of_process (count d t) (parts d t) p.starts p) (map (target (sc d t) ss) qs))
+      → AllZip (SameEdges (is_own ss)) (Source.edges_of ss qs) (flat_map (λ (p : T.Process). Target.edge_of_process (count d t) (parts d t) p.starts p) (map (target (sc d t) ss) qs))
   edges-same [] among = tt
   edges-same (p ∷ qs) among = by_kind (edges-same qs (λ x m. among x (inr m))) p.kind (t.kinds p (among p (inl refl)))
     where
       u : UsesSignals d t (doing p.body)
       u = uses-signals p (among p (inl refl))
 
-      not_edges : AllZip (SameEdges (length ss)) (Source.edges_of ss qs) (flat_map (λ (p : T.Process). Target.edge_of_process (count d t) (parts d t) p.starts p) (map (target (sc d t) ss) qs))
+      not_edges : AllZip (SameEdges (is_own ss)) (Source.edges_of ss qs) (flat_map (λ (p : T.Process). Target.edge_of_process (count d t) (parts d t) p.starts p) (map (target (sc d t) ss) qs))
           → (x : Stmt-F Stmt)
-          → AllZip (SameEdges (length ss)) (Source.edges_of ss qs)
+          → AllZip (SameEdges (is_own ss)) (Source.edges_of ss qs)
           (flat_map (λ (x : T.Process). Target.edge_of_process (count d t) (parts d t) x.starts x) (T.process_of (sc d t) (driver_in ss x) ∷ map (target (sc d t) ss) qs))
       not_edges rest (Stmt-F.Block xs) = rest
       not_edges rest (Stmt-F.If on b o) = rest
       not_edges rest (Stmt-F.Assign to value later) = rest
 
-      by_kind : AllZip (SameEdges (length ss)) (Source.edges_of ss qs) (flat_map (λ (p : T.Process). Target.edge_of_process (count d t) (parts d t) p.starts p) (map (target (sc d t) ss) qs))
+      by_kind : AllZip (SameEdges (is_own ss)) (Source.edges_of ss qs) (flat_map (λ (p : T.Process). Target.edge_of_process (count d t) (parts d t) p.starts p) (map (target (sc d t) ss) qs))
           → (kind : ProcessKind) → KindFits ss kind p.body
-          → AllZip (SameEdges (length ss)) (Source.edge_process_of ss kind p.body (Source.edges_of ss qs))
+          → AllZip (SameEdges (is_own ss)) (Source.edge_process_of ss kind p.body (Source.edges_of ss qs))
           (flat_map (λ (x : T.Process). Target.edge_of_process (count d t) (parts d t) x.starts x) (T.process_of (sc d t) (process_by ss kind p.body) ∷ map (target (sc d t) ss) qs))
       by_kind rest Continuous fits = not_edges rest (out-Stmt p.body)
       by_kind rest Comb fits = rest
@@ -463,29 +471,26 @@ module _ (d : Design) (t : Translatable d) where
           )
 
   -- processes use the source's signals alone
-  target-below : (p : Process) → Member ps p → (n : ℕ) → Member (targets_of p) n → n < length ss
-  target-below p m n k = let v = t.targets p m n k in below-get ss n v.signal v.is_there
-
-  combs-below : (p : M.Process) → Member (Source.combs_of ss ps) p → CombBelow (length ss) p
+  combs-below : (p : M.Process) → Member (Source.combs_of ss ps) p → CombBelow (is_own ss) p
   combs-below p m =
       let a = comb-member ss ps p m in
-      subst (CombBelow (length ss)) (sym a.is) (record {
-        writes = λ q h. target-below a.process a.member q.signal (comb-writes ss a.process a.kind q h);
-        reads = λ q h. t.reads a.process a.member q.signal
-            (at-number ss (doing a.process.body).reads q (has-without-only (comb_process ss a.process.body).writes (Source.places_of_signals ss (doing a.process.body).reads) q h));
+      subst (CombBelow (is_own ss)) (sym a.is) (record {
+        writes = places-own ss (each_once (doing a.process.body).targets);
+        reads = λ q h.
+            places-own ss (doing a.process.body).reads q (has-without-only (comb_process ss a.process.body).writes (Source.places_of_signals ss (doing a.process.body).reads) q h);
       })
 
-  edges-alike : (es : List EdgeOn) → ((e : EdgeOn) → Member es e → e.signal < length ss) → (v v' w w' : Valuation) → SameBelow (length ss) v v' → SameBelow (length ss) w w'
+  edges-alike : (es : List EdgeOn) → ((e : EdgeOn) → Member es e → is_own ss (record { signal = e.signal; bit = 0 }) ≡ true) → (v v' w w' : Valuation) → SameBelow (is_own ss) v v' → SameBelow (is_own ss) w w'
       → list_any (Source.has_edge v w) es ≡ list_any (Source.has_edge v' w') es
   edges-alike [] low v v' w w' a b = refl
   edges-alike (e ∷ es) low v v' w w' a b =
       λ i. is_edge e.rising (edge_of (a (record { signal = e.signal; bit = 0 }) (low e (inl refl)) i) (b (record { signal = e.signal; bit = 0 }) (low e (inl refl)) i))
       || edges-alike es (λ x m. low x (inr m)) v v' w w' a b i
 
-  edge-below : (p : Process) → Member ps p → (es : List EdgeOn) → p.kind ≡ Edges es → EdgeBelow (length ss) (edge_process ss es p.body)
+  edge-below : (p : Process) → Member ps p → (es : List EdgeOn) → p.kind ≡ Edges es → EdgeBelow (is_own ss) (edge_process ss es p.body)
   edge-below p m es k = record {
-    writes = λ q h. target-below p m q.signal (edge-writes ss p es k q h);
-    runs = edges-alike es (λ e l. let f = fits.2 e l in below-get ss e.signal f.0 f.1);
+    writes = places-own ss (each_once (doing p.body).later_targets);
+    runs = edges-alike es (λ e l. let f = fits.2 e l in one-bit e.signal (ap width_or_zero f.1 ∙ f.2));
     updates = λ v v' a q.
         ((stmt-tame ss p.body).hangs (doing p.body).reads (λ n l. l) (begun v) (begun v')
         (record { now = λ n l r h. a r (low n l r h); written = λ r. refl; pending = λ r. refl })).pending q;
@@ -494,26 +499,29 @@ module _ (d : Design) (t : Translatable d) where
       fits : KindFits ss (Edges es) p.body
       fits = subst (λ kind. KindFits ss kind p.body) k (t.kinds p m)
 
-      low : (n : ℕ) → Member (doing p.body).reads n → (r : Place) → has (places_of n (width_of ss n)) r ≡ true → r.signal < length ss
-      low n l r h = subst (λ j. j < length ss) (sym (has-signal n 0 (width_of ss n) r h)) (t.reads p m n l)
+      low : (n : ℕ) → Member (doing p.body).reads n → (r : Place) → has (places_of n (width_of ss n)) r ≡ true → is_own ss r ≡ true
+      low n l r h = place-own ss n r h
 
-  edges-below : (p : M.EdgeProcess) → Member (Source.edges_of ss ps) p → EdgeBelow (length ss) p
-  edges-below p m = let a = edge-member ss ps p m in subst (EdgeBelow (length ss)) (sym a.is) (edge-below a.process a.member a.edges a.kind)
+      one-bit : (n : ℕ) → width_of ss n ≡ 1 → is_own ss (record { signal = n; bit = 0 }) ≡ true
+      one-bit n one = lt-ltb 0 (width_of ss n) (omega (arith, one))
+
+  edges-below : (p : M.EdgeProcess) → Member (Source.edges_of ss ps) p → EdgeBelow (is_own ss) p
+  edges-below p m = let a = edge-member ss ps p m in subst (EdgeBelow (is_own ss)) (sym a.is) (edge-below a.process a.member a.edges a.kind)
 
   abbrev pub extra : Valuation
   extra = Target.start (count d t) (parts d t)
 
-  extends : Extends (length ss) extra (Source.machine d) e
+  extends : Extends (is_own ss) extra (Source.machine d) e
   extends = record {
     combs = combs-same ps (λ p m. m);
     edges = edges-same ps (λ p m. m);
     inputs = inputs-same;
-    initial = initial-below;
-    start = start-below;
+    initial = λ q own. initial-below q (signal-below ss q own);
+    start = λ q own none. start-below q (signal-below ss q own) none ∙ sym (rests-below q own none);
     beyond = λ q high. refl;
     combs_below = combs-below;
     edges_below = edges-below;
-    inputs_below = λ q h. (let low : q.signal < 0 + length ss = inputs-below 0 ss q h in omega (arith, low));
+    inputs_below = inputs-own;
   }
 
   -- the machine of the target
@@ -522,7 +530,7 @@ module _ (d : Design) (t : Translatable d) where
       (λ i. Target.machine_of (length (T.signals (top-items d i))) (top-parts d i))
       ∙ ap (λ xs. Target.machine_of (length xs) (parts d t)) (all-signals ss ps)
 
-  pub translated : Translates (under_own (length d.signals) extra) (Source.machine d) (Target.machine (lowered d) d.top)
+  pub translated : Translates (under_own (is_own d.signals) extra) (Source.machine d) (Target.machine (lowered d) d.top)
   translated =
-      subst (Translates (under_own (length d.signals) extra) (Source.machine d)) (sym machine-is)
-      (translates (length ss) extra (Source.machine d) e extends (sound d t))
+      subst (Translates (under_own (is_own d.signals) extra) (Source.machine d)) (sym machine-is)
+      (translates (is_own ss) extra (Source.machine d) e extends (sound d t))

@@ -17,4 +17,6 @@ pub mod Quiet
 pub mod Keeping
 pub mod Shapes
 pub mod Right
+pub mod Designs
+pub mod TypedDesigns
 pub mod Examples

@@ -1,5 +1,5 @@
 -- The processes of the lowered design's machine do what the source's do, but for the trigger.
-use Rattle.std.proofs.Common.{◌≡◌, ℕ, zero, suc, ◌+◌, ◌<◌, ◌≤◌, ◌^◌, Bool, true, false, not, ◌&&◌, ◌||◌, cond, List, [], ◌∷◌, map, filter, length, sum, Some, None, refl, sym, ap, subst, ◌∙◌, inl, inr, arith}
+use Rattle.std.proofs.Common.{◌≡◌, ℕ, zero, suc, ◌+◌, ◌<◌, ◌≤◌, ◌^◌, Bool, true, false, not, ◌&&◌, ◌||◌, cond, List, [], ◌∷◌, map, filter, length, sum, Option, Some, None, refl, sym, ap, subst, ◌∙◌, inl, inr, arith}
 use Rattle.std.specs.Prelude.{nat_lt}
 use Rattle.std.specs.List.{slice_get, list_any}
 use Rattle.std.proofs.lemmas.Bool.{or_cases, or_left, or_right, and_parts, false≢true, eqb-true, eq-eqb, le-leb, lt-ltb, ltb-true, ltb-false}
@@ -35,7 +35,7 @@ use Rattle.lower_design.proofs.Runs.{progress, Uses}
 use Rattle.lower_design.proofs.Hangs.{stmt-tame}
 use Rattle.lower_design.proofs.Sound.{in-signals, signals-in, at-number, once-member, member-once}
 use Rattle.lower_design.proofs.Refinement.{ReadsMore, SameEdges}
-use Rattle.lower_design.proofs.Items.{own, us, sc, get-below, found-below, image_of, image-there, range_keeps}
+use Rattle.lower_design.proofs.Items.{own, us, sc, get-below, below-get, found-below, image_of, image-there, range_keeps}
 
 pub bool-same : (a b : Bool) → (a ≡ true → b ≡ true) → (b ≡ true → a ≡ true) → a ≡ b
 bool-same true true f g = refl
@@ -84,6 +84,26 @@ has-bit n k (suc w) q e =
       | inl h ↦ (let same : k ≡ q.bit = eqb-true k q.bit (and_parts _ _ h).1 in omega (arith, same))
       | inr h ↦ (let below : q.bit < suc k + w = has-bit n (suc k) w q h in omega (arith, below))
     ]
+
+-- whether a place is a bit of a signal
+abbrev pub is_own : List Signal → Place → Bool
+is_own ss q = nat_lt q.bit (width_of ss q.signal)
+
+pub signal-below : (ss : List Signal) (q : Place) → is_own ss q ≡ true → q.signal < length ss
+signal-below ss q own = by_signal (slice_get ss q.signal) refl
+  where
+    by_signal : (o : Option Signal) → slice_get ss q.signal ≡ o → q.signal < length ss
+    by_signal (Some s) e = below-get ss q.signal s e
+    by_signal None e = (let low = ltb-true q.bit 0 (ap (λ o. nat_lt q.bit (width_or_zero o)) (sym e) ∙ own) in absurd (omega (arith, low)))
+
+pub place-own : (ss : List Signal) (n : ℕ) (q : Place) → has (places_of n (width_of ss n)) q ≡ true → is_own ss q ≡ true
+place-own ss n q h = lt-ltb q.bit (width_of ss q.signal) (inside (ap (width_of ss) (has-signal n 0 (width_of ss n) q h)) (has-bit n 0 (width_of ss n) q h))
+  where
+    inside : width_of ss q.signal ≡ width_of ss n → q.bit < 0 + width_of ss n → q.bit < width_of ss q.signal
+    inside same low = omega (arith, same, low)
+
+pub places-own : (ss : List Signal) (ns : List ℕ) (q : Place) → has (places_of_signals ss ns) q ≡ true → is_own ss q ≡ true
+places-own ss ns q h = let r = in-signals ss ns q h in place-own ss r.0 q r.2
 
 -- a use of a whole signal covers its places
 covers-whole : (n w : ℕ) (q : Place) → covers (record { number = n; low = 0; high = w }) q ≡ has (places_of n w) q
@@ -244,7 +264,7 @@ module _ (d : Design) (t : Translatable d) where
       below : (q : Place) → has seen q ≡ true → q.signal < length ss
       below q h = u.reads q.signal (at-number ss (doing body).reads q h)
 
-      pub comb-reads : ReadsMore (length ss) (comb_process ss body) (Target.comb count parts true [] p)
+      pub comb-reads : ReadsMore (is_own ss) (comb_process ss body) (Target.comb count parts true [] p)
       comb-reads = record {
         from_zero = refl;
         source_waits = refl;
@@ -258,7 +278,7 @@ module _ (d : Design) (t : Translatable d) where
             && ((reads q (below q l) ∙ l) i && not ((covered-writes q ∙ has-without-not source_own seen q h) i)));
         no_more = λ q low h.
             let a = and_parts _ _ (and_parts _ _ (sym (has-filter _ (Target.places count parts) q) ∙ h)).1 in
-            has-without source_own seen q (sym (reads q low) ∙ a.0) (sym (covered-writes q) ∙ not-false _ a.1);
+            has-without source_own seen q (sym (reads q (signal-below ss q low)) ∙ a.0) (sym (covered-writes q) ∙ not-false _ a.1);
       }
         where
           not-false : (b : Bool) → not b ≡ true → b ≡ false
@@ -276,7 +296,7 @@ module _ (d : Design) (t : Translatable d) where
 
   pub edge-same : (es : List EdgeOn) (body : Stmt) (u : UsesSignals (doing body)) (p : T.Process) → p.scope ≡ sc d t → Runs (doing body) p.does
       → p.does.later p.scope ≡ map (use_named ss (sc d t)) (doing body).later_targets → ((e : EdgeOn) → Member es e → Found ss (sc d t) e.signal)
-      → SameEdges (length ss) (edge_process ss es body) (Target.edge count parts (map (T.edge_on (sc d t)) (map (lowered_edge ss) es)) p)
+      → SameEdges (is_own ss) (edge_process ss es body) (Target.edge count parts (map (T.edge_on (sc d t)) (map (lowered_edge ss) es)) p)
   edge-same es body u p in_scope runs later found = record {
     writes = writes-same (doing body).later_targets (p.does.later p.scope) u.later_targets later;
     runs = λ v w. edges-found v w es found;

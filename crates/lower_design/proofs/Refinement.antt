@@ -1,7 +1,7 @@
--- A target machine with the source's signals under their own numbers, and others behind them that some processes read besides.
-use Rattle.std.proofs.Common.{◌≡◌, ℕ, ◌<◌, ◌≤◌, Bool, true, false, nat_lt, List, [], ◌∷◌, Option, Some, None, refl, sym, ap, subst, ◌∙◌, inl, inr, arith}
+-- A target machine with the source's bits under their own places, and others that some processes read besides.
+use Rattle.std.proofs.Common.{◌≡◌, Bool, true, false, List, [], ◌∷◌, Option, Some, None, refl, sym, ap, subst, ◌∙◌, inl, inr}
 use Rattle.std.specs.List.{AllZip}
-use Rattle.std.proofs.lemmas.Bool.{false≢true, ltb-true, lt-ltb, ltb-false}
+use Rattle.std.proofs.lemmas.Bool.{false≢true}
 use Rattle.row_machine.specs.Valuation.{Place, Valuation, Member, has, OneWriter}
 use Rattle.row_machine.specs.Machine.{Process, EdgeProcess, Machine}
 use Rattle.row_machine.specs.Settle.{differs}
@@ -41,10 +41,10 @@ no_image : (b : Bool) (q' : Place) → origin_of b q' ≡ None → b ≡ false
 no_image true q' e = cc
 no_image false q' e = refl
 
-module _ (n : ℕ) where
+module _ (inside : Place → Bool) where
   -- the bits of the source's signals
   abbrev pub IsBelow : Place → Type 0
-  IsBelow q = q.signal < n
+  IsBelow q = inside q ≡ true
 
   abbrev pub SameBelow : Valuation → Valuation → Type 0
   SameBelow v u = (q : Place) → IsBelow q → v q ≡ u q
@@ -81,30 +81,30 @@ module _ (n : ℕ) where
     pub inputs : (q : Place) → has e.inputs q ≡ has d.inputs q
     pub initial : (q : Place) → IsBelow q → e.initial q ≡ d.initial q
     pub start : (q : Place) → IsBelow q → has d.inputs q ≡ false → e.start q ≡ d.start q
-    pub beyond : (q : Place) → n ≤ q.signal → e.start q ≡ extra q
+    pub beyond : (q : Place) → inside q ≡ false → e.start q ≡ extra q
     pub combs_below : (p : Process) → Member d.combs p → CombBelow p
     pub edges_below : (p : EdgeProcess) → Member d.edges p → EdgeBelow p
     pub inputs_below : (q : Place) → has d.inputs q ≡ true → IsBelow q
 
   -- each source bit shows under its own place
   abbrev pub under_own : Valuation → Map
-  under_own extra = record { origin = λ q. origin_of (nat_lt q.signal n) q; extra = λ v q. extra q; two_state = λ q. false }
+  under_own extra = record { origin = λ q. origin_of (inside q) q; extra = λ v q. extra q; two_state = λ q. false }
 
   module _ (extra : Valuation) where
     abbrev m : Map
     m = under_own extra
 
     same_place : (q q' : Place) → m.origin q' ≡ Some q → q' ≡ q
-    same_place q q' o = (image (nat_lt q'.signal n) q q' o).1
+    same_place q q' o = (image (inside q') q q' o).1
 
     is_below : (q q' : Place) → m.origin q' ≡ Some q → IsBelow q'
-    is_below q q' o = ltb-true q'.signal n (image (nat_lt q'.signal n) q q' o).0
+    is_below q q' o = (image (inside q') q q' o).0
 
-    is_beyond : (q' : Place) → m.origin q' ≡ None → n ≤ q'.signal
-    is_beyond q' o = ltb-false q'.signal n (no_image (nat_lt q'.signal n) q' o)
+    is_beyond : (q' : Place) → m.origin q' ≡ None → inside q' ≡ false
+    is_beyond q' o = no_image (inside q') q' o
 
     pub own_origin : (q : Place) → IsBelow q → m.origin q ≡ Some q
-    own_origin q h = ap (λ b. origin_of b q) (lt-ltb q.signal n h)
+    own_origin q h = ap (λ b. origin_of b q) h
 
     pub lifted_below : (v : Valuation) → SameBelow (lifted m v) v
     lifted_below v q h = ap (λ o. image_or o v (extra q)) (own_origin q h)
@@ -114,12 +114,9 @@ module _ (n : ℕ) where
       images = λ q q' o. same q' ∙ ap (has qs) (same_place q q' o);
       no_more = λ q' o. elim (true_or_false (has qs q')) [
         | inr f ↦ same q' ∙ f
-        | inl h ↦ absurd (apart q' (below q' h) (is_beyond q' o))
+        | inl h ↦ absurd (false≢true (sym (is_beyond q' o) ∙ below q' h))
       ];
     }
-      where
-        apart : (q : Place) → q.signal < n → n ≤ q.signal → ⊥
-        apart q a b = omega arith
 
     -- rows agree with themselves
     pub same_row : (d : Machine) (row : Valuation) → SameRow m d row row

@@ -19,6 +19,7 @@ use Rattle.lower_design.specs.Lowered.{lowered}
 use Rattle.lower_design.proofs.Places.{has-signal, vectors-same}
 use Rattle.lower_design.proofs.Refinement.{under_own, lifted_below, same_rows}
 use Rattle.lower_design.proofs.Items.{all-signals, top-items, sc, found-at, below-get}
+use Rattle.lower_design.proofs.Machines.{is_own, place-own}
 use Rattle.lower_design.proofs.Meanings.{image}
 use Rattle.lower_design.proofs.Extension.{extra, translated}
 use Rattle.lower_design.proofs.Grammar.{of-grammar}
@@ -28,9 +29,9 @@ use Rattle.lower_design.proofs.Shapes.{shape}
 module _ (d : Design) (t : Translatable d) where
   -- the target's valuation for a source's
   abbrev shown : Valuation → Valuation
-  shown v = lifted (under_own (length d.signals) (extra d t)) v
+  shown v = lifted (under_own (is_own d.signals) (extra d t)) v
 
-  abbrev both : Translates (under_own (length d.signals) (extra d t)) (Source.machine d) (Target.machine (lowered d) d.top)
+  abbrev both : Translates (under_own (is_own d.signals) (extra d t)) (Source.machine d) (Target.machine (lowered d) d.top)
   both = translated d t
 
   agrees : (v : Valuation) → Agree d (lowered d) v (shown v)
@@ -38,18 +39,18 @@ module _ (d : Design) (t : Translatable d) where
       let top : of_top (lowered d) d.top s.path ≡ named (sc d t).names s.path = ap (λ us. named (numbered 0 us) s.path) (ap signals (top-items d) ∙ all-signals d.signals d.processes) in
       let one : of_top (lowered d) d.top s.path ≡ image d.signals (sc d t) n = top ∙ ap (named (sc d t).names) (sym (ap path_or_nothing is)) ∙ found-at d t n s is in
       let wide : width_of d.signals n ≡ s.width = ap width_or_zero is in
-      vectors-same v (shown v) n 0 s.width (λ q h. sym (lifted_below (length d.signals) (extra d t) v q (low q h)))
+      vectors-same v (shown v) n 0 s.width (λ q h. sym (lifted_below (is_own d.signals) (extra d t) v q (low q h)))
       ∙ sym (ap (held (shown v)) one ∙ ap (vector_at (shown v) n) wide)
     where
-      low : (q : Place) → has (places_of n s.width) q ≡ true → q.signal < length d.signals
-      low q h = let e : q.signal ≡ n = has-signal n 0 s.width q h in omega (arith, e, below-get d.signals n s is)
+      low : (q : Place) → has (places_of n s.width) q ≡ true → is_own d.signals q ≡ true
+      low q h = place-own d.signals n q (ap (λ w. has (places_of n w) q) (ap width_or_zero is) ∙ h)
 
   traces-agree : (vs : List Valuation) → TracesAgree d (lowered d) vs (map shown vs)
   traces-agree [] = tt
   traces-agree (v ∷ vs) = (agrees v, traces-agree vs)
 
-  machines-agree : (rows : List Valuation) → MachinesAgree (under_own (length d.signals) (extra d t)) (Source.machine d) (Target.machine (lowered d) d.top) rows rows
-  machines-agree rows = both.agree rows rows (same_rows (length d.signals) (extra d t) (Source.machine d) rows)
+  machines-agree : (rows : List Valuation) → MachinesAgree (under_own (is_own d.signals) (extra d t)) (Source.machine d) (Target.machine (lowered d) d.top) rows rows
+  machines-agree rows = both.agree rows rows (same_rows (is_own d.signals) (extra d t) (Source.machine d) rows)
 
   pub right : Lowers d (lowered d)
   right = record {

@@ -3,3 +3,4 @@ pub mod Agreement
 pub mod Shape
 pub mod Lowering
 pub mod Lowered
+pub mod Designs

@@ -1,4 +1,4 @@
-//! The target design of an elaborated design.
+//! The target design of a core design.
 
 ghost use Rattle.std.specs.Prelude.{◌≡◌, ◌++◌, IfOk};
 ghost use Rattle.lower_design.specs.Lowered.{AllFit, lowered, lowered_items, process_items};
@@ -45,7 +45,7 @@ fn lower_items(
 }
 
 /// The one module of the target design.
-fn lower_module(alloc: Global, d: &Design) -> Result<VDesign, AllocError>
+pub fn lower_module(alloc: Global, d: &Design) -> Result<VDesign, AllocError>
     requires { AllFit d.now.signals d.now.processes }
     ensures { IfOk result (λ e. e ≡ lowered d.now) }
 {
@@ -59,7 +59,7 @@ fn lower_module(alloc: Global, d: &Design) -> Result<VDesign, AllocError>
     Ok(VDesign { modules })
 }
 
-/// The target design of an elaborated design: a module with the design's name and ports, a declaration for each signal
+/// The target design of a core design: a module with the design's name and ports, a declaration for each signal
 /// and a process for each process.
 ///
 /// A continuous assignment becomes an `assign`, an `always_ff` an `always` with its edges, and an `always_comb` an

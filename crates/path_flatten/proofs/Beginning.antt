@@ -1,12 +1,12 @@
 -- Where elements begin, by the index.
-use Rattle.std.proofs.Common.{◌≡◌, ℕ, zero, suc, ◌+◌, ◌-◌, ◌*◌, ◌^◌, ◌<◌, ◌≤◌, max, Bool, true, false, cond, ℤ, pos, negsuc, ◌+ℤ◌, ◌-ℤ◌, ◌*ℤ◌, ◌≤ℤ◌, ◌<ℤ◌, neg_ℤ, List, [], ◌∷◌, ◌++◌, length, length-append, take, Option, Some, None, refl, arith, ap, sym, ◌∙◌, subst}
+use Rattle.std.proofs.Common.{◌≡◌, ℕ, zero, suc, ◌+◌, ◌-◌, ◌*◌, ◌^◌, ◌<◌, ◌≤◌, max, Bool, true, false, cond, ℤ, pos, negsuc, ◌+ℤ◌, ◌-ℤ◌, ◌*ℤ◌, List, [], ◌∷◌, ◌++◌, length, length-append, Option, Some, None, refl, arith, ap, sym, ◌∙◌, subst}
 use Rattle.std.specs.Prelude.{unsigned_abs, int_le}
 use Rattle.std.proofs.Math.Nat.{pow-suc}
 use Rattle.std.proofs.lemmas.Int.{ints}
 use Rattle.std.proofs.lemmas.Nat.{mul-le, pow-add}
 use Rattle.b4_core.specs.declared.bit.Bit4.{Bit4}
 use Rattle.b4_core.specs.declared.bit.Bit4.TheVariants.{Zero}
-use Rattle.b4_core.specs.Vectors.{known, num, snum, number, ext}
+use Rattle.b4_core.specs.Vectors.{known, snum, ext}
 use Rattle.row_machine.specs.Valuation.{Valuation}
 use Rattle.sv_types.specs.declared.types.SvType.{SvType}
 use Rattle.sv_types.specs.Layouts.{Layout, layout}
@@ -20,12 +20,11 @@ use Rattle.v_meaning.specs.Values as T
 use Rattle.v_meaning.specs.Values.{meaning, number_of}
 use Rattle.lowering_laws.specs.Same.{HasBits}
 use Rattle.lowering_laws.specs.Signed.{IsIndex, FitsSigned}
-use Rattle.lowering_laws.specs.Slid.{begins, bits_below, origin, IsSignedOffset}
+use Rattle.lowering_laws.specs.Slid.{begins, origin, IsSignedOffset}
 use Rattle.lowering_laws.specs.Terms as terms
 use Rattle.lowering_laws.proofs.Assigned.{given-alone}
 use Rattle.lowering_laws.proofs.Constants.{bits-alone}
 use Rattle.lowering_laws.proofs.Contexts.{alone-width, alone-value}
-use Rattle.lowering_laws.proofs.Extensions.{ext-at}
 use Rattle.lowering_laws.proofs.Indices.{signed-index, unsigned-index}
 use Rattle.lowering_laws.proofs.SlideOffsets.{falling-offset, rising-offset}
 use Rattle.path_flatten.specs.declared.offsets.Index.{Index}
@@ -34,7 +33,7 @@ use Rattle.path_flatten.specs.declared.offsets.Offset.TheVariants as O
 use Rattle.path_flatten.specs.declared.offsets.Argument.{Argument}
 use Rattle.path_flatten.specs.Distances.{distance_term, origin_by}
 use Rattle.path_flatten.specs.Reading.{IsPassed}
-use Rattle.path_flatten.specs.Sliding.{IsIndexOf, IsSignedIndex, HasNumber, IsOffset, IsOffsetOf, IsBase, IsArgument}
+use Rattle.path_flatten.specs.Sliding.{IsIndexOf, IsSignedIndex, IsOffset, IsOffsetOf, IsBase, IsArgument}
 
 -- a lowered index as a signed number
 pub as-signed : (x : Index) (m : T.Meaning) (w : ℕ) → x.signed ≡ true → m ≡ meaning x.expr → w ≡ x.width → IsSignedIndex x m w

@@ -1,6 +1,6 @@
 -- Bits that are out of range.
-use Rattle.std.proofs.Common.{◌≡◌, ℕ, zero, suc, ◌+◌, ◌<◌, ◌≤◌, ◌==◌, max, min, Bool, true, false, ◌&&◌, cond, ℤ, pos, negsuc, ◌+ℤ◌, List, [], ◌∷◌, length, Option, Some, None, replicate, refl, arith, ap, sym, ◌∙◌, subst}
-use Rattle.std.specs.Prelude.{nat_lt, int_le, int_lt}
+use Rattle.std.proofs.Common.{◌≡◌, ℕ, ◌+◌, ◌≤◌, ◌==◌, max, min, Bool, true, false, cond, pos, ◌+ℤ◌, List, [], ◌∷◌, None, replicate, refl, arith, ap, sym, ◌∙◌, subst}
+use Rattle.std.specs.Prelude.{nat_lt}
 use Rattle.std.proofs.lemmas.Int.{ints}
 use Rattle.std.proofs.lemmas.Bool.Decides.{nat_tests}
 use Rattle.b4_core.specs.declared.bit.Bit4.{Bit4}
@@ -10,9 +10,8 @@ use Rattle.b4_core.specs.declared.operators.RedOp.TheVariants as D
 use Rattle.b4_core.specs.Bits.{xor4}
 use Rattle.b4_core.specs.Bitwise.{parity4}
 use Rattle.row_machine.specs.Valuation.{Valuation}
-use Rattle.picks.specs.Windows.{Window, whole, nowhere, part, trimmed, at_least_0, seen}
+use Rattle.picks.specs.Windows.{whole, nowhere, part, trimmed, at_least_0}
 use Rattle.v_tree.specs.Names.{Name}
-use Rattle.v_tree.specs.declared.expressions.VExpr.{VExpr}
 use Rattle.v_meaning.specs.Scopes.{Scope, named}
 use Rattle.v_meaning.specs.Values as T
 use Rattle.eval_parts.specs.Places.{window_of}
@@ -23,7 +22,6 @@ use Rattle.path_flatten.specs.declared.readings.Root.{Root}
 use Rattle.path_flatten.specs.declared.readings.Root.TheVariants as R
 use Rattle.path_flatten.specs.declared.readings.Reading.{Reading}
 use Rattle.v_tree.specs.declared.names.Helper.{Helper}
-use Rattle.path_flatten.specs.Reading.{IsVector}
 use Rattle.path_flatten.specs.Selecting.{lost_bit, times, CutsNone, ReadsAll}
 use Rattle.path_flatten.proofs.Selecting.{name-bits, seen-none, empty-picks}
 use Rattle.path_flatten.proofs.Stepping.{braced-has}

@@ -1,5 +1,5 @@
 -- What selects and calls name.
-use Rattle.std.proofs.Common.{◌≡◌, ◌⊎◌, inl, inr, ℕ, Bool, true, false, ◌==◌, cond, ℤ, List, [], ◌∷◌, ◌++◌, append-nil, Option, refl, ap, sym, ◌∙◌, subst}
+use Rattle.std.proofs.Common.{◌≡◌, ◌⊎◌, inl, inr, ℕ, Bool, true, false, ◌==◌, cond, ℤ, List, [], ◌∷◌, ◌++◌, append-nil, Option, ap, sym, ◌∙◌, subst}
 use Rattle.row_machine.specs.Valuation.{Member}
 use Rattle.v_tree.specs.Names.{Name}
 use Rattle.v_tree.specs.declared.expressions.VExpr.{VExpr}

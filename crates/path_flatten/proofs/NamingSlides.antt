@@ -1,5 +1,5 @@
 -- What selects from an offset on name.
-use Rattle.std.proofs.Common.{◌≡◌, ℕ, Bool, true, false, ℤ, List, [], ◌∷◌, ◌++◌, append-nil, refl, ap, sym, ◌∙◌, subst}
+use Rattle.std.proofs.Common.{◌≡◌, ℕ, Bool, true, false, ℤ, [], ◌∷◌, ◌++◌, append-nil, ap, sym, ◌∙◌, subst}
 use Rattle.b4_core.specs.declared.bit.Bit4.TheVariants.{Zero}
 use Rattle.v_tree.specs.Names.{Name}
 use Rattle.v_tree.specs.declared.expressions.VExpr.{VExpr}
@@ -15,7 +15,7 @@ use Rattle.path_flatten.specs.declared.readings.Root.TheVariants as R
 use Rattle.path_flatten.specs.Distances.{distance_term}
 use Rattle.path_flatten.specs.Naming.{SameNumbers, root_names, NamesRoot, NamesLike, RootNamesBoth}
 use Rattle.path_flatten.specs.Sliding.{offset_names, NamesOffset, NamesIndex, NamesSlide}
-use Rattle.path_flatten.proofs.Naming.{same-itself, same-by, same-then, same-turned, same-joined, like-itself, like-then, like-by, call-both}
+use Rattle.path_flatten.proofs.Naming.{same-itself, same-by, same-then, same-joined, like-itself, like-by, call-both}
 
 -- numbers that name nothing beside an expression
 zero-named : (m : T.Meaning) (sc : Scope) → (T.concatenation (T.literal (Zero ∷ []) ∷ m ∷ [])).names sc ≡ m.names sc

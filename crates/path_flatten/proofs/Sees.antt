@@ -1,16 +1,16 @@
 -- Paths that see the same bits.
-use Rattle.std.proofs.Common.{◌≡◌, ℕ, zero, suc, ◌+◌, ◌<◌, ◌≤◌, max, min, Bool, true, false, ◌&&◌, cond, ℤ, pos, negsuc, ◌+ℤ◌, ◌-ℤ◌, ◌≤ℤ◌, ◌<ℤ◌, List, length, Option, Some, None, refl, arith, ap, sym, ◌∙◌, subst}
-use Rattle.std.specs.Prelude.{nat_lt, nat_le, int_le, int_lt, slice_index_or}
+use Rattle.std.proofs.Common.{◌≡◌, ℕ, zero, suc, ◌<◌, ◌≤◌, Bool, true, false, ◌&&◌, cond, ℤ, pos, negsuc, ◌+ℤ◌, List, length, Option, Some, None, refl, arith, ap, sym, ◌∙◌}
+use Rattle.std.specs.Prelude.{nat_lt, int_le, int_lt, slice_index_or}
 use Rattle.std.proofs.lemmas.Int.{ints}
 use Rattle.std.proofs.lemmas.Bool.Decides.{nat_tests}
 use Rattle.b4_core.specs.declared.bit.Bit4.{Bit4}
 use Rattle.b4_core.specs.declared.bit.Bit4.TheVariants.{X}
-use Rattle.picks.specs.Windows.{Window, whole, nowhere, part, trimmed, within, picked, bit_at, seen, tabulated, at_least_0}
+use Rattle.picks.specs.Windows.{Window, whole, nowhere, part, picked, bit_at, seen, tabulated}
 use Rattle.sv_types.specs.Layouts.{Layout, Part, count_of}
-use Rattle.sv_types.specs.Windows.{member_of, element_of, elements, between, slide, rank}
+use Rattle.sv_types.specs.Windows.{member_of, element_of, between, slide, rank}
 use Rattle.sv_types.proofs.Picks.{pick, nothing-there, tabulated-same}
 use Rattle.lowering_laws.proofs.Slides.{picked-slide, far}
-use Rattle.lowering_laws.proofs.WriteAt.{IsTight, nowhere-tight, whole-tight, part-tight}
+use Rattle.lowering_laws.proofs.WriteAt.{IsTight, whole-tight, part-tight}
 use Rattle.path_flatten.specs.Reading.{bit_from, Sees, StaysIn}
 
 pub tight-of : (path : Window) (n : ℕ) → StaysIn path n → IsTight path n

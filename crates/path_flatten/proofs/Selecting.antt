@@ -1,16 +1,15 @@
 -- What selects of names and calls of select helpers read.
-use Rattle.std.proofs.Common.{◌≡◌, ℕ, zero, suc, ◌+◌, ◌-◌, ◌*◌, ◌^◌, ◌<◌, ◌≤◌, max, min, Bool, true, false, ◌&&◌, cond, ℤ, pos, negsuc, ◌+ℤ◌, ◌-ℤ◌, neg_ℤ, ◌≤ℤ◌, ◌<ℤ◌, List, [], ◌∷◌, ◌++◌, ◌⊎◌, inl, inr, length, Option, Some, None, replicate, refl, arith, ap, sym, ◌∙◌, subst}
-use Rattle.std.specs.Prelude.{nat_lt, nat_le, int_le, int_lt, slice_index_or}
+use Rattle.std.proofs.Common.{◌≡◌, ℕ, zero, suc, ◌+◌, ◌-◌, ◌*◌, ◌^◌, ◌<◌, ◌≤◌, max, min, true, false, ◌&&◌, cond, ℤ, pos, negsuc, ◌+ℤ◌, ◌-ℤ◌, ◌≤ℤ◌, ◌<ℤ◌, List, [], ◌∷◌, ◌⊎◌, inl, inr, length, Option, Some, None, replicate, refl, arith, ap, sym, ◌∙◌, subst}
+use Rattle.std.specs.Prelude.{nat_lt, int_le, int_lt, slice_index_or}
 use Rattle.std.proofs.lemmas.Int.{ints}
 use Rattle.std.proofs.lemmas.Bool.Decides.{nat_tests}
 use Rattle.b4_core.specs.declared.bit.Bit4.{Bit4}
 use Rattle.b4_core.specs.declared.bit.Bit4.TheVariants.{X}
 use Rattle.b4_core.specs.Vectors.{known, snum, vec, ext}
-use Rattle.row_machine.specs.Valuation.{Valuation, Member}
+use Rattle.row_machine.specs.Valuation.{Valuation}
 use Rattle.row_machine.specs.Places.{vector_at}
 use Rattle.picks.specs.Windows.{Window, whole, nowhere, part, trimmed, within, picked, bit_at, seen, tabulated, at_least_0}
 use Rattle.sv_types.proofs.Picks.{pick, picked-part, tabulated-same, length-tabulated}
-use Rattle.sv_types.proofs.OperatorLengths.{length-ext}
 use Rattle.v_tree.specs.Names.{Name}
 use Rattle.v_tree.specs.Printing.{helper_text}
 use Rattle.v_tree.specs.declared.names.Helper.{Helper}
@@ -21,7 +20,6 @@ use Rattle.v_meaning.specs.Selects.{SelMeaning}
 use Rattle.v_meaning.specs.Values as T
 use Rattle.eval_parts.specs.declared.paths.Window.{Window as Span}
 use Rattle.eval_parts.specs.Places.{window_of}
-use Rattle.two_state.specs.Kinds.{Helps}
 use Rattle.lowering_laws.specs.Helpers.{Slices, from_offset}
 use Rattle.lowering_laws.specs.Same.{HasBits}
 use Rattle.lowering_laws.specs.Signed.{FitsSigned}
@@ -38,7 +36,7 @@ use Rattle.path_flatten.specs.declared.readings.Root.TheVariants as R
 use Rattle.path_flatten.specs.declared.readings.Reading.{Reading}
 use Rattle.path_flatten.specs.declared.readings.Slice.{Slice}
 use Rattle.path_flatten.specs.Helping.{EachHelps, IsSized, Grows}
-use Rattle.path_flatten.specs.Reading.{IsVector, HasRoot, StaysIn, slice_of}
+use Rattle.path_flatten.specs.Reading.{IsVector, StaysIn, slice_of}
 use Rattle.path_flatten.specs.Selecting.{slicer, IsSelectCall, CutsName, CutsValue, Cuts, ReadsPartly, ReadsAll}
 use Rattle.path_flatten.proofs.Helping.{helped, helps-before}
 

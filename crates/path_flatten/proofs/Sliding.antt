@@ -5,7 +5,6 @@ use Rattle.std.proofs.lemmas.Int.{ints}
 use Rattle.std.proofs.lemmas.Nat.{mul-le}
 use Rattle.std.proofs.lemmas.Bool.Decides.{nat_tests}
 use Rattle.b4_core.specs.declared.bit.Bit4.{Bit4}
-use Rattle.b4_core.specs.Vectors.{known, snum}
 use Rattle.row_machine.specs.Valuation.{Valuation}
 use Rattle.picks.specs.Windows.{Window, whole, nowhere, part, picked, bit_at, seen}
 use Rattle.sv_types.specs.declared.types.SvType.{SvType}
@@ -21,10 +20,9 @@ use Rattle.v_tree.specs.declared.names.Helper.{Helper}
 use Rattle.v_meaning.specs.Scopes.{Scope, named}
 use Rattle.v_meaning.specs.Values as T
 use Rattle.v_meaning.specs.Values.{meaning, number_of}
-use Rattle.eval_parts.specs.declared.paths.Window.{Window as Span}
 use Rattle.eval_parts.specs.Places.{window_of}
 use Rattle.lowering_laws.specs.Same.{HasBits}
-use Rattle.lowering_laws.specs.Slid.{begins, bits_below}
+use Rattle.lowering_laws.specs.Slid.{begins}
 use Rattle.lowering_laws.specs.Terms as terms
 use Rattle.lowering_laws.proofs.Paths.{one-window, one-width}
 use Rattle.lowering_laws.proofs.Slides.{picked-slide, far, slide-read}
@@ -33,14 +31,13 @@ use Rattle.lowering_laws.proofs.WriteAt.{IsTight, nowhere-tight, whole-tight, pa
 use Rattle.path_flatten.specs.declared.offsets.Index.{Index}
 use Rattle.path_flatten.specs.declared.offsets.Offset.{Offset}
 use Rattle.path_flatten.specs.declared.offsets.Argument.{Argument}
-use Rattle.path_flatten.specs.declared.readings.Root.{Root}
 use Rattle.path_flatten.specs.declared.readings.Root.TheVariants as R
 use Rattle.path_flatten.specs.declared.readings.Reading.{Reading}
 use Rattle.path_flatten.specs.declared.readings.Slice.{Slice}
 use Rattle.path_flatten.specs.Helping.{EachHelps, Grows}
-use Rattle.path_flatten.specs.Reading.{IsVector, HasRoot, Reads, Sees, StaysIn, IsPassed}
+use Rattle.path_flatten.specs.Reading.{IsVector, HasRoot, Reads, Sees}
 use Rattle.path_flatten.specs.Selecting.{ReadsAll, IsSelectCall}
-use Rattle.path_flatten.specs.Sliding.{IsIndexOf, IsOffset, IsOffsetOf, IsBase, IsArgument, slid, Slides, ReadsSlide, ReadsIndex}
+use Rattle.path_flatten.specs.Sliding.{IsOffset, IsOffsetOf, IsBase, IsArgument, slid, Slides, ReadsSlide, ReadsIndex}
 use Rattle.path_flatten.specs.Stepping.{IsStep}
 use Rattle.path_flatten.proofs.Helping.{helps-before}
 use Rattle.path_flatten.proofs.Sees.{tight-of, stays-of, sees-seen, sees-element, sees-slide, sees-value}

@@ -1,10 +1,10 @@
 -- Steps of readings.
-use Rattle.std.proofs.Common.{◌≡◌, ℕ, ◌+◌, ◌*◌, ◌≤◌, max, min, Bool, true, false, ◌&&◌, cond, ℤ, pos, ◌+ℤ◌, ◌*ℤ◌, List, [], ◌∷◌, length, Option, Some, None, refl, arith, ap, sym, ◌∙◌, subst}
+use Rattle.std.proofs.Common.{◌≡◌, ℕ, ◌*◌, ◌≤◌, max, min, Bool, true, false, ◌&&◌, cond, ℤ, pos, ◌+ℤ◌, ◌*ℤ◌, List, length, Option, Some, None, refl, arith, ap, sym, ◌∙◌, subst}
 use Rattle.std.specs.Prelude.{nat_lt, int_le, int_lt, slice_get}
 use Rattle.b4_core.specs.declared.bit.Bit4.{Bit4}
 use Rattle.b4_core.specs.Vectors.{ext}
 use Rattle.row_machine.specs.Valuation.{Valuation}
-use Rattle.picks.specs.Windows.{Window, whole, nowhere, part, trimmed, at_least_0}
+use Rattle.picks.specs.Windows.{Window, whole, nowhere, part, at_least_0}
 use Rattle.sv_types.specs.declared.types.SvType.{SvType}
 use Rattle.sv_types.specs.Layouts.{Layout, Part, layout, count_of}
 use Rattle.sv_types.specs.Windows.{member_of, element_of, elements, between, rank}
@@ -12,18 +12,16 @@ use Rattle.sv_types.specs.Surroundings.{Around}
 use Rattle.sv_types.specs.Meanings as S
 use Rattle.v_tree.specs.Names.{Name}
 use Rattle.v_tree.specs.declared.expressions.VExpr.{VExpr}
-use Rattle.v_meaning.specs.Scopes.{Scope, named}
+use Rattle.v_meaning.specs.Scopes.{Scope}
 use Rattle.v_meaning.specs.Values as T
-use Rattle.eval_parts.specs.declared.paths.Window.{Window as Span}
 use Rattle.eval_parts.specs.Places.{window_of, IsNear}
-use Rattle.lowering_laws.specs.Same.{HasBits, SameAlone}
+use Rattle.lowering_laws.specs.Same.{HasBits}
 use Rattle.lowering_laws.specs.Terms.{braced}
 use Rattle.lowering_laws.proofs.Contexts.{alone-width, alone-value}
 use Rattle.lowering_laws.proofs.WriteAt.{IsTight, nowhere-tight, whole-tight, part-tight}
-use Rattle.path_flatten.specs.declared.readings.Root.{Root}
 use Rattle.path_flatten.specs.declared.readings.Root.TheVariants as R
 use Rattle.path_flatten.specs.declared.readings.Reading.{Reading}
-use Rattle.path_flatten.specs.Reading.{IsVector, HasRoot, Reads, Sees, StaysIn}
+use Rattle.path_flatten.specs.Reading.{HasRoot, Reads, Sees}
 use Rattle.path_flatten.specs.Stepping.{IsSound, IsStep, HasPart, ReadsMember, ReadsElement, ReadsBetween, ReadsName, ReadsValue}
 use Rattle.path_flatten.proofs.Sees.{stays-of, sees-itself, sees-member, sees-between, sees-element}
 

@@ -1,5 +1,5 @@
 -- The helper functions that a text calls.
-use Rattle.std.specs.Prelude.{◌≡◌, ⊤, ℕ, ◌<◌, List, [], ◌∷◌, ◌++◌}
+use Rattle.std.specs.Prelude.{◌≡◌, ⊤, ◌<◌, List, [], ◌∷◌, ◌++◌}
 use Rattle.row_machine.specs.Valuation.{Member}
 use Rattle.v_tree.specs.declared.names.Helper.{Helper}
 use Rattle.v_tree.specs.Printing.{helper_text}

@@ -1,5 +1,5 @@
 -- What reads the bits of a select path, while its steps are taken (IEEE 1800-2017 clause 11.5.1).
-use Rattle.std.specs.Prelude.{◌≡◌, ℕ, ◌<◌, ◌≤◌, ℤ, pos, ◌+ℤ◌, ◌-ℤ◌, int_le, int_lt, Bool, true, ◌&&◌, cond, List, length, Option, Some, None}
+use Rattle.std.specs.Prelude.{◌≡◌, ℕ, ◌<◌, ◌≤◌, ℤ, pos, ◌+ℤ◌, ◌-ℤ◌, int_le, int_lt, true, ◌&&◌, cond, List, length, Option, Some, None}
 use Rattle.b4_core.specs.declared.bit.Bit4.{Bit4}
 use Rattle.b4_core.specs.Vectors.{known, snum}
 use Rattle.row_machine.specs.Valuation.{Valuation}

@@ -1,8 +1,8 @@
 -- Steps by an index that is known only when the text runs (IEEE 1800-2017 clauses 7.4.5 and 11.5.1).
-use Rattle.std.specs.Prelude.{◌≡◌, ℕ, ◌*◌, ◌≤◌, Bool, true, ℤ, List, ◌++◌, length, Option, Some, None}
+use Rattle.std.specs.Prelude.{◌≡◌, ℕ, ◌*◌, ◌≤◌, Bool, ℤ, List, ◌++◌, length, Option, Some, None}
 use Rattle.b4_core.specs.declared.bit.Bit4.{Bit4}
 use Rattle.row_machine.specs.Valuation.{Valuation}
-use Rattle.picks.specs.Windows.{Window, whole, nowhere, part, seen}
+use Rattle.picks.specs.Windows.{whole, nowhere, part, seen}
 use Rattle.sv_types.specs.declared.types.SvType.{SvType}
 use Rattle.sv_types.specs.Layouts.{layout}
 use Rattle.sv_types.specs.Windows.{element_of, slide}

@@ -423,3 +423,10 @@ elaborated-few m e =
     let few = leb-true (total_bits (declared m)) (2 ^ 22) (elaborates-parts m e).bits in
     let names = names-few (declared m) in
     omega arith
+
+-- a module that is refused nothing has few signals
+pub core-few : (m : Module) (top : List ℕ) → refusal_of m top ≡ None → length (design_of m).signals ≤ 2 ^ 32
+core-few m top e =
+    let few = elaborated-few m (unrefused m top e).elaborated in
+    let same : length (map signal_of (declared m)) ≡ length (map name_of (declared m)) = length-map signal_of (declared m) ∙ sym (length-map name_of (declared m)) in
+    omega (arith, few, same)

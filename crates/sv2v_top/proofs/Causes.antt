@@ -10,7 +10,7 @@ use Rattle.command_line.specs.declared.words.Asked.{Asked}
 use Rattle.sv_tree.specs.declared.units.SourceTree.{SourceTree}
 use Rattle.sv_build.specs.Reading.{Reads, SyntaxBreak}
 use Rattle.sv_build.proofs.OneReading.{one_reading}
-use Rattle.sv_core.specs.declared.design.Design.{Design}
+use Rattle.sv_types.specs.declared.design.Design.{Design}
 use Rattle.built_forms.specs.Built.{built}
 use Rattle.sv2v_top.specs.source.Answers.{refusal_by, tree_refusal}
 use Rattle.sv2v_top.specs.Translation.{Accepted, Breaks}

@@ -6,9 +6,11 @@ use Rattle.sv_source.specs.declared.refusal.Fail.{Fail}
 use Rattle.sv_source.specs.declared.refusal.Fail.TheVariants.{Memory, Refused}
 use Rattle.sv_source.specs.declared.refusal.Refusal.{Refusal}
 use Rattle.sv_macro.specs.Tokens.{is_name_kind}
-use Rattle.lower_design.specs.Translatable.{Translatable}
+use Rattle.core_forms.specs.Typed.{typed}
+use Rattle.lower_design.specs.Designs.{IsTranslatable}
+use Rattle.lower_design.proofs.TypedDesigns.{typed-translatable}
 use Rattle.v_tree.specs.Tokens.{is_simple}
-use Rattle.sv_core.specs.declared.design.Design.{Design}
+use Rattle.sv_types.specs.declared.design.Design.{Design}
 use Rattle.sv_tree.specs.declared.units.SourceTree.{SourceTree}
 use Rattle.sv_build.specs.Reading.{Reads, ReadingGives}
 use Rattle.sv2v_top.specs.source.Elaboration.{design_of}
@@ -33,8 +35,10 @@ module _ (top : List ℕ) (tokens : List Token) (tree : SourceTree) (reads : Rea
       let left : All Simply tree.tokens = subst (All Simply) (sym reads.keeps) (all-left Simply tokens names) in
       subst (λ v. is_simple v ≡ true) n.is_word (simple-name n.token n.is_name (all-at Simply tree.tokens n.index n.token left n.is_there))
 
-  pub correct : Translatable d
-  correct = subst Translatable (sym e.is) (translatable top tree.tokens e.source (names-built tree e.source e.builds) e.unbroken simple)
+  pub correct : IsTranslatable d
+  correct =
+      subst IsTranslatable (sym e.is)
+      (typed-translatable (design_of e.source) (translatable top tree.tokens e.source (names-built tree e.source e.builds) e.unbroken simple))
 
 -- tokens that don't read have a break
 pub unread-breaks : (top : List ℕ) (tokens : List Token) (e : Fail) → ReadingGives tokens (Err e) → TranslationGives top tokens (Err e)

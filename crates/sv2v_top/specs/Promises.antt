@@ -8,7 +8,7 @@ use Rattle.sv_source.specs.declared.token.Token.{Token}
 use Rattle.command_line.specs.declared.words.Asked.{Asked}
 use Rattle.command_line.specs.Words.{asked}
 use Rattle.sv2v_top.specs.declared.run.Stop.{Stop}
-use Rattle.sv_core.specs.declared.design.Design.{Design}
+use Rattle.sv_types.specs.declared.design.Design.{Design}
 use Rattle.sv2v_top.specs.declared.status.Status.{Status}
 use Rattle.sv2v_top.specs.declared.status.Status.TheVariants.{Done, Refused, Usage, Memory, FileFault, SinkFault, Unsettled}
 use Rattle.sv2v_top.specs.Translation.{Accepted}

@@ -6,13 +6,13 @@ use Rattle.sv_source.specs.declared.text.Text.{Text}
 use Rattle.sv_source.specs.declared.refusal.Refusal.{Refusal}
 use Rattle.sv_source.specs.declared.refusal.Fail.{Fail}
 use Rattle.sv_source.specs.declared.refusal.Fail.TheVariants.{Memory, Refused}
-use Rattle.sv_core.specs.declared.design.Design.{Design}
+use Rattle.sv_types.specs.declared.design.Design.{Design}
 use Rattle.v_tree.specs.declared.items.VDesign.{VDesign}
 use Rattle.sv_tree.specs.declared.units.SourceTree.{SourceTree}
 use Rattle.sv_build.specs.Reading.{Reads, SyntaxBreak}
 use Rattle.sv2v_top.specs.source.Answers.{tree_refusal, Elaborated}
 use Rattle.v_tree.specs.Reading.{VReads}
-use Rattle.lower_design.specs.Lowering.{Lowers}
+use Rattle.lower_design.specs.Designs.{LowersDesign}
 
 -- the tokens are accepted, and elaborate to this design
 pub record Accepted (top : List ℕ) (tokens : List Token) (d : Design) : Type 0 where
@@ -30,7 +30,7 @@ pub record Right (d : Design) (text : List ℕ) (e : VDesign) : Type 0 where
   pub reads : VReads text e
   pub only : (f : VDesign) → VReads text f → f ≡ e
   -- and the target design is right: its shape, its traces and its rounds
-  pub lowers : Lowers d e
+  pub lowers : LowersDesign d e
 
 -- the text is the translation of source tokens
 pub record Translates (top : List ℕ) (tokens : List Token) (text : List ℕ) : Type 0 where

@@ -10,13 +10,14 @@ ghost use Rattle.std.specs.List.{list_all};
 ghost use Rattle.sv2v_top.specs.source.Names.{declared, signal_names};
 ghost use Rattle.sv2v_top.specs.source.Rules.{inputs, is_top, header_holds, elaborates, is_built, ranges_hold, signal_of};
 ghost use Rattle.sv2v_top.specs.source.Lookup.{Numbers};
-ghost use Rattle.sv2v_top.specs.source.Answers.{stage_refusal, absent_refusal, ElaborationGives, NamesGive, TreeGives};
+ghost use Rattle.sv2v_top.specs.source.Answers.{stage_refusal, absent_refusal, ElaborationGives, NamesGive, ModuleGives, TreeGives};
 ghost use Rattle.lower_design.specs.Translatable.{is_helper_name};
 ghost use Rattle.sv_core.specs.declared.design.Signal.{Signal as DesignSignal};
 
 use crate::design::processes;
 use crate::name_table::Names;
 use built_forms::{Module, built};
+use core_forms::typed;
 use names::signal_table;
 use package_scope::scopes;
 use rules::{Tables, comb_table, items_are_built, items_fit, process_break};
@@ -149,7 +150,7 @@ fn check_names(alloc: Global, tree: &SourceTree) -> Result<(), Fail>
 
 /// The design of a source text, by the top's name. Its first break of the rules on names is refused, then a form that isn't
 /// built with E999, and a text without a module with E408.
-pub fn elaborate(alloc: Global, tree: &SourceTree, top: &[u8]) -> Result<Design, Fail>
+pub fn elaborate(alloc: Global, tree: &SourceTree, top: &[u8]) -> Result<sv_types::Design, Fail>
     ensures { TreeGives tree.now top.now result }
 {
     check_names(alloc, tree)?;
@@ -159,10 +160,20 @@ pub fn elaborate(alloc: Global, tree: &SourceTree, top: &[u8]) -> Result<Design,
     let Some(source) = found else {
         return Err(Fail::Refused(absent(alloc, top)?));
     };
-    elaborate_module(alloc, &source, top)
+    elaborate_typed(alloc, &source, top)
 }
 
-/// The design of a module, by the top's name. A name that isn't declared is refused with E401, and then a module that isn't
+/// The design of a module with its types, refused as `elaborate_module` refuses it.
+fn elaborate_typed(alloc: Global, source: &Module, top: &[u8]) -> Result<sv_types::Design, Fail>
+    ensures { ModuleGives source.now top.now result }
+{
+    match elaborate_module(alloc, source, top) {
+        Ok(design) => Ok(typed(alloc, &design)?),
+        Err(fail) => Err(fail),
+    }
+}
+
+/// The design of a module by its names alone, by the top's name. A name that isn't declared is refused with E401, and then a module that isn't
 /// the top with E408; then a rule of names or types that isn't built with E999; then the first break of the rules on processes
 /// with E601 or E603; and last another rule that isn't built with E999.
 fn elaborate_module(alloc: Global, source: &Module, top: &[u8]) -> Result<Design, Fail>

@@ -9,7 +9,7 @@ ghost use Rattle.sv2v_top.specs.Tokens.{NamesAreSimple};
 ghost use Rattle.sv2v_top.specs.Translation.{TranslationGives};
 
 use crate::elab_build::elaborate;
-use lower_design::lower;
+use lower_design::lower_elaborated;
 use std::alloc::{AllocError, Global};
 use sv_build::read_source;
 use sv_source::{Fail, Text, Tokens};
@@ -38,7 +38,7 @@ pub fn translate(alloc: Global, top: &[u8], tokens: Tokens) -> Result<Text, Fail
 {
     let tree = read_source(alloc, tokens)?;
     let design = elaborate(alloc, &tree, top)?;
-    let target = lower(alloc, &design)?;
+    let target = lower_elaborated(alloc, &design)?;
     let text = text_of(alloc, &target)?;
     Ok(text)
 }

@@ -1,12 +1,14 @@
 -- An elaborated design as a machine over rows.
-use Rattle.std.specs.Prelude.{ℕ, suc, Bool, true, List, [], ◌∷◌, ◌++◌, flat_map}
+use Rattle.std.specs.Prelude.{ℕ, suc, Bool, true, List, [], ◌∷◌, ◌++◌, flat_map, slice_get, Option, Some, None}
 use Rattle.std.specs.List.{list_any}
-use Rattle.b4_core.specs.declared.bit.Bit4.TheVariants.{X}
+use Rattle.b4_core.specs.declared.bit.Bit4.{Bit4}
+use Rattle.b4_core.specs.declared.bit.Bit4.TheVariants.{X, Z}
 use Rattle.b4_core.specs.Bitwise.{edge_of}
 use Rattle.row_machine.specs.Valuation.{Place, Valuation}
 use Rattle.row_machine.specs.Machine as M
 use Rattle.row_machine.specs.Places.{places_of, without}
 use Rattle.row_machine.specs.Steps.{begun, is_edge}
+use Rattle.sv_core.specs.declared.design.SignalKind.{SignalKind}
 use Rattle.sv_core.specs.declared.design.SignalKind.TheVariants.{InputNet, OutputVar, Variable}
 use Rattle.sv_core.specs.declared.design.Signal.{Signal}
 use Rattle.sv_core.specs.declared.design.EdgeOn.{EdgeOn}
@@ -81,13 +83,22 @@ abbrev pub inputs_from : ℕ → List Signal → List Place
 inputs_from n [] = []
 inputs_from n (s ∷ rest) = input_places n s ++ inputs_from (suc n) rest
 
--- Before the first row each bit is x: nets hold x then, and x is the default of a four-state variable
--- (clause 6.8). A variable keeps it where nothing assigns it.
+-- what a bit holds where no process assigns it: z in a net (clause 6.6), and the default x in a four-state variable (clause 6.8)
+abbrev pub rest_of : SignalKind → Bit4
+rest_of InputNet = Z
+rest_of OutputVar = X
+rest_of Variable = X
+
+abbrev pub rest_or_x : Option Signal → Bit4
+rest_or_x (Some s) = rest_of s.kind
+rest_or_x None = X
+
+-- Before the first row each bit is x: nets hold x then, and x is the default of a four-state variable.
 abbrev pub machine : Design → M.Machine
 machine d = record {
   combs = combs_of d.signals d.processes;
   edges = edges_of d.signals d.processes;
   inputs = inputs_from 0 d.signals;
   initial = λ q. X;
-  start = λ q. X;
+  start = λ q. rest_or_x (slice_get d.signals q.signal);
 }

@@ -12,7 +12,9 @@ use Rattle.sv_tree.specs.declared.units.SourceTree.{SourceTree}
 use Rattle.built_forms.specs.Built.{built}
 use Rattle.built_forms.specs.declared.forms.Item.{Item}
 use Rattle.built_forms.specs.declared.forms.Module.{Module}
-use Rattle.sv_core.specs.declared.design.Design.{Design}
+use Rattle.sv_core.specs.declared.design.Design as Core
+use Rattle.sv_types.specs.declared.design.Design.{Design}
+use Rattle.core_forms.specs.Typed.{typed}
 use Rattle.sv2v_top.specs.source.Names.{first_undeclared, signal_names}
 use Rattle.sv2v_top.specs.source.Lookup.{Numbers}
 use Rattle.sv2v_top.specs.declared.name_table.Names.{Names}
@@ -64,13 +66,13 @@ refusal_by (Some (Some m)) top = refusal_of m top
 abbrev pub tree_refusal : SourceTree → List ℕ → Option Refusal
 tree_refusal tree top = option_or (names_refusal tree) (refusal_by (built tree) top)
 
--- a tree that is refused nothing has a module, which elaborates to this design
+-- A tree that is refused nothing has a module, which elaborates to this design: its forms by their names, with their types.
 pub record Elaborated (tree : SourceTree) (top : List ℕ) (d : Design) : Type 0 where
   pub names : names_refusal tree ≡ None
   pub source : Module
   pub builds : built tree ≡ Some (Some source)
   pub unbroken : refusal_of source top ≡ None
-  pub is : d ≡ design_of source
+  pub is : d ≡ typed (design_of source)
 
 -- no rule on names is broken, or the first break
 abbrev pub NamesGive : SourceTree → Result (Unit {0}) Fail → Type 0
@@ -85,7 +87,13 @@ TreeGives tree top (Err Memory) = Unit {0}
 TreeGives tree top (Err (Refused r)) = tree_refusal tree top ≡ Some r
 
 -- the same of a module
-abbrev pub ElaborationGives : Module → List ℕ → Result Design Fail → Type 0
+abbrev pub ModuleGives : Module → List ℕ → Result Design Fail → Type 0
+ModuleGives m top (Ok d) = (refusal_of m top ≡ None) × (d ≡ typed (design_of m))
+ModuleGives m top (Err Memory) = Unit {0}
+ModuleGives m top (Err (Refused r)) = refusal_of m top ≡ Some r
+
+-- and of its forms by their names, without types
+abbrev pub ElaborationGives : Module → List ℕ → Result Core.Design Fail → Type 0
 ElaborationGives m top (Ok d) = (refusal_of m top ≡ None) × (d ≡ design_of m)
 ElaborationGives m top (Err Memory) = Unit {0}
 ElaborationGives m top (Err (Refused r)) = refusal_of m top ≡ Some r

@@ -1,4 +1,4 @@
-use Rattle.std.proofs.Common.{◌≡◌, arith, refl}
+use Rattle.std.proofs.Common.{arith, refl}
 use Rattle.path_flatten.proofs.Helping.{found-at, yes-by}
 use Rattle.path_flatten.proofs.helpers.is_among.Goals as goal
 

@@ -1,4 +1,4 @@
-use Rattle.std.proofs.Common.{◌≡◌, [], ◌∷◌, ◌++◌, sym, ap, ◌∙◌, subst}
+use Rattle.std.proofs.Common.{◌≡◌, [], ◌∷◌, ◌++◌, sym, subst}
 use Rattle.row_machine.specs.Valuation.{Member}
 use Rattle.path_flatten.specs.Helping.{IsSized, Grows}
 use Rattle.path_flatten.proofs.Helping.{yes-by, no-by, grows-next, there-next}

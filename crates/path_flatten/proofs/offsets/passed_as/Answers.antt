@@ -1,7 +1,6 @@
 use Rattle.std.proofs.Common.{refl, sym, subst}
 use Rattle.v_meaning.specs.Values.{meaning}
 use Rattle.path_flatten.specs.declared.offsets.Argument.{Argument}
-use Rattle.path_flatten.specs.Distances.{IsNarrow}
 use Rattle.path_flatten.specs.Sliding.{IsArgument}
 use Rattle.path_flatten.proofs.Beginning.{sum-argument}
 use Rattle.path_flatten.proofs.NamingSlides.{index-offset, sum-offset}

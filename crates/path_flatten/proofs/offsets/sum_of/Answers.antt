@@ -9,7 +9,6 @@ use Rattle.v_meaning.specs.Values as T
 use Rattle.v_meaning.specs.Values.{meaning}
 use Rattle.lowering_laws.specs.Signed.{FitsSigned}
 use Rattle.lowering_laws.specs.Terms as terms
-use Rattle.path_flatten.specs.declared.offsets.Offset.{Offset}
 use Rattle.path_flatten.specs.declared.offsets.Offset.TheVariants as O
 use Rattle.path_flatten.specs.Distances.{distance_term}
 use Rattle.path_flatten.proofs.Beginning.{sum-offset}

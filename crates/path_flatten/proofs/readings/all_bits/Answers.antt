@@ -1,8 +1,7 @@
-use Rattle.std.proofs.Common.{◌≡◌, ◌-◌, pos, arith, refl}
-use Rattle.std.proofs.lemmas.Int.{ints}
+use Rattle.std.proofs.Common.{arith}
 use Rattle.v_meaning.specs.Values.{meaning}
 use Rattle.path_flatten.proofs.Losing.{reads-none}
-use Rattle.path_flatten.proofs.Selecting.{reads-exactly, reads-partly}
+use Rattle.path_flatten.proofs.Selecting.{reads-partly}
 use Rattle.path_flatten.proofs.readings.all_bits.Goals as goal
 
 pub returns-then-high-low-clause-reads : goal.returns-then-high-low-clause-reads

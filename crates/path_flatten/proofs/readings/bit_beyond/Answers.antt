@@ -1,8 +1,8 @@
-use Rattle.std.proofs.Common.{◌≡◌, None, ap, ◌∙◌, [], ◌∷◌}
+use Rattle.std.proofs.Common.{None, ap, ◌∙◌, [], ◌∷◌}
 use Rattle.v_meaning.specs.Values as T
 use Rattle.v_meaning.specs.Values.{meaning}
 use Rattle.path_flatten.specs.declared.readings.Root.TheVariants as R
-use Rattle.path_flatten.proofs.Naming.{name-bare, name-decimal, root-like, like-by, like-lost, lost-of}
+use Rattle.path_flatten.proofs.Naming.{name-bare, name-decimal, root-like, lost-of}
 use Rattle.path_flatten.proofs.Losing.{name-beyond, lost-beyond}
 use Rattle.path_flatten.proofs.readings.bit_beyond.Goals as goal
 

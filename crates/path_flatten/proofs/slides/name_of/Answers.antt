@@ -1,6 +1,3 @@
-use Rattle.std.proofs.Common.{◌≡◌, sym, ap}
-use Rattle.path_flatten.specs.declared.readings.Root.{Root}
-use Rattle.path_flatten.specs.declared.readings.Reading.{Reading}
 use Rattle.path_flatten.specs.Sliding.{IsEntire}
 use Rattle.path_flatten.proofs.slides.name_of.Goals as goal
 

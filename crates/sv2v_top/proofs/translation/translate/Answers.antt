@@ -20,8 +20,8 @@ returns-in_err-design c =
     subst (TranslationGives c.args.top.now c.args.tokens) (sym (p.1 ∙ ap Err same))
     (refused-breaks c.args.top.now c.args.tokens c.in_ok-tree.tree c.in_err-design.field-0.0 c.in_ok-tree.ensures c.in_err-design.ensures)
 
-pub lower-requires : goal.lower-requires
-lower-requires c =
+pub lower_elaborated-requires : goal.lower_elaborated-requires
+lower_elaborated-requires c =
     correct c.args.top.now c.args.tokens c.in_ok-tree.tree c.in_ok-tree.ensures c.in_ok-design.design c.in_ok-design.ensures c.requires.names
 
 pub returns : goal.returns

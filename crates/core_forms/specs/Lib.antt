@@ -1,0 +1,4 @@
+pub mod Forms
+pub mod Typing
+pub mod Laws
+pub mod Typed

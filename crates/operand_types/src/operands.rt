@@ -1,0 +1,185 @@
+//! Operands, and what operators ask of them.
+
+ghost use Rattle.std.specs.Prelude.{◌≡◌, ◌≤◌, ◌++◌, ◌∷◌, [], max, ◌&&◌, IfOk};
+ghost use Rattle.expr_type.specs.Answers.{Gives, source};
+ghost use Rattle.expr_type.specs.Typings.{at_all};
+ghost use Rattle.expr_type.specs.Operands as rule;
+ghost use Rattle.expr_type.specs.Operators as operator;
+ghost use Rattle.expr_type.specs.Shapes as shape;
+ghost use Rattle.expr_type.specs.Shapes.{sign_of, vector};
+ghost use Rattle.expr_type.specs.declared.operand.Valued.{Valued};
+ghost use Rattle.std.specs.List.{list_any};
+ghost use Rattle.operand_types.specs.Allowed.{Allows, IsNarrow};
+ghost use Rattle.sv_types.specs.Layouts.{width_of};
+
+use eval_parts::is_signed;
+use expr_type::{Halt, Source, Valued};
+use std::alloc::{AllocError, Global};
+use sv_source::{Boxed, Items};
+use sv_types::{Expr, SvType, width};
+use type_kinds::{is_unpacked, vector};
+
+/// The most bits on which operators do arithmetic and compare by order.
+pub const MOST_ARITHMETIC: u32 = 128;
+
+/// The width of an operand.
+pub fn width_of_operand(v: &Valued) -> u32
+    requires { IsNarrow v.now }
+    ensures value { result ≡ rule.width v.now }
+    ensures narrow { result ≤ 65536 }
+{
+    width(&v.expr.of)
+}
+
+/// The larger width of two operands.
+pub fn both_wide(l: &Valued, r: &Valued) -> u32
+    requires left { IsNarrow l.now }
+    requires right { IsNarrow r.now }
+    ensures value { result ≡ operator.both_wide l.now r.now }
+    ensures narrow { result ≤ 65536 }
+{
+    width_of_operand(l).max(width_of_operand(r))
+}
+
+/// The type that operators give to two operands: the larger width, signed if both are.
+pub fn both_type(alloc: Global, l: &Valued, r: &Valued) -> Result<SvType, AllocError>
+    requires left { IsNarrow l.now }
+    requires right { IsNarrow r.now }
+    ensures value { IfOk result (λ t. t ≡ operator.both_type l.now r.now) }
+    ensures narrow { IfOk result (λ t. width_of t ≤ 65536) }
+{
+    let signed = is_signed(&l.expr.of) && is_signed(&r.expr.of);
+    vector(alloc, both_wide(l, r), signed)
+}
+
+/// The vector of an expression's width and sign.
+pub fn same_type(alloc: Global, e: &Expr) -> Result<SvType, AllocError>
+    requires { width_of e.now.of ≤ 65536 }
+    ensures value { IfOk result (λ t. t ≡ vector (width_of e.now.of) (sign_of e.now.of)) }
+    ensures narrow { IfOk result (λ t. width_of t ≤ 65536) }
+{
+    vector(alloc, width(&e.of), is_signed(&e.of))
+}
+
+/// An operand of which the bits are wanted: it isn't unpacked (E508).
+pub fn has_bits(text: Source<'_>, v: Valued) -> Result<Valued, Halt>
+    ensures { Gives result (rule.has_bits (source text.entry) v) }
+{
+    if is_unpacked(&v.expr.of) {
+        return Err(Halt::Breaks {
+            at: v.first,
+            rule: 508,
+        });
+    }
+    Ok(v)
+}
+
+/// Whether one of two operands is unpacked.
+pub fn is_unpacked_pair(l: &Valued, r: &Valued) -> bool
+    ensures { result ≡ list_any (λ (v : Valued). shape.is_unpacked v.expr.of) (l.now ∷ r.now ∷ []) }
+{
+    is_unpacked(&l.expr.of) || is_unpacked(&r.expr.of)
+}
+
+/// That no operator in an operand is too wide in a context of a width (E502).
+#[tactic(auto, using(crate::proofs::Allowing::allowing))]
+pub fn allowed_in(text: Source<'_>, width: u32, operators: &Items<u32>) -> Result<(), Halt>
+    ensures { Allows result (at_all (source text.entry).instance 502 (rule.too_wide width operators.now)) }
+{
+    if width <= MOST_ARITHMETIC {
+        return Ok(());
+    }
+    match sv_source::at(operators.as_slice(), 0) {
+        None => Ok(()),
+        Some(at) => Err(Halt::Breaks { at: *at, rule: 502 }),
+    }
+}
+
+/// Two operands as parts of an expression, and the operators in both.
+#[derive(Drop)]
+pub struct Pair {
+    /// The left operand.
+    pub left: Boxed<Expr>,
+    /// The right operand.
+    pub right: Boxed<Expr>,
+    /// The operators that do arithmetic at the width of the context.
+    pub arithmetic: Items<u32>,
+}
+
+// Operators in the order of the text.
+fn appended(left: Items<u32>, right: Items<u32>) -> Result<Items<u32>, AllocError>
+    ensures { IfOk result (λ all. all ≡ left ++ right) }
+{
+    let mut all = left;
+    all.append(right)?;
+    Ok(all)
+}
+
+// Operators with one between them.
+fn around(left: Items<u32>, at: u32, right: Items<u32>) -> Result<Items<u32>, AllocError>
+    ensures { IfOk result (λ all. all ≡ left ++ at ∷ right) }
+{
+    let mut all = left;
+    all.push(at)?;
+    all.append(right)?;
+    Ok(all)
+}
+
+// Two expressions and the operators in them.
+fn pair_of(
+    alloc: Global,
+    left: Expr,
+    right: Expr,
+    arithmetic: Result<Items<u32>, AllocError>,
+) -> Result<Pair, AllocError>
+    ensures left { IfOk result (λ p. p.left ≡ left) }
+    ensures right { IfOk result (λ p. p.right ≡ right) }
+    ensures operators { IfOk result (λ p. arithmetic ≡ Ok p.arithmetic) }
+{
+    let left = Boxed::new(alloc, left);
+    let (left, right) = pairs::both(left, Boxed::new(alloc, right))?;
+    Ok(Pair {
+        left,
+        right,
+        arithmetic: arithmetic?,
+    })
+}
+
+/// Two operands of an operator that isn't arithmetic.
+pub fn beside(alloc: Global, l: Valued, r: Valued) -> Result<Pair, AllocError>
+    ensures left { IfOk result (λ p. p.left ≡ l.expr) }
+    ensures right { IfOk result (λ p. p.right ≡ r.expr) }
+    ensures operators { IfOk result (λ p. p.arithmetic ≡ l.arithmetic ++ r.arithmetic) }
+{
+    let arithmetic = appended(l.arithmetic, r.arithmetic);
+    pair_of(alloc, l.expr, r.expr, arithmetic)
+}
+
+/// Two operands of an operator that does arithmetic.
+pub fn around_operator(alloc: Global, l: Valued, at: u32, r: Valued) -> Result<Pair, AllocError>
+    ensures left { IfOk result (λ p. p.left ≡ l.expr) }
+    ensures right { IfOk result (λ p. p.right ≡ r.expr) }
+    ensures operators { IfOk result (λ p. p.arithmetic ≡ l.arithmetic ++ at ∷ r.arithmetic) }
+{
+    let arithmetic = around(l.arithmetic, at, r.arithmetic);
+    pair_of(alloc, l.expr, r.expr, arithmetic)
+}
+
+/// Two operands of which the right one is valued alone.
+pub fn shifted(alloc: Global, l: Valued, r: Valued) -> Result<Pair, AllocError>
+    ensures left { IfOk result (λ p. p.left ≡ l.expr) }
+    ensures right { IfOk result (λ p. p.right ≡ r.expr) }
+    ensures operators { IfOk result (λ p. p.arithmetic ≡ l.arithmetic) }
+{
+    pair_of(alloc, l.expr, r.expr, Ok(l.arithmetic))
+}
+
+/// Two operands of an operator that does arithmetic, of which the right one is valued alone.
+pub fn raised(alloc: Global, l: Valued, at: u32, r: Valued) -> Result<Pair, AllocError>
+    ensures left { IfOk result (λ p. p.left ≡ l.expr) }
+    ensures right { IfOk result (λ p. p.right ≡ r.expr) }
+    ensures operators { IfOk result (λ p. p.arithmetic ≡ l.arithmetic ++ at ∷ []) }
+{
+    let arithmetic = around(l.arithmetic, at, Items::new(alloc));
+    pair_of(alloc, l.expr, r.expr, arithmetic)
+}
