@@ -9,3 +9,5 @@ pub mod Losing
 pub mod Beginning
 pub mod Sliding
 pub mod NamingSlides
+pub mod Storing
+pub mod Runs

@@ -7,3 +7,4 @@ pub mod Stepping
 pub mod Naming
 pub mod Distances
 pub mod Sliding
+pub mod Storing
