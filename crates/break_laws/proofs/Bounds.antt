@@ -14,11 +14,11 @@ use Rattle.sv_types.specs.Statements as S
 use Rattle.sv_types.specs.Statements.{Doing, Item, doing, in_loop, roots_by_way, actual_roots}
 use Rattle.sv_types.proofs.DoingLevels as D
 use Rattle.sv_types.proofs.DoingLevels.{item_of}
-use Rattle.design_breaks.specs.Mentions.{Mentions, mentions, all_mentions}
+use Rattle.design_breaks.specs.Unrolling.{starts_of}
 use Rattle.design_breaks.specs.Actions as A
 use Rattle.design_breaks.specs.Actions.{Actions, Passed, actions, is_out, passed_out, roots_of, is_counted, together}
 use Rattle.break_laws.specs.Laws.{formals_of, LoopsAreBounded}
-use Rattle.break_laws.proofs.Lists.{is_none, none-append, none-is, append-none}
+use Rattle.break_laws.proofs.Lists.{is_none, none-append, none-is}
 use Rattle.break_laws.proofs.ActionLevels as L
 use Rattle.break_laws.proofs.ActionLevels.{item_actions, control_of}
 use Rattle.flow_laws.proofs.Terms.{Each, OrNone, Steps, by-stmt}
@@ -62,12 +62,15 @@ all-bounded k (a ∷ as') (d ∷ ds) h =
     ∙ ap (λ b. d.bounded k && b) (all-bounded k as' ds h.1)
 
 -- statements that are made of others
-agree-together : (m : Mentions) (as' : List Actions) (ds : List Doing) (d : Doing) → AllAgree as' ds → ((fs : ℕ → List Parameter) → flat_map (λ (e : Doing). e.targets fs) ds ≡ d.targets fs)
-    → ((k : Sight) → list_all (λ (e : Doing). e.bounded k) ds ≡ d.bounded k) → Agree (together m as') d
-agree-together m as' ds d h targets bounded = record {
+agree-together : (es : List Expr) (as' : List Actions) (ds : List Doing) (d : Doing) → AllAgree as' ds → ((fs : ℕ → List Parameter) → flat_map (λ (e : Doing). e.targets fs) ds ≡ d.targets fs)
+    → ((k : Sight) → list_all (λ (e : Doing). e.bounded k) ds ≡ d.bounded k) → Agree (together es as') d
+agree-together es as' ds d h targets bounded = record {
   targets = λ fs. all-targets fs as' ds h ∙ targets fs;
   bounded = λ k. all-bounded k as' ds h ∙ bounded k;
 }
+
+count-agrees : (a : Actions) (d : Doing) → Agree a d → Agree (A.counted a) d
+count-agrees a d h = record { targets = h.targets; bounded = h.bounded }
 
 abbrev Claim : Stmt → Type 0
 Claim s = Agree (actions s) (doing s)
@@ -83,22 +86,18 @@ other-agrees : (other : Option Stmt) → OrNone Claim other → AllAgree (A.none
 other-agrees None h = tt
 other-agrees (Some s) h = (h, tt)
 
-item-agrees : (i : CaseItem) → ItemClaim i → Agree (item_actions i) (item_of i).does
+item-agrees : (i : CaseItem) → ItemClaim i → Agree (item_actions i).body (item_of i).does
 item-agrees i h =
-    subst (λ (a : Actions). Agree a (item_of i).does) (sym (L.actions-of-item i))
-    (subst (λ (x : Item). Agree (together (all_mentions i.values) (actions i.body ∷ [])) x.does) (sym (D.item-of i)) (record {
-      targets = λ fs. append-none ((actions i.body).targets fs) ∙ h.targets fs;
-      bounded = λ k. ap is_none (append-none ((actions i.body).unbounded (formals_of k) k)) ∙ h.bounded k;
-    }))
+    subst (λ (a : A.Item). Agree a.body (item_of i).does) (sym (L.actions-of-item i)) (subst (λ (x : Item). Agree (actions i.body) x.does) (sym (D.item-of i)) h)
 
-items-agree : (is : List CaseItem) → Each ItemClaim is → AllAgree (map item_actions is) (map (λ (i : Item). i.does) (map item_of is))
+items-agree : (is : List CaseItem) → Each ItemClaim is → AllAgree (A.item_bodies (map item_actions is)) (map (λ (i : Item). i.does) (map item_of is))
 items-agree [] h = tt
 items-agree (i ∷ is) h = (item-agrees i h.0, items-agree is h.1)
 
 -- a loop
-loop-agrees : (n : ℕ) (first test step : Expr) (body : Stmt) (spot : _) (m : Mentions) → Claim body
-    → Agree (A.looping (control_of n first test step spot) m (actions body)) (S.looping n (meaning first) (meaning test) (meaning step) (doing body))
-loop-agrees n first test step body spot m h = record {
+loop-agrees : (n : ℕ) (first test step : Expr) (body : Stmt) (spot : _) → Claim body
+    → Agree (A.looping (control_of n first test step spot) (actions body)) (S.looping n (meaning first) (meaning test) (meaning step) (doing body))
+loop-agrees n first test step body spot h = record {
   targets = λ fs. ap (λ ns. local_number n ∷ ns) (h.targets fs);
   bounded = λ k.
       let j = in_loop n (meaning first) k in
@@ -138,13 +137,14 @@ passed-same (p ∷ ps) (e ∷ es) = by p.way ∙ ap (λ ns. roots_by_way p.way (
     by Y.Inout = refl
 
 made-agrees : (ls : List Local) (ss : List Stmt) (body : Option Stmt) → Each Claim ss → OrNone Claim body
-    → Agree (together (A.locals_mentions ls) (map actions ss ++ A.none_or (L.perhaps body))) (S.made ls (map doing ss) (D.perhaps body))
+    → Agree (A.made ls (map actions ss) (L.perhaps body)) (S.made ls (map doing ss) (D.perhaps body))
 made-agrees ls ss None h g =
-    let all = subst (λ as'. AllAgree as' (map doing ss)) (sym (append-none (map actions ss))) (stmts-agree ss h) in
-    agree-together (A.locals_mentions ls) (map actions ss ++ []) (map doing ss) (S.made ls (map doing ss) None) all (λ fs. refl) (λ k. refl)
+    let all = agree-together (starts_of ls) (map actions ss) (map doing ss) (S.made ls (map doing ss) None) (stmts-agree ss h) (λ fs. refl) (λ k. refl) in
+    record { targets = all.targets; bounded = all.bounded }
 made-agrees ls ss (Some s) h g =
-    agree-together (A.locals_mentions ls) (map actions ss ++ actions s ∷ []) (map doing ss ++ doing s ∷ []) (S.made ls (map doing ss) (Some (doing s)))
-    (agree-append (map actions ss) (actions s ∷ []) (map doing ss) (doing s ∷ []) (stmts-agree ss h) (g, tt)) (λ fs. refl) (λ k. refl)
+    let all = agree-together (starts_of ls) (map actions ss ++ actions s ∷ []) (map doing ss ++ doing s ∷ []) (S.made ls (map doing ss) (Some (doing s)))
+    (agree-append (map actions ss) (actions s ∷ []) (map doing ss) (doing s ∷ []) (stmts-agree ss h) (g, tt)) (λ fs. refl) (λ k. refl) in
+    record { targets = all.targets; bounded = all.bounded }
 
 both : (a a' : Actions) (d d' : Doing) → a ≡ a' → d ≡ d' → Agree a' d' → Agree a d
 both a a' d d' h g is = subst (λ x. Agree x d) (sym h) (subst (λ y. Agree a' y) (sym g) is)
@@ -153,13 +153,13 @@ claims : Steps Claim ItemClaim
 claims = record {
   item = λ i h. h;
   block = λ ls ss h. both _ _ _ _ (L.actions-Block ls ss) (D.doing-Block ls ss)
-      (agree-together (A.locals_mentions ls) (map actions ss) (map doing ss) (S.counted (S.scope ls (map doing ss))) (stmts-agree ss h) (λ fs. refl) (λ k. refl));
+      (count-agrees _ _ (agree-together (starts_of ls) (map actions ss) (map doing ss) (S.counted (S.scope ls (map doing ss))) (stmts-agree ss h) (λ fs. refl) (λ k. refl)));
   branch = λ on body other h g. both _ _ _ _ (L.actions-If on body other) (D.doing-If on body other)
-      (agree-together (mentions on) (actions body ∷ A.none_or (L.perhaps other)) (doing body ∷ S.none_or (D.perhaps other)) (S.counted (S.branching (meaning on) (doing body) (D.perhaps other))) (h, other-agrees other g) (λ fs. refl) (λ k. refl));
+      (count-agrees _ _ (agree-together (on ∷ []) (actions body ∷ A.none_or (L.perhaps other)) (doing body ∷ S.none_or (D.perhaps other)) (S.counted (S.branching (meaning on) (doing body) (D.perhaps other))) (h, other-agrees other g) (λ fs. refl) (λ k. refl)));
   select = λ kind on is other h g. both _ _ _ _ (L.actions-Case kind on is other) (D.doing-Case kind on is other)
-      (agree-together (mentions on) (map item_actions is ++ A.none_or (L.perhaps other)) (map (λ (i : Item). i.does) (map item_of is) ++ S.none_or (D.perhaps other)) (S.counted (S.selecting kind (meaning on) (map item_of is) (D.perhaps other)))
-      (agree-append (map item_actions is) (A.none_or (L.perhaps other)) (map (λ (i : Item). i.does) (map item_of is)) (S.none_or (D.perhaps other)) (items-agree is h) (other-agrees other g)) (λ fs. refl) (λ k. refl));
-  loop = λ n first test step body spot h. both _ _ _ _ (L.actions-Loop n first test step body spot) (D.doing-Loop n first test step body spot) (loop-agrees n first test step body spot (all_mentions (first ∷ test ∷ step ∷ [])) h);
+      (count-agrees _ _ (agree-together (on ∷ A.item_values (map item_actions is)) (A.item_bodies (map item_actions is) ++ A.none_or (L.perhaps other)) (map (λ (i : Item). i.does) (map item_of is) ++ S.none_or (D.perhaps other)) (S.counted (S.selecting kind (meaning on) (map item_of is) (D.perhaps other)))
+      (agree-append (A.item_bodies (map item_actions is)) (A.none_or (L.perhaps other)) (map (λ (i : Item). i.does) (map item_of is)) (S.none_or (D.perhaps other)) (items-agree is h) (other-agrees other g)) (λ fs. refl) (λ k. refl)));
+  loop = λ n first test step body spot h. both _ _ _ _ (L.actions-Loop n first test step body spot) (D.doing-Loop n first test step body spot) (loop-agrees n first test step body spot h);
   assign = λ to value later spot. both _ _ _ _ (L.actions-Assign to value later spot) (D.doing-Assign to value later spot) (record { targets = λ fs. roots-same to; bounded = λ k. refl });
   call = λ f es spot. both _ _ _ _ (L.actions-Call f es spot) (D.doing-Call f es spot) (record { targets = λ fs. passed-same (fs f) es; bounded = λ k. refl });
   made = λ ls ss body h g. both _ _ _ _ (L.actions-Made ls ss body) (D.doing-Made ls ss body) (made-agrees ls ss body h g);

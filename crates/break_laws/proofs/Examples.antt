@@ -1,8 +1,10 @@
 -- A small design that breaks no rule, and a loop that does: what the laws ask for can be met.
-use Rattle.std.proofs.Common.{◌≡◌, ℕ, ◌==◌, inl, inr, length, true, false, List, [], ◌∷◌, ◌++◌, map, Some, refl, ap, sym, ◌∙◌, subst, rules, arith}
+use Rattle.std.proofs.Common.{◌≡◌, ℕ, ◌==◌, ◌&&◌, ◌||◌, not, inl, inr, length, Bool, true, false, List, [], ◌∷◌, ◌++◌, map, filter, flat_map, Some, refl, ap, sym, ◌∙◌, subst, rules, arith}
 use Rattle.std.specs.Prelude.{slice_get, nat_lt}
+use Rattle.std.specs.List.{list_any}
 use Rattle.std.proofs.lemmas.Bool.{and_right, and_from, false≢true}
-use Rattle.row_machine.specs.Valuation.{Valuation, Member, has}
+use Rattle.row_machine.specs.Valuation.{Place, Valuation, Member, has}
+use Rattle.row_machine.specs.Places.{places_of}
 use Rattle.row_machine.specs.Machine as X
 use Rattle.row_machine.specs.Order.{follows, Free, Sound}
 use Rattle.row_machine.specs.Stuck.{Stuck}
@@ -22,21 +24,29 @@ use Rattle.sv_types.specs.declared.statement.Stmt as SL
 use Rattle.sv_types.specs.declared.statement.Stmt.TheVariants as S
 use Rattle.sv_types.specs.declared.design.Design.{Design}
 use Rattle.sv_types.specs.declared.design.Process.{Process}
+use Rattle.sv_types.specs.declared.design.Signal.{Signal}
 use Rattle.sv_types.specs.declared.design.ProcessKind.TheVariants as K
 use Rattle.sv_types.specs.declared.design.SignalKind.TheVariants as N
 use Rattle.sv_types.specs.Layouts.{Layout, layout, width_of, type_step}
 use Rattle.sv_types.specs.Expressions.{meaning}
 use Rattle.sv_types.specs.Paths as P
-use Rattle.sv_types.specs.Surroundings.{Sight}
-use Rattle.sv_types.specs.Machine.{parts, unseen, comb, comb_of, machine}
+use Rattle.sv_types.specs.Surroundings.{Sight, Use, is_signal}
+use Rattle.sv_types.specs.Flows.{covers, uses_of}
+use Rattle.sv_types.specs.declared.statement.Outcome.TheVariants.{Normal}
+use Rattle.sv_types.specs.Machine.{parts, places, unseen, comb, comb_of, machine}
 use Rattle.sv_types.specs.Statements as D
 use Rattle.sv_types.specs.Statements.{Doing, doing}
 use Rattle.sv_types.proofs.DoingLevels as L
 use Rattle.design_breaks.specs.Actions as A
 use Rattle.design_breaks.specs.Actions.{Actions, actions}
 use Rattle.design_breaks.specs.Mentions as M
-use Rattle.design_breaks.specs.Memories.{is_unpacked_array}
-use Rattle.design_breaks.specs.Breaks.{breaks, least_of, most_statements}
+use Rattle.design_breaks.specs.Memories.{is_unpacked_array, is_memory}
+use Rattle.design_breaks.specs.Indices as I
+use Rattle.design_breaks.specs.Unrolling as U
+use Rattle.design_breaks.specs.declared.Break.{Break}
+use Rattle.design_breaks.specs.declared.Unrolled.TheVariants.{Whole}
+use Rattle.design_breaks.specs.Breaks as B
+use Rattle.design_breaks.specs.Breaks.{breaks, least_of}
 use Rattle.design_breaks.specs.Circles.{IsStuck}
 use Rattle.flow_laws.specs.Runs.{Variables}
 use Rattle.flow_laws.specs.Statements.{has_variables, has_width}
@@ -87,16 +97,23 @@ module _ (here : Spot) (initial : Value) where
   body-does = L.doing-Assign (named 1 ∷ []) (named 0) false here ∙ (λ i. D.counted (D.assigning (names 1 i ∷ []) (names 0 i) false))
 
   abbrev says : Actions
-  says = record (A.saying (M.both (M.all (M.signal 1 ∷ [])) (M.signal 0))) {
+  says = record (A.saying []) {
     assigns = record { at = here.at; later = false; to = (P.signal bit_layout here.at 1).roots ++ [] } ∷ [];
+    said = M.all (M.signal 1 ∷ M.signal 0 ∷ []);
     targets = λ fs. (P.signal bit_layout here.at 1).roots ++ [];
+    unrolls = λ fs k u. U.counted (λ j v. v) k u;
   }
+
+  long-named : (n : ℕ) → (I.said (named n)).long ≡ I.none
+  long-named n = search (rules, FL.the_lemmas)
 
   body-says : actions body ≡ says
   body-says = AL.actions-Assign (named 1 ∷ []) (named 0) false here
-      ∙ (λ i. record (A.saying (M.both (M.all (mentions-named 1 i ∷ [])) (mentions-named 0 i))) {
+      ∙ (λ i. record (A.saying []) {
         assigns = record { at = here.at; later = false; to = (names 1 i).roots ++ [] } ∷ [];
+        said = M.all (mentions-named 1 i ∷ mentions-named 0 i ∷ []);
         targets = λ fs. (names 1 i).roots ++ [];
+        unrolls = λ fs. U.counted (λ k u. U.stopped_at (I.all (long-named 1 i ∷ long-named 0 i ∷ []) k) u);
       })
 
   abbrev design : Design
@@ -109,12 +126,86 @@ module _ (here : Spot) (initial : Value) where
   }
 
   -- which breaks no rule
-  few : nat_lt most_statements ((doing body).flow (unseen (parts design))).statements ≡ false
-  few = rw (body-does) refl
+  abbrev assignment : Process
+  assignment = record { instance = 1; kind = K.Continuous; body = body; spot = here }
+
+  abbrev before : Sight
+  before = unseen (parts design)
+
+  abbrev whole : Actions → Bool
+  whole a = B.is_none (a.unbounded (B.formals design) before) && B.is_whole (a.unrolls (B.formals design) before (Whole U.most_statements))
+
+  abbrev uses : Doing → List Use
+  uses w = uses_of (w.flow before).writes
+
+  abbrev own : Actions → Doing → List Use
+  own a w = B.only_if (whole a) (filter (λ (u : Use). is_signal u.number) (uses w))
+
+  abbrev bits : List Place
+  bits = record { signal = 0; bit = 0 } ∷ record { signal = 1; bit = 0 } ∷ []
+
+  bits-are : places (parts design) ≡ bits
+  bits-are = λ i. places_of 0 (length (layout-bit i).two_state) ++ (places_of 1 (length (layout-bit i).two_state) ++ [])
+
+  none-twice : B.written_twice design 0 assignment ≡ []
+  unfolding P.signal
+  none-twice = λ i. map (λ (u : Use). u.at) (filter (λ u. list_any (B.is_second design assignment u) (B.other_than design 0 0 design.processes)) (own (body-says i) (body-does i)))
+
+  none-driven : B.drives_a_value design assignment ≡ []
+  unfolding P.signal
+  none-driven = λ i. map (λ (u : Use). u.at) (filter (λ (u : Use). B.is_declared design u.number && nat_lt u.low u.high) (own (body-says i) (body-does i)))
+
+  none-left : B.left_out design assignment ≡ []
+  unfolding P.signal
+  none-left = λ i. B.only_if (whole (body-says i) && true) (flat_map (λ q. B.only_if (((body-does i).flow before).slips Normal q) (B.first_write design ((body-does i).flow before) q)) (bits-are i))
+
+  none-early : B.read_early design assignment ≡ []
+  unfolding P.signal
+  none-early = λ i. B.only_if (whole (body-says i) && true) (flat_map (λ q. B.only_if (list_any (λ u. covers u q) (uses (body-does i))) (((body-does i).flow before).early q)) (bits-are i))
+
+  none-unset : B.local_early design assignment ≡ []
+  unfolding P.signal
+  none-unset = λ i. B.only_if (whole (body-says i)) ((body-does i).flow before).unset
+
+  none-deferred : B.deferred design false body ≡ []
+  none-deferred = λ i. map (λ (x : A.Assignment). x.at) (filter (λ (x : A.Assignment). x.later && (true || B.names_local design x.to)) (body-says i).assigns)
+
+  none-endless : B.endless_of design body ≡ []
+  none-endless = λ i. (body-says i).unbounded (B.formals design) before ++ B.endless_at ((body-says i).unrolls (B.formals design) before (Whole U.most_statements))
+
+  none-input : B.writes_input design assignment ≡ []
+  unfolding P.signal
+  none-input = λ i. B.only_if (whole (body-says i)) (map (λ (u : Use). u.at)
+      (filter (λ (u : Use). B.is_any_input design u.number && (nat_lt u.low u.high && not (B.is_own_link design K.Continuous u.number))) (uses (body-does i) ++ uses_of ((body-does i).flow before).later)))
+
+  none-long : B.too_long design body here.at ≡ []
+  none-long = λ i. B.only_if (B.is_none ((body-says i).unbounded (B.formals design) before) && B.is_too_many ((body-says i).unrolls (B.formals design) before (Whole U.most_statements))) (here.at ∷ [])
+
+  none-wide : (n : ℕ) (s : Signal) → s.of ≡ bit → B.too_wide design (n, s) ≡ []
+  none-wide n s is = by (is_unpacked_array s.of) (ap is_unpacked_array is ∙ packed)
+    where
+      by : (b : Bool) → b ≡ false
+          → B.only_if {A = Break} (b && (nat_lt (B.most_bits design) (width_of s.of) && (B.is_settled design n && not (is_memory design n s)))) (record { instance = s.instance; at = s.spot.at; rule = 701 } ∷ []) ≡ []
+      by b h = ap (λ c. B.only_if {A = Break} (c && (nat_lt (B.most_bits design) (width_of s.of) && (B.is_settled design n && not (is_memory design n s)))) (record { instance = s.instance; at = s.spot.at; rule = 701 } ∷ [])) h
+
+  abbrev input_net : Signal
+  input_net = record { instance = 1; path = []; of = bit; kind = N.InputNet; initial = initial; declared = false; spot = here }
+
+  abbrev output_net : Signal
+  output_net = record { instance = 1; path = []; of = bit; kind = N.OutputNet; initial = initial; declared = false; spot = here }
 
   none-broken : breaks design ≡ []
-  unfolding P.signal
-  none-broken = rw (body-says, layout-bit, packed) (rw (body-does, ◌++◌) (rw (body-does, ◌++◌) (rw (body-does, ◌++◌) (rw (few, map) refl))))
+  none-broken = λ i.
+      ((B.at_each 1 601 (none-twice i ++ none-driven i)
+      ++ (B.at_each 1 603 (none-left i)
+      ++ (B.at_each 1 604 (none-early i ++ none-unset i)
+      ++ (B.at_each 1 605 []
+      ++ (B.at_each 1 606 (none-deferred i)
+      ++ (B.at_each 1 607 []
+      ++ (B.at_each 1 608 (none-endless i)
+      ++ (B.at_each 1 611 (none-input i)
+      ++ B.at_each 1 703 (none-long i))))))))) ++ [])
+      ++ ([] ++ (none-wide 0 input_net refl i ++ (none-wide 1 output_net refl i ++ [])))
 
   abbrev widths : Widths
   widths n = width_at (slice_get design.signals n)

@@ -1,6 +1,7 @@
 -- Designs that break none of the rules.
-use Rattle.std.proofs.Common.{◌≡◌, inl, inr, ℕ, zero, suc, ◌+◌, Bool, true, false, cond, List, [], ◌∷◌, ◌++◌, flat_map, length, Option, Some, None, refl, ap, sym, ◌∙◌, subst, arith}
+use Rattle.std.proofs.Common.{◌≡◌, inl, inr, ℕ, zero, suc, ◌+◌, Bool, true, false, ◌&&◌, cond, List, [], ◌∷◌, ◌++◌, flat_map, length, Option, Some, None, refl, ap, sym, ◌∙◌, subst, arith}
 use Rattle.std.specs.Prelude.{slice_get}
+use Rattle.std.proofs.lemmas.Bool.{and_parts, and_from}
 use Rattle.row_machine.specs.Valuation.{Member}
 use Rattle.row_machine.specs.Machine as M
 use Rattle.row_machine.proofs.Laws as Laws
@@ -19,7 +20,10 @@ use Rattle.flow_laws.proofs.Machines.{has-one-trace}
 use Rattle.design_breaks.specs.Actions.{actions}
 use Rattle.design_breaks.specs.Memories.{is_edged}
 use Rattle.design_breaks.specs.Breaks as B
-use Rattle.design_breaks.specs.Breaks.{Break, breaks, least_of, is_less, formals, endless_of, written_twice, read_early, process_breaks, function_breaks, too_wide, numbered, at_each}
+use Rattle.design_breaks.specs.declared.Break.{Break}
+use Rattle.design_breaks.specs.declared.Unrolled.{Unrolled}
+use Rattle.design_breaks.specs.declared.Unrolled.TheVariants.{Whole, TooMany, Endless}
+use Rattle.design_breaks.specs.Breaks.{breaks, least_of, is_less, formals, unbounded_of, unrolled, unrolls, endless_of, endless_at, is_too_many, is_whole, too_long, only_if, written_twice, read_early, process_breaks, function_breaks, too_wide, numbered, at_each}
 use Rattle.break_laws.specs.Shapes.{ShapedProcess, only_those}
 use Rattle.break_laws.specs.Laws.{ProcessesAreFree, SomeBreakIsLeast, DesignsHaveOneTrace}
 use Rattle.break_laws.proofs.Lists.{none-parts, none-mapped, none-of, there, somewhere}
@@ -73,11 +77,31 @@ module _ (d : Design) where
       let at : k + suc n ≡ suc k + n = omega arith in
       inr (subst (λ m. Member (numbered d (suc k) xs) (m, x)) (sym at) (in-numbers (suc k) xs n x h))
 
+  -- a statement whose loops break no rule and that isn't too long can be unrolled
+  none-first : (ns : List ℕ) (u : Unrolled) → ns ++ endless_at u ≡ [] → (B.is_none ns ≡ true) × (endless_at u ≡ [])
+  none-first [] u h = (refl, h)
+  none-first (n ∷ ns) u h = cc
+
+  none-known : (ns : List ℕ) → B.is_none ns ≡ true → ns ≡ []
+  none-known [] h = refl
+  none-known (n ∷ ns) h = cc
+
+  ends : (u : Unrolled) (at : ℕ) → endless_at u ≡ [] → only_if (is_too_many u) (at ∷ []) ≡ [] → is_whole u ≡ true
+  ends (Whole n) at h g = refl
+  ends TooMany at h g = cc
+  ends (Endless t) at h g = cc
+
+  can-unroll : (s : Stmt) (at : ℕ) → endless_of d s ≡ [] → too_long d s at ≡ [] → unrolls d s ≡ true
+  can-unroll s at h g =
+      let first = none-first (unbounded_of d s) (unrolled d s) h in
+      let few = sym (ap (λ b. only_if (b && is_too_many (unrolled d s)) (at ∷ [])) first.0) ∙ g in
+      and_from (B.is_none (unbounded_of d s)) (is_whole (unrolled d s)) first.0 (ends (unrolled d s) at first.1 few)
+
   -- of a process that breaks no rule
   pub record Keeps (n : ℕ) (p : Process) : Type 0 where
     pub once : written_twice d n p ≡ []
     pub not_early : read_early d p ≡ []
-    pub endless : endless_of d p.body ≡ []
+    pub can : unrolls d p.body ≡ true
 
   none-at : (i rule : ℕ) (ts : List ℕ) (more : List Break) → at_each i rule ts ++ more ≡ [] → (ts ≡ []) × (more ≡ [])
   none-at i rule ts more h =
@@ -96,17 +120,18 @@ module _ (d : Design) where
       let r606 = none-at p.instance 606 (B.deferred d (is_edged p.kind) p.body) _ r605.1 in
       let r607 = none-at p.instance 607 (B.unfit_edges d p) _ r606.1 in
       let r608 = none-at p.instance 608 (endless_of d p.body) _ r607.1 in
+      let r611 = none-at p.instance 611 (B.writes_input d p) _ r608.1 in
       record {
         once = (none-parts (written_twice d n p) (B.drives_a_value d p) r601.0).0;
         not_early = (none-parts (read_early d p) (B.local_early d p) r604.0).0;
-        endless = r608.0;
+        can = can-unroll p.body p.spot.at r608.0 (none-mapped (λ at. record { instance = p.instance; at = at; rule = 703 }) (too_long d p.body p.spot.at) r611.1);
       }
 
-  bounded : (s : Stmt) → endless_of d s ≡ [] → (doing s).bounded (unseen (parts d)) ≡ true
+  bounded : (s : Stmt) → unrolls d s ≡ true → (doing s).bounded (unseen (parts d)) ≡ true
   bounded s h =
       let k = unseen (parts d) in
       let same : formals d ≡ (λ n. (k.around.callee n).formals) = λ i n. formals-within (length d.functions) d.functions n i in
-      (are-bounded s k).0 (sym (ap (λ fs. (actions s).unbounded fs k) same) ∙ (none-parts ((actions s).unbounded (formals d) k) ((actions s).overlong (formals d) k) h).0)
+      (are-bounded s k).0 (sym (ap (λ fs. (actions s).unbounded fs k) same) ∙ none-known (unbounded_of d s) (and_parts (B.is_none (unbounded_of d s)) (is_whole (unrolled d s)) h).0)
 
   edged-same : (kind : ProcessKind) → waits_for_edges kind ≡ false → is_edged kind ≡ false
   edged-same Continuous h = refl
@@ -120,15 +145,15 @@ module _ (d : Design) where
   ordered n p s k =
       let bits = keeps-to-bits d p s in
       record {
-        unrolls = record { variables = only_those s.is_variable s.widths; has = s.has; bounded = bounded p.body k.endless; within = bits.within };
+        unrolls = record { variables = only_those s.is_variable s.widths; has = s.has; bounded = bounded p.body k.can; within = bits.within };
         reads = bits.reads;
         writes = bits.writes;
         later = bits.later;
-        not_early = λ no_edges q signal written. not-early d p (edged-same p.kind no_edges) k.endless k.not_early q (bits.writes q signal written) written;
+        not_early = λ no_edges q signal written. not-early d p (edged-same p.kind no_edges) k.can k.not_early q (bits.writes q signal written) written;
       }
 
 pub has-trace : DesignsHaveOneTrace
 has-trace d s u =
     let none = some-least (breaks d) u.processes in
-    let one = one-writer d s.numbers (λ n p h. let k = keeps d none n p h in (k.endless, k.once)) in
+    let one = one-writer d s.numbers (λ n p h. let k = keeps d none n p h in (k.can, k.once)) in
     has-one-trace d (λ p m. let r = somewhere d.processes p m in ordered d r.0 p (s.processes p m) (keeps d none r.0 p r.1)) one.0 one.1 (are-free d u.order)

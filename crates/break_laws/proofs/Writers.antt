@@ -19,9 +19,8 @@ use Rattle.sv_types.specs.Statements.{doing}
 use Rattle.sv_types.specs.Machine as SM
 use Rattle.sv_types.specs.Machine.{parts, places, ProcessMeaning, process_meaning, comb_of, edge_of_kind, machine}
 use Rattle.design_breaks.specs.Memories.{is_edged, flow, writes_of}
-use Rattle.design_breaks.specs.Breaks.{endless_of, all_writes, meet, not_before, is_second, other_than, written_twice, only_if}
+use Rattle.design_breaks.specs.Breaks.{unrolls, all_writes, meet, not_before, is_second, other_than, written_twice, only_if}
 use Rattle.break_laws.specs.Laws.{BitsHaveOneWriter}
-use Rattle.break_laws.proofs.Early.{can-unroll}
 use Rattle.break_laws.proofs.Numbers.{is-a-signal}
 
 -- two uses of one bit meet
@@ -67,7 +66,7 @@ module _ (d : Design) where
   -- a process that stands somewhere, can be unrolled and breaks no rule on two writers
   pub record Once (n : ℕ) (p : Process) : Type 0 where
     pub stands : slice_get d.processes n ≡ Some p
-    pub endless : endless_of d p.body ≡ []
+    pub can : unrolls d p.body ≡ true
     pub once : written_twice d n p ≡ []
 
   -- which of its uses writes a bit of a signal
@@ -83,7 +82,7 @@ module _ (d : Design) where
       let number = eqb-true r.0.number q.signal (and_parts (r.0.number == q.signal) (nat_le r.0.low q.bit && nat_lt q.bit r.0.high) r.2).0 in
       record {
         use_of = r.0;
-        listed = subst (λ b. Member (cond b kept []) r.0) (sym (can-unroll d p.body o.endless)) (member-filter (λ (u : Use). is_signal u.number) (writes_of d p) r.0 r.1 (ap is_signal number ∙ signal));
+        listed = subst (λ b. Member (cond b kept []) r.0) (sym o.can) (member-filter (λ (u : Use). is_signal u.number) (writes_of d p) r.0 r.1 (ap is_signal number ∙ signal));
         covers_it = r.2;
       }
 
@@ -211,7 +210,7 @@ one-writer d few keeps = (
 )
   where
     once : (n : ℕ) (p : Process) → slice_get d.processes n ≡ Some p → Once d n p
-    once n p h = record { stands = h; endless = (keeps n p h).0; once = (keeps n p h).1 }
+    once n p h = record { stands = h; can = (keeps n p h).0; once = (keeps n p h).1 }
 
     not-both : (n m : ℕ) (p r : Process) → n < m → slice_get d.processes n ≡ Some p → slice_get d.processes m ≡ Some r → (qs : List Place) → WritesIts d p qs → (rs : List Place) → WritesIts d r rs
         → (q : Place) → has qs q ≡ true → has rs q ≡ false

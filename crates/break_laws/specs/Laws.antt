@@ -15,7 +15,8 @@ use Rattle.sv_types.specs.Machine.{parts, places, machine}
 use Rattle.flow_laws.specs.Runs.{some_token}
 use Rattle.design_breaks.specs.Actions.{actions}
 use Rattle.design_breaks.specs.Memories.{is_edged, flow}
-use Rattle.design_breaks.specs.Breaks.{Break, breaks, least_of, endless_of, written_twice, read_early}
+use Rattle.design_breaks.specs.declared.Break.{Break}
+use Rattle.design_breaks.specs.Breaks.{breaks, least_of, unrolls, written_twice, read_early}
 use Rattle.design_breaks.specs.Circles.{IsStuck}
 use Rattle.break_laws.specs.Shapes.{Shaped, ShapedProcess, KeepsToBits, only_those}
 
@@ -30,13 +31,13 @@ LoopsAreBounded = (s : Stmt) (k : Sight) → ((actions s).unbounded (formals_of 
 -- a combinational process whose loops can be unrolled, and which doesn't break the rule on early reads, reads no bit of its own
 -- before it wrote it
 abbrev pub NothingIsReadEarly : Type 0
-NothingIsReadEarly = (d : Design) (p : Process) → is_edged p.kind ≡ false → endless_of d p.body ≡ [] → read_early d p ≡ []
+NothingIsReadEarly = (d : Design) (p : Process) → is_edged p.kind ≡ false → unrolls d p.body ≡ true → read_early d p ≡ []
     → (q : Place) → has (places (parts d)) q ≡ true → covered (uses_of (flow d p).writes) q ≡ true → some_token ((flow d p).early q) ≡ false
 
--- where no process breaks the rule on two writers, no bit has two
+-- where all processes can be unrolled and none breaks the rule on two writers, no bit has two
 abbrev pub BitsHaveOneWriter : Type 0
 BitsHaveOneWriter = (d : Design) → length d.signals ≤ 2 ^ 32
-    → ((n : ℕ) (p : Process) → slice_get d.processes n ≡ Some p → (endless_of d p.body ≡ []) × (written_twice d n p ≡ []))
+    → ((n : ℕ) (p : Process) → slice_get d.processes n ≡ Some p → (unrolls d p.body ≡ true) × (written_twice d n p ≡ []))
     → OneWriter (λ (p : M.Process). p.writes) (machine d).combs × OneWriter (λ (p : M.EdgeProcess). p.writes) (machine d).edges
 
 -- a process that names signals and locals with as many bits as they have keeps to these bits

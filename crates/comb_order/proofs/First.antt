@@ -9,7 +9,8 @@ use Rattle.row_machine.proofs.Basics.{member_at}
 use Rattle.row_machine.proofs.Members.{member-place, map-member}
 use Rattle.sv_source.specs.declared.refusal.Refusal.{Refusal}
 use Rattle.sv_types.specs.declared.design.Process.{Process}
-use Rattle.design_breaks.specs.Breaks.{Break, is_less}
+use Rattle.design_breaks.specs.declared.Break.{Break}
+use Rattle.design_breaks.specs.Breaks.{is_less}
 use Rattle.design_breaks.specs.Circles.{break_of}
 use Rattle.comb_order.specs.Combs.{number_at}
 use Rattle.comb_order.specs.Stuck.{break_at, break_or_none, refusal_at, IsFirst, IsRefusalOf}

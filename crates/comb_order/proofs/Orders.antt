@@ -75,7 +75,7 @@ module _ (d : Design) where
       ap (made_of d) s.stands ∙ s.makes_it.is ∙ ap (λ (c : M.Process). c ∷ []) s.same
 
   -- a bit that a process writes has a number
-  narrow-bit : (limits : KeepsLimits d) (q : Place) → has (places (parts d)) q ≡ true → q.bit < 2 ^ 32
+  pub narrow-bit : (limits : KeepsLimits d) (q : Place) → has (places (parts d)) q ≡ true → q.bit < 2 ^ 32
   narrow-bit limits q h =
       let low = ltb-true q.bit (slice_index_or (widths_of d.signals) q.signal 0) (sym (has-there d q) ∙ h) in
       let most = by d.signals q.signal limits.narrow in

@@ -7,7 +7,8 @@ use Rattle.sv_source.specs.declared.refusal.Fail.{Fail}
 use Rattle.sv_source.specs.declared.refusal.Fail.TheVariants.{Memory, Refused}
 use Rattle.sv_types.specs.declared.design.Design.{Design}
 use Rattle.sv_types.specs.declared.design.Process.{Process}
-use Rattle.design_breaks.specs.Breaks.{Break, is_less}
+use Rattle.design_breaks.specs.declared.Break.{Break}
+use Rattle.design_breaks.specs.Breaks.{is_less}
 use Rattle.design_breaks.specs.Circles.{IsStuck, break_of}
 
 abbrev pub refusal_at : Spot → Refusal

@@ -56,7 +56,8 @@ fn kept_use(widths: &[u32], used: Use) -> Use
     }
 }
 
-fn kept_uses(alloc: Global, widths: &[u32], uses: &[Use]) -> Result<Uses, AllocError>
+/// What of uses lies in bits that are there of the signals that they begin in.
+pub fn kept_uses(alloc: Global, widths: &[u32], uses: &[Use]) -> Result<Uses, AllocError>
     ensures { IfOk result (λ r. r ≡ map (spec.kept_use widths.now) uses.now) }
 {
     let mut all = Uses::new(alloc);
@@ -66,12 +67,24 @@ fn kept_uses(alloc: Global, widths: &[u32], uses: &[Use]) -> Result<Uses, AllocE
     Ok(all)
 }
 
-fn kept_writes(alloc: Global, widths: &[u32], writes: &[Write]) -> Result<Spans, AllocError>
+/// The same of writes, as spans.
+pub fn kept_writes(alloc: Global, widths: &[u32], writes: &[Write]) -> Result<Spans, AllocError>
     ensures { IfOk result (λ r. r ≡ map (λ (w : Write). spec.kept widths.now w.of.span) writes.now) }
 {
     let mut all = Spans::new(alloc);
     for w in writes {
         all.push(kept(widths, w.of.span))?;
+    }
+    Ok(all)
+}
+
+/// The same of writes, as uses.
+pub fn kept_write_uses(alloc: Global, widths: &[u32], writes: &[Write]) -> Result<Uses, AllocError>
+    ensures { IfOk result (λ r. r ≡ map (λ (w : Write). spec.kept_use widths.now w.of) writes.now) }
+{
+    let mut all = Uses::new(alloc);
+    for w in writes {
+        all.push(kept_use(widths, w.of))?;
     }
     Ok(all)
 }

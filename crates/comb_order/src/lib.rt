@@ -7,6 +7,6 @@ mod combs;
 mod least;
 mod ordering;
 
-pub use bits::{footprint_in, widths};
+pub use bits::{footprint_in, kept_uses, kept_write_uses, kept_writes, widths};
 pub use combs::{comb_footprints, comb_numbers};
 pub use ordering::{Order, order_by, order_of};

@@ -1,6 +1,6 @@
 -- Where a typed design breaks the rules on processes. A break stands at a token of an instance's text; rules on bits speak only
--- of processes and functions whose loops can all be unrolled.
-use Rattle.std.specs.Prelude.{ℕ, zero, suc, ◌^◌, min, max, Bool, true, false, ◌&&◌, ◌||◌, ◌==◌, nat_lt, nat_le, not, cond, List, [], ◌∷◌, ◌++◌, length, map, flat_map, filter, reverse, take, drop, Option, Some, None, slice_get}
+-- of processes and functions whose loops can all be unrolled to as many statements as may stand.
+use Rattle.std.specs.Prelude.{ℕ, zero, suc, min, max, Bool, true, false, ◌&&◌, ◌||◌, ◌==◌, nat_lt, nat_le, not, cond, List, [], ◌∷◌, ◌++◌, length, map, flat_map, filter, reverse, take, drop, Option, Some, None, slice_get}
 use Rattle.std.specs.List.{list_any, list_all}
 use Rattle.row_machine.specs.Valuation.{Place}
 use Rattle.row_machine.specs.Places.{places_of}
@@ -27,13 +27,12 @@ use Rattle.sv_types.specs.Flows.{Flow, covers, uses_of}
 use Rattle.sv_types.specs.Statements.{doing}
 use Rattle.sv_types.specs.Functions.{parameters}
 use Rattle.sv_types.specs.Machine.{parts, places, unseen, is_input}
+use Rattle.design_breaks.specs.declared.Break.{Break}
+use Rattle.design_breaks.specs.declared.Unrolled.{Unrolled}
+use Rattle.design_breaks.specs.declared.Unrolled.TheVariants.{Whole, TooMany, Endless}
+use Rattle.design_breaks.specs.Unrolling.{most_statements}
 use Rattle.design_breaks.specs.Actions.{Assignment, Passed, actions}
 use Rattle.design_breaks.specs.Memories.{is_edged, is_memory, is_unpacked_array, flow, writes_of}
-
-pub record Break : Type 0 where
-  pub instance : ℕ
-  pub at : ℕ
-  pub rule : ℕ
 
 -- the same position or a later one
 abbrev pub not_before : ℕ → ℕ → ℕ → ℕ → Bool
@@ -49,8 +48,25 @@ only_if b xs = cond b xs []
 abbrev pub meet : Use → Use → Bool
 meet a b = (a.number == b.number) && nat_lt (max a.low b.low) (min a.high b.high)
 
-abbrev pub most_statements : ℕ
-most_statements = 2 ^ 20
+-- why loops can't be unrolled to the end
+abbrev pub endless_at : Unrolled → List ℕ
+endless_at (Whole n) = []
+endless_at TooMany = []
+endless_at (Endless at) = at ∷ []
+
+abbrev pub is_too_many : Unrolled → Bool
+is_too_many (Whole n) = false
+is_too_many TooMany = true
+is_too_many (Endless at) = false
+
+abbrev pub is_none : List ℕ → Bool
+is_none [] = true
+is_none (n ∷ ns) = false
+
+abbrev pub is_whole : Unrolled → Bool
+is_whole (Whole n) = true
+is_whole TooMany = false
+is_whole (Endless at) = false
 
 module _ (d : Design) where
   abbrev pub formals : ℕ → List Parameter
@@ -60,11 +76,24 @@ module _ (d : Design) where
   abbrev pub function_flow : Function → Flow
   function_flow f = (doing f.body).flow (unseen (parts d))
 
-  abbrev pub endless_of : Stmt → List ℕ
-  endless_of s = (actions s).unbounded formals (unseen (parts d)) ++ (actions s).overlong formals (unseen (parts d))
+  -- The loops that can't be unrolled: those whose bounds aren't known or whose variable is written in them; and the first one in
+  -- the unrolled list that makes too many turns, or the first constant there that takes too long.
+  abbrev pub unbounded_of : Stmt → List ℕ
+  unbounded_of s = (actions s).unbounded formals (unseen (parts d))
 
+  abbrev pub unrolled : Stmt → Unrolled
+  unrolled s = (actions s).unrolls formals (unseen (parts d)) (Whole most_statements)
+
+  abbrev pub endless_of : Stmt → List ℕ
+  endless_of s = unbounded_of s ++ endless_at (unrolled s)
+
+  -- too many statements, each counted by itself once loops are unrolled
+  abbrev pub too_long : Stmt → ℕ → List ℕ
+  too_long s at = only_if (is_none (unbounded_of s) && is_too_many (unrolled s)) (at ∷ [])
+
+  -- all loops can be unrolled, to as many statements as may stand
   abbrev pub unrolls : Stmt → Bool
-  unrolls s = length (endless_of s) == 0
+  unrolls s = is_none (unbounded_of s) && is_whole (unrolled s)
 
   -- a bit, or a variable that a declared value holds, is written twice (clauses 6.5, 9.2.2 and 10.3)
   abbrev pub all_writes : Process → List Use
@@ -94,7 +123,7 @@ module _ (d : Design) where
 
   abbrev pub drives_a_value : Process → List ℕ
   drives_a_value p =
-      only_if (continuous p.kind) (map (λ (w : Use). w.at) (filter (λ (w : Use). is_declared w.number) (all_writes p)))
+      only_if (continuous p.kind) (map (λ (w : Use). w.at) (filter (λ (w : Use). is_declared w.number && nat_lt w.low w.high) (all_writes p)))
 
   -- a bit that a combinational process other than a latch may write isn't written on every path: at the first write of it
   abbrev pub is_complete : ProcessKind → Bool
@@ -159,7 +188,7 @@ module _ (d : Design) where
   ]
 
   abbrev pub is_link_to : ℕ → Process → Bool
-  is_link_to n p = elim p.kind [ Link port ↦ (port == n) && list_any (λ (u : Use). u.number == n) (uses_of (flow d p).writes) | other ↦ false ]
+  is_link_to n p = elim p.kind [ Link port ↦ (port == n) && list_any (λ (u : Use). (u.number == n) && nat_lt u.low u.high) (uses_of (flow d p).writes) | other ↦ false ]
 
   abbrev pub sources : ℕ → List ℕ
   sources n = flat_map (λ (p : Process). only_if (is_link_to n p) (elim (plain_name p.body) [ None ↦ [] | Some m ↦ m ∷ [] ])) d.processes
@@ -189,11 +218,7 @@ module _ (d : Design) where
 
   abbrev pub writes_input : Process → List ℕ
   writes_input p =
-      map (λ (u : Use). u.at) (filter (λ (u : Use). is_any_input u.number && (nat_lt u.low u.high && not (is_own_link p.kind u.number))) (uses_of (flow d p).writes ++ uses_of (flow d p).later))
-
-  -- too many statements, each counted by itself once loops are unrolled
-  abbrev pub too_long : Stmt → Flow → ℕ → List ℕ
-  too_long s f at = only_if (unrolls s && nat_lt most_statements f.statements) (at ∷ [])
+      only_if (unrolls p.body) (map (λ (u : Use). u.at) (filter (λ (u : Use). is_any_input u.number && (nat_lt u.low u.high && not (is_own_link p.kind u.number))) (uses_of (flow d p).writes ++ uses_of (flow d p).later)))
 
   -- the functions that processes call, themselves or through other functions
   abbrev pub calls_it : ℕ → Stmt → Bool
@@ -276,7 +301,7 @@ module _ (d : Design) where
       ++ (at_each i 607 (unfit_edges p.1)
       ++ (at_each i 608 (endless_of p.1.body)
       ++ (at_each i 611 (writes_input p.1)
-      ++ at_each i 703 (too_long p.1.body (flow d p.1) p.1.spot.at))))))))
+      ++ at_each i 703 (too_long p.1.body p.1.spot.at))))))))
 
   abbrev pub function_breaks : ℕ × Function → List Break
   function_breaks f =
@@ -286,7 +311,7 @@ module _ (d : Design) where
       ++ (at_each i 604 (result_early f.1)
       ++ (at_each i 606 (deferred false f.1.body)
       ++ (at_each i 608 (endless_of f.1.body)
-      ++ at_each i 703 (too_long f.1.body (function_flow f.1) f.1.spot.at)))))
+      ++ at_each i 703 (too_long f.1.body f.1.spot.at)))))
 
   abbrev pub breaks : List Break
   breaks =

@@ -6,7 +6,7 @@ use Rattle.sv_types.specs.declared.design.Design.{Design}
 use Rattle.sv_types.specs.declared.design.Process.{Process}
 use Rattle.sv_types.specs.Statements.{doing}
 use Rattle.sv_types.specs.Machine.{parts, machine, comb_of}
-use Rattle.design_breaks.specs.Breaks.{Break}
+use Rattle.design_breaks.specs.declared.Break.{Break}
 
 -- a process is stuck where the combinational process of the design's machine is
 pub record IsStuck (d : Design) (p : Process) : Type 0 where

@@ -1,5 +1,5 @@
 -- The leaves of an expression are those of what it asks.
-use Rattle.std.proofs.Common.{◌≡◌, ℕ, Bool, ℤ, List, [], ◌∷◌, ◌++◌, map, flat_map, rules, refl, ap, sym, ◌∙◌, subst}
+use Rattle.std.proofs.Common.{◌≡◌, ℕ, Bool, ℤ, List, [], ◌∷◌, ◌++◌, length, map, flat_map, rules, refl, ap, sym, ◌∙◌, subst}
 use Rattle.b4_core.specs.declared.bit.Bit4.{Bit4}
 use Rattle.b4_core.specs.declared.operators.UnOp.{UnOp}
 use Rattle.b4_core.specs.declared.operators.BinOp.{BinOp}
@@ -7,7 +7,6 @@ use Rattle.b4_core.specs.declared.operators.RedOp.{RedOp}
 use Rattle.b4_core.specs.declared.operators.ShiftOp.{ShiftOp}
 use Rattle.b4_core.specs.declared.operators.OrdOp.{OrdOp}
 use Rattle.b4_core.specs.declared.operators.EqOp.{EqOp}
-use Rattle.b4_core.specs.declared.operators.EqOp.TheVariants.{Logic, Case, Wild}
 use Rattle.sv_types.specs.declared.types.Value.{Value}
 use Rattle.sv_types.specs.declared.expression.Expr.{Expr}
 use Rattle.sv_types.specs.declared.expression.Form.{Form, Form-F, fold-Form, out-Form, the_lemmas}
@@ -22,7 +21,7 @@ use Rattle.eval_parts.specs.Targets.{marks_of_parts, marks_of_formals}
 use Rattle.eval_forms.specs.Asked.{Asked, alone_asked, assigned_asked, choice_asked, form_asked}
 use Rattle.eval_forms.proofs.Alternatives as I
 use Rattle.eval_forms.proofs.Strict as K
-use Rattle.expr_lower.specs.Leaves.{Leaf, Signals, Locals, Unlowered, together, by_helper, leaves, Each, choice_step, form_step, expr_step}
+use Rattle.expr_lower.specs.Leaves.{Leaf, Signals, Locals, Calls, Unlowered, together, leaves, Each, choice_step, form_step, expr_step}
 
 abbrev pub form_leaves : Form → Layout → List Leaf
 form_leaves = fold-Form (List Leaf) (Layout → List Leaf) (List Leaf) choice_step form_step expr_step
@@ -69,11 +68,6 @@ two-each P x y h = (each-left P (leaves x) (leaves y) h, (each-right P (leaves x
 
 three-each : (P : Leaf → Type 0) (z x y : Expr) → Each P (leaves z ++ (leaves x ++ leaves y)) → Each P (leaves z) × (Each P (leaves x) × (Each P (leaves y) × Unit {0}))
 three-each P z x y h = (each-left P (leaves z) (leaves x ++ leaves y) h, two-each P x y (each-right P (leaves z) (leaves x ++ leaves y) h))
-
-without-helper : (P : Leaf → Type 0) (op : EqOp) (l : List Leaf) → Each P (by_helper op l) → Each P l
-without-helper P Logic l h = h
-without-helper P Case l h = h
-without-helper P Wild l h = h.1
 
 -- alternatives of `inside`
 abbrev ChoiceIt : (Leaf → Type 0) → Choice → Type 0
@@ -349,15 +343,15 @@ of-Order : (P : Leaf → Type 0) (op : OrdOp) (x : Expr) (y : Expr) → AskedFor
 of-Order P op x y e is fs w s all =
     subst (EachAsked P) (K.asked-by e (V.Order op x y) (Form-F.Order op x y) fs w s is (out-Order op x y)) (let h = subst (Each P) (leaves-Order e op x y is) all in two-each P x y h)
 
-form-Equal : (op : EqOp) (negated : Bool) (x : Expr) (y : Expr) → form_leaves (V.Equal op negated x y) ≡ (λ (of : Layout). by_helper op (leaves x ++ leaves y))
+form-Equal : (op : EqOp) (negated : Bool) (x : Expr) (y : Expr) → form_leaves (V.Equal op negated x y) ≡ (λ (of : Layout). leaves x ++ leaves y)
 form-Equal op negated x y = search (rules, the_lemmas)
 
-pub leaves-Equal : (e : Expr) (op : EqOp) (negated : Bool) (x : Expr) (y : Expr) → e.form ≡ V.Equal op negated x y → leaves e ≡ by_helper op (leaves x ++ leaves y)
+pub leaves-Equal : (e : Expr) (op : EqOp) (negated : Bool) (x : Expr) (y : Expr) → e.form ≡ V.Equal op negated x y → leaves e ≡ leaves x ++ leaves y
 leaves-Equal e op negated x y is = leaves-at e (V.Equal op negated x y) _ is (form-Equal op negated x y)
 
 of-Equal : (P : Leaf → Type 0) (op : EqOp) (negated : Bool) (x : Expr) (y : Expr) → AskedForm P (V.Equal op negated x y)
 of-Equal P op negated x y e is fs w s all =
-    subst (EachAsked P) (K.asked-by e (V.Equal op negated x y) (Form-F.Equal op negated x y) fs w s is (out-Equal op negated x y)) (let h = without-helper P op (leaves x ++ leaves y) (subst (Each P) (leaves-Equal e op negated x y is) all) in two-each P x y h)
+    subst (EachAsked P) (K.asked-by e (V.Equal op negated x y) (Form-F.Equal op negated x y) fs w s is (out-Equal op negated x y)) (let h = subst (Each P) (leaves-Equal e op negated x y is) all in two-each P x y h)
 
 form-Both : (x : Expr) (y : Expr) → form_leaves (V.Both x y) ≡ (λ (of : Layout). leaves x ++ leaves y)
 form-Both x y = search (rules, the_lemmas)
@@ -409,50 +403,50 @@ of-Repeat : (P : Leaf → Type 0) (n : ℕ) (es : List Expr) → AskedForm P (V.
 of-Repeat P n es e is fs w s all =
     subst (EachAsked P) (K.asked-by e (V.Repeat n es) (Form-F.Repeat n es) fs w s is (out-Repeat n es)) (let h = subst (Each P) (leaves-Repeat e n es is) all in alone-each P es h)
 
-form-Inside : (x : Expr) (cs : List Choice) → form_leaves (V.Inside x cs) ≡ (λ (of : Layout). Unlowered ∷ (leaves x ++ together (map choice_leaves cs)))
+form-Inside : (x : Expr) (cs : List Choice) → form_leaves (V.Inside x cs) ≡ (λ (of : Layout). leaves x ++ together (map choice_leaves cs))
 form-Inside x cs = search (rules, the_lemmas)
 
-pub leaves-Inside : (e : Expr) (x : Expr) (cs : List Choice) → e.form ≡ V.Inside x cs → leaves e ≡ Unlowered ∷ (leaves x ++ together (map choice_leaves cs))
+pub leaves-Inside : (e : Expr) (x : Expr) (cs : List Choice) → e.form ≡ V.Inside x cs → leaves e ≡ leaves x ++ together (map choice_leaves cs)
 leaves-Inside e x cs is = leaves-at e (V.Inside x cs) _ is (form-Inside x cs)
 
 of-Inside : (P : Leaf → Type 0) (x : Expr) (cs : List Choice) → AskedForm P (V.Inside x cs)
 of-Inside P x cs e is fs w s all =
-    subst (EachAsked P) (K.asked-by e (V.Inside x cs) (Form-F.Inside x cs) fs w s is (out-Inside x cs)) (let h = (subst (Each P) (leaves-Inside e x cs is) all).1 in (each-left P (leaves x) (together (map choice_leaves cs)) h, choices-each P x cs (each-left P (leaves x) (together (map choice_leaves cs)) h) (each-right P (leaves x) (together (map choice_leaves cs)) h)))
+    subst (EachAsked P) (K.asked-by e (V.Inside x cs) (Form-F.Inside x cs) fs w s is (out-Inside x cs)) (let h = subst (Each P) (leaves-Inside e x cs is) all in (each-left P (leaves x) (together (map choice_leaves cs)) h, choices-each P x cs (each-left P (leaves x) (together (map choice_leaves cs)) h) (each-right P (leaves x) (together (map choice_leaves cs)) h)))
 
-form-Cast : (x : Expr) → form_leaves (V.Cast x) ≡ (λ (of : Layout). Unlowered ∷ leaves x)
+form-Cast : (x : Expr) → form_leaves (V.Cast x) ≡ (λ (of : Layout). leaves x)
 form-Cast x = search (rules, the_lemmas)
 
-pub leaves-Cast : (e : Expr) (x : Expr) → e.form ≡ V.Cast x → leaves e ≡ Unlowered ∷ leaves x
+pub leaves-Cast : (e : Expr) (x : Expr) → e.form ≡ V.Cast x → leaves e ≡ leaves x
 leaves-Cast e x is = leaves-at e (V.Cast x) _ is (form-Cast x)
 
 of-Cast : (P : Leaf → Type 0) (x : Expr) → AskedForm P (V.Cast x)
 of-Cast P x e is fs w s all =
-    subst (EachAsked P) (K.asked-by e (V.Cast x) (Form-F.Cast x) fs w s is (out-Cast x)) (let h = (subst (Each P) (leaves-Cast e x is) all).1 in (h, tt))
+    subst (EachAsked P) (K.asked-by e (V.Cast x) (Form-F.Cast x) fs w s is (out-Cast x)) (let h = subst (Each P) (leaves-Cast e x is) all in (h, tt))
 
-form-Clog2 : (x : Expr) → form_leaves (V.Clog2 x) ≡ (λ (of : Layout). Unlowered ∷ leaves x)
+form-Clog2 : (x : Expr) → form_leaves (V.Clog2 x) ≡ (λ (of : Layout). leaves x)
 form-Clog2 x = search (rules, the_lemmas)
 
-pub leaves-Clog2 : (e : Expr) (x : Expr) → e.form ≡ V.Clog2 x → leaves e ≡ Unlowered ∷ leaves x
+pub leaves-Clog2 : (e : Expr) (x : Expr) → e.form ≡ V.Clog2 x → leaves e ≡ leaves x
 leaves-Clog2 e x is = leaves-at e (V.Clog2 x) _ is (form-Clog2 x)
 
 of-Clog2 : (P : Leaf → Type 0) (x : Expr) → AskedForm P (V.Clog2 x)
 of-Clog2 P x e is fs w s all =
-    subst (EachAsked P) (K.asked-by e (V.Clog2 x) (Form-F.Clog2 x) fs w s is (out-Clog2 x)) (let h = (subst (Each P) (leaves-Clog2 e x is) all).1 in (h, tt))
+    subst (EachAsked P) (K.asked-by e (V.Clog2 x) (Form-F.Clog2 x) fs w s is (out-Clog2 x)) (let h = subst (Each P) (leaves-Clog2 e x is) all in (h, tt))
 
-form-Pattern : (es : List Expr) → form_leaves (V.Pattern es) ≡ (λ (of : Layout). Unlowered ∷ together (map leaves es))
+form-Pattern : (es : List Expr) → form_leaves (V.Pattern es) ≡ (λ (of : Layout). together (map leaves es))
 form-Pattern es = search (rules, the_lemmas)
 
-pub leaves-Pattern : (e : Expr) (es : List Expr) → e.form ≡ V.Pattern es → leaves e ≡ Unlowered ∷ together (map leaves es)
+pub leaves-Pattern : (e : Expr) (es : List Expr) → e.form ≡ V.Pattern es → leaves e ≡ together (map leaves es)
 leaves-Pattern e es is = leaves-at e (V.Pattern es) _ is (form-Pattern es)
 
 of-Pattern : (P : Leaf → Type 0) (es : List Expr) → AskedForm P (V.Pattern es)
 of-Pattern P es e is fs w s all =
-    subst (EachAsked P) (K.asked-by e (V.Pattern es) (Form-F.Pattern es) fs w s is (out-Pattern es)) (let h = (subst (Each P) (leaves-Pattern e es is) all).1 in assigned-each P (marks_of_parts (parts_of (layout e.of))) es h)
+    subst (EachAsked P) (K.asked-by e (V.Pattern es) (Form-F.Pattern es) fs w s is (out-Pattern es)) (let h = subst (Each P) (leaves-Pattern e es is) all in assigned-each P (marks_of_parts (parts_of (layout e.of))) es h)
 
-form-Call : (f : ℕ) (es : List Expr) → form_leaves (V.Call f es) ≡ (λ (of : Layout). Unlowered ∷ together (map leaves es))
+form-Call : (f : ℕ) (es : List Expr) → form_leaves (V.Call f es) ≡ (λ (of : Layout). Calls f of (length (map leaves es)) ∷ together (map leaves es))
 form-Call f es = search (rules, the_lemmas)
 
-pub leaves-Call : (e : Expr) (f : ℕ) (es : List Expr) → e.form ≡ V.Call f es → leaves e ≡ Unlowered ∷ together (map leaves es)
+pub leaves-Call : (e : Expr) (f : ℕ) (es : List Expr) → e.form ≡ V.Call f es → leaves e ≡ Calls f (layout e.of) (length (map leaves es)) ∷ together (map leaves es)
 leaves-Call e f es is = leaves-at e (V.Call f es) _ is (form-Call f es)
 
 of-Call : (P : Leaf → Type 0) (f : ℕ) (es : List Expr) → AskedForm P (V.Call f es)

@@ -4,3 +4,8 @@ pub mod Built
 pub mod Forms
 pub mod NameLists
 pub mod Values
+pub mod Plain
+pub mod Given
+pub mod Standing
+pub mod Alternating
+pub mod Comparisons

@@ -2,10 +2,11 @@
 use Rattle.std.proofs.Common.{◌≡◌, ℕ, zero, suc, ◌+◌, ◌<◌, ◌≤◌, ◌==◌, true, false, cond, length, List, [], ◌∷◌, drop, get_or, refl, arith, ap, sym, ◌∙◌}
 use Rattle.v_tree.specs.declared.names.SignalName.{SignalName}
 use Rattle.v_tree.specs.declared.names.LocalName.{LocalName}
+use Rattle.v_tree.specs.declared.names.FunctionName.{FunctionName}
 use Rattle.std.proofs.lemmas.Bool.Decides.{nat_tests}
 use Rattle.std.proofs.Math.Seq.{drop-cons}
 use Rattle.std.proofs.Math.Numerals.{add-one}
-use Rattle.expr_lower.specs.Named.{signal_name, local_name}
+use Rattle.expr_lower.specs.Named.{signal_name, local_name, function_name}
 
 pub at-front : {A : Type 0} (xs : List A) (i : ℕ) (x : A) → i < length xs → x ≡ get_or xs i x → drop i xs ≡ x ∷ drop (i + 1) xs
 at-front xs i x h is = drop-cons xs i x h ∙ ap (λ y. y ∷ drop (suc i) xs) (sym is) ∙ ap (λ k. x ∷ drop k xs) (sym (add-one i))
@@ -27,6 +28,15 @@ local-none [] zero n many = refl
 local-none [] (suc i) n many = refl
 local-none (x ∷ names) zero n many = absurd (omega arith)
 local-none (x ∷ names) (suc i) n many = local-none names i n (omega arith)
+
+function-next : (names : List FunctionName) (i n : ℕ) (name : FunctionName) → i < length names → name ≡ get_or names i name → function_name (drop i names) n ≡ cond (name.function == n) name.name (function_name (drop (i + 1) names) n)
+function-next names i n name less is = ap (λ l. function_name l n) (at-front names i name less is)
+
+function-none : (names : List FunctionName) (i n : ℕ) → length names ≤ i → function_name (drop i names) n ≡ []
+function-none [] zero n many = refl
+function-none [] (suc i) n many = refl
+function-none (x ∷ names) zero n many = absurd (omega arith)
+function-none (x ∷ names) (suc i) n many = function-none names i n (omega arith)
 
 pub signal-found : (names : List SignalName) (i n : ℕ) (name : SignalName) → i < length names → name ≡ get_or names i name → name.signal ≡ n → signal_name (drop i names) n ≡ signal_name names n → name.name ≡ signal_name names n
 signal-found names i n name less is same all =
@@ -53,3 +63,16 @@ local-past names i n name less is apart all =
 
 pub local-absent : (names : List LocalName) (i n : ℕ) → length names ≤ i → local_name (drop i names) n ≡ local_name names n → [] ≡ local_name names n
 local-absent names i n many all = sym (local-none names i n many) ∙ all
+
+pub function-found : (names : List FunctionName) (i n : ℕ) (name : FunctionName) → i < length names → name ≡ get_or names i name → name.function ≡ n → function_name (drop i names) n ≡ function_name names n → name.name ≡ function_name names n
+function-found names i n name less is same all =
+    let test : (name.function == n) ≡ true = grind (arith, nat_tests) in
+    sym (ap (λ b. cond b name.name (function_name (drop (i + 1) names) n)) test) ∙ sym (function-next names i n name less is) ∙ all
+
+pub function-past : (names : List FunctionName) (i n : ℕ) (name : FunctionName) → i < length names → name ≡ get_or names i name → (name.function ≡ n → ⊥) → function_name (drop i names) n ≡ function_name names n → function_name (drop (i + 1) names) n ≡ function_name names n
+function-past names i n name less is apart all =
+    let test : (name.function == n) ≡ false = grind (arith, nat_tests) in
+    sym (ap (λ b. cond b name.name (function_name (drop (i + 1) names) n)) test) ∙ sym (function-next names i n name less is) ∙ all
+
+pub function-absent : (names : List FunctionName) (i n : ℕ) → length names ≤ i → function_name (drop i names) n ≡ function_name names n → [] ≡ function_name names n
+function-absent names i n many all = sym (function-none names i n many) ∙ all

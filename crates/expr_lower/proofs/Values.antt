@@ -23,6 +23,7 @@ use Rattle.sv_types.proofs.Picks.{tabulated-same}
 use Rattle.sv_types.proofs.Levels as L
 use Rattle.sv_types.proofs.OperatorLengths.{length-ext}
 use Rattle.v_tree.specs.Names.{Name}
+use Rattle.v_tree.specs.declared.names.Helper.{Helper}
 use Rattle.v_tree.specs.declared.names.NameMap.{NameMap}
 use Rattle.v_tree.specs.declared.expressions.VExpr.{VExpr}
 use Rattle.v_build.specs.Trees.{meanings}
@@ -48,7 +49,7 @@ use Rattle.expr_lower.proofs.AskedLeaves.{leaves-Signal, leaves-Local}
 use Rattle.expr_lower.proofs.Forms.{by-same, typed-as}
 
 -- what has these bits, with a sign
-signed-as-same : (e : M.Meaning) (c : List Bit4) (w : ℕ) (s : Bool) (a : Around) (m : T.Meaning) (sc : Scope) (v : Valuation) → HasBits m c sc v
+pub signed-as-same : (e : M.Meaning) (c : List Bit4) (w : ℕ) (s : Bool) (a : Around) (m : T.Meaning) (sc : Scope) (v : Valuation) → HasBits m c sc v
     → M.wide e ≤ length c → length c ≤ max w (M.wide e) → ext w s c ≡ e.value w s a → (b : Bool) → b ≡ M.signed e → Same e w s a (signed_as b m) sc v
 signed-as-same e c w s a m sc v has least most value true is = subst (λ k. Same e w s a (T.signing k m) sc v) (sym is) (signed-same e c w s a m sc v has least most value)
 signed-as-same e c w s a m sc v has least most value false is = number-same e c w s a m sc v has least most value (sym is)
@@ -137,7 +138,7 @@ meanings-next [] e = refl
 meanings-next (x ∷ es) e = ap (λ l. T.meaning x ∷ l) (meanings-next es e)
 
 -- the names of numbers
-signed-names : (b : Bool) (m : T.Meaning) (sc : Scope) → (signed_as b m).names sc ≡ m.names sc
+pub signed-names : (b : Bool) (m : T.Meaning) (sc : Scope) → (signed_as b m).names sc ≡ m.names sc
 unfolding T.signing
 signed-names true m sc = append-nil (m.names sc)
 signed-names false m sc = refl
@@ -201,36 +202,36 @@ going-on-in of at c w s a m sc v fits has b is =
     let here = subst (λ k. HasBits m (ext (max w k) true c) sc v) width has in
     signed-as-same (O.literal of at true c) (ext (max w (length c)) true c) w s a m sc v here (omega arith) (omega arith) (ext-larger w s true c) b is
 
-combines-Literal : (e : Expr) (c : List Bit4) (names : NameMap) (fs : List Function) (w : ℕ) (s : Bool) (parts : List T.Meaning) (n m : T.Meaning) (b : Bool)
-    → e.form ≡ V.Literal c false → IsNumber n c → m ≡ signed_as b n → b ≡ M.signed (meaning e) → Combines names fs e w s parts m
-combines-Literal e c names fs w s parts n m b is number made sign =
-    by-same names fs e w s parts m (λ a sc v fits h.
+combines-Literal : (e : Expr) (c : List Bit4) (names : NameMap) (fs : List Function) (hs : List Helper) (w : ℕ) (s : Bool) (parts : List T.Meaning) (n m : T.Meaning) (b : Bool)
+    → e.form ≡ V.Literal c false → IsNumber n c → m ≡ signed_as b n → b ≡ M.signed (meaning e) → Combines names fs hs e w s parts m
+combines-Literal e c names fs hs w s parts n m b is number made sign =
+    by-same names fs hs e w s parts m (λ a sc v fits h.
     let level = same-Literal e c false is in
     subst (λ (k : T.Meaning). Same (meaning e) w s a k sc v) (sym made)
     (subst (λ (k : M.Meaning). Same k w s a (signed_as b n) sc v) (sym level)
     (literal-in (layout e.of) e.spot.at c w s a n sc v (typed-as (meaning e) _ level fits.typed) (number.has sc v) b (sign ∙ (ap (λ (k : M.Meaning). M.signed k) level ∙ literal-sign (layout e.of) e.spot.at false c)))))
     (λ image sc h. number-names image (meaning e) (O.literal (layout e.of) e.spot.at false c) n m b c sc (same-Literal e c false is) (literal-names (layout e.of) e.spot.at false c) number made)
 
-combines-going-on : (e : Expr) (c : List Bit4) (names : NameMap) (fs : List Function) (w : ℕ) (s : Bool) (parts : List T.Meaning) (n m : T.Meaning) (b : Bool)
-    → e.form ≡ V.Literal c true → IsNumber n (ext (max w (M.wide (meaning e))) true c) → m ≡ signed_as b n → b ≡ M.signed (meaning e) → Combines names fs e w s parts m
-combines-going-on e c names fs w s parts n m b is number made sign =
-    by-same names fs e w s parts m (λ a sc v fits h.
+combines-going-on : (e : Expr) (c : List Bit4) (names : NameMap) (fs : List Function) (hs : List Helper) (w : ℕ) (s : Bool) (parts : List T.Meaning) (n m : T.Meaning) (b : Bool)
+    → e.form ≡ V.Literal c true → IsNumber n (ext (max w (M.wide (meaning e))) true c) → m ≡ signed_as b n → b ≡ M.signed (meaning e) → Combines names fs hs e w s parts m
+combines-going-on e c names fs hs w s parts n m b is number made sign =
+    by-same names fs hs e w s parts m (λ a sc v fits h.
     let level = same-Literal e c true is in
     subst (λ (k : T.Meaning). Same (meaning e) w s a k sc v) (sym made)
     (subst (λ (k : M.Meaning). Same k w s a (signed_as b n) sc v) (sym level)
     (going-on-in (layout e.of) e.spot.at c w s a n sc v (typed-as (meaning e) _ level fits.typed) (subst (λ k. HasBits n (ext (max w k) true c) sc v) (ap (λ (k : M.Meaning). M.wide k) level ∙ literal-wide (layout e.of) e.spot.at true c) (number.has sc v)) b (sign ∙ (ap (λ (k : M.Meaning). M.signed k) level ∙ literal-sign (layout e.of) e.spot.at true c)))))
     (λ image sc h. number-names image (meaning e) (O.literal (layout e.of) e.spot.at true c) n m b _ sc (same-Literal e c true is) (literal-names (layout e.of) e.spot.at true c) number made)
 
-pub combines-number : (e : Expr) (c : List Bit4) (goes_on : Bool) (names : NameMap) (fs : List Function) (w : ℕ) (s : Bool) (parts : List T.Meaning) (n m : T.Meaning) (b : Bool)
-    → e.form ≡ V.Literal c goes_on → IsNumber n (written_bits goes_on (max w (M.wide (meaning e))) c) → m ≡ signed_as b n → b ≡ M.signed (meaning e) → Combines names fs e w s parts m
-combines-number e c true names fs w s parts n m b is number made sign = combines-going-on e c names fs w s parts n m b is number made sign
-combines-number e c false names fs w s parts n m b is number made sign = combines-Literal e c names fs w s parts n m b is number made sign
+pub combines-number : (e : Expr) (c : List Bit4) (goes_on : Bool) (names : NameMap) (fs : List Function) (hs : List Helper) (w : ℕ) (s : Bool) (parts : List T.Meaning) (n m : T.Meaning) (b : Bool)
+    → e.form ≡ V.Literal c goes_on → IsNumber n (written_bits goes_on (max w (M.wide (meaning e))) c) → m ≡ signed_as b n → b ≡ M.signed (meaning e) → Combines names fs hs e w s parts m
+combines-number e c true names fs hs w s parts n m b is number made sign = combines-going-on e c names fs hs w s parts n m b is number made sign
+combines-number e c false names fs hs w s parts n m b is number made sign = combines-Literal e c names fs hs w s parts n m b is number made sign
 
 -- '0 and the like
-pub combines-Fill : (e : Expr) (x : Bit4) (names : NameMap) (fs : List Function) (w : ℕ) (s : Bool) (parts : List T.Meaning) (m : T.Meaning)
-    → e.form ≡ V.Fill x → IsNumber m (replicate w x) → Combines names fs e w s parts m
-combines-Fill e x names fs w s parts m is number =
-    by-same names fs e w s parts m (λ a sc v fits h.
+pub combines-Fill : (e : Expr) (x : Bit4) (names : NameMap) (fs : List Function) (hs : List Helper) (w : ℕ) (s : Bool) (parts : List T.Meaning) (m : T.Meaning)
+    → e.form ≡ V.Fill x → IsNumber m (replicate w x) → Combines names fs hs e w s parts m
+combines-Fill e x names fs hs w s parts m is number =
+    by-same names fs hs e w s parts m (λ a sc v fits h.
     let level = at-form e (V.Fill x) _ is (L.form-Fill x) in
     let some = fits.some in
     subst (λ (k : M.Meaning). Same k w s a m sc v) (sym level)
@@ -246,10 +247,10 @@ constant-in of at x w s a m sc v fits has b is =
     let width = t.width in
     signed-as-same (O.constant of at x) (bits x) w s a m sc v has (omega arith) (omega arith) refl b is
 
-pub combines-Constant : (e : Expr) (x : Value) (names : NameMap) (fs : List Function) (w : ℕ) (s : Bool) (parts : List T.Meaning) (n m : T.Meaning) (b : Bool)
-    → e.form ≡ V.Constant x → IsNumber n (bits x) → m ≡ signed_as b n → b ≡ M.signed (meaning e) → Combines names fs e w s parts m
-combines-Constant e x names fs w s parts n m b is number made sign =
-    by-same names fs e w s parts m (λ a sc v fits h.
+pub combines-Constant : (e : Expr) (x : Value) (names : NameMap) (fs : List Function) (hs : List Helper) (w : ℕ) (s : Bool) (parts : List T.Meaning) (n m : T.Meaning) (b : Bool)
+    → e.form ≡ V.Constant x → IsNumber n (bits x) → m ≡ signed_as b n → b ≡ M.signed (meaning e) → Combines names fs hs e w s parts m
+combines-Constant e x names fs hs w s parts n m b is number made sign =
+    by-same names fs hs e w s parts m (λ a sc v fits h.
     let level = at-form e (V.Constant x) _ is (L.form-Constant x) in
     subst (λ (k : T.Meaning). Same (meaning e) w s a k sc v) (sym made)
     (subst (λ (k : M.Meaning). Same k w s a (signed_as b n) sc v) (sym level)
@@ -350,9 +351,9 @@ root-names image e n of name m b sc source number made =
     let target : m.names sc ≡ (named sc.names name).number ∷ [] = ap (λ (k : T.Meaning). k.names sc) made ∙ signed-names b (T.reference name []) sc ∙ reference-names name sc in
     subst (λ ns. AreImages image ns (m.names sc)) (sym source) (subst (AreImages image (record { number = n; of = of } ∷ [])) (sym target) (one-image image n (named sc.names name).number of number))
 
-pub lowers-Signal : (e : Expr) (n : ℕ) (names : NameMap) (fs : List Function) (w : ℕ) (s : Bool) (k m : T.Meaning) (b : Bool)
-    → e.form ≡ V.Signal n → k ≡ T.reference (signal_name names.signals n) [] → m ≡ signed_as b k → b ≡ M.signed (meaning e) → Lowers names fs e w s m
-lowers-Signal e n names fs w s k m b is name made sign im a sc all =
+pub lowers-Signal : (e : Expr) (n : ℕ) (names : NameMap) (fs : List Function) (hs : List Helper) (w : ℕ) (s : Bool) (k m : T.Meaning) (b : Bool)
+    → e.form ≡ V.Signal n → k ≡ T.reference (signal_name names.signals n) [] → m ≡ signed_as b k → b ≡ M.signed (meaning e) → Lowers names fs hs e w s m
+lowers-Signal e n names fs hs w s k m b is name made sign im a sc all helps =
     let level = same-Signal e n is in
     let shown = (subst (Each (LeafStands names fs im a sc)) (leaves-Signal e n is) all).0 in
     let whole = made ∙ ap (signed_as b) name in
@@ -364,9 +365,9 @@ lowers-Signal e n names fs w s k m b is name made sign im a sc all =
       names = root-names im.number (meaning e) n (layout e.of) (signal_name names.signals n) m b sc (ap (λ (x : M.Meaning). x.names) level ∙ signal-names (layout e.of) e.spot.at n) shown.number whole;
     }
 
-pub lowers-Local : (e : Expr) (n : ℕ) (names : NameMap) (fs : List Function) (w : ℕ) (s : Bool) (k m : T.Meaning) (b : Bool)
-    → e.form ≡ V.Local n → k ≡ T.reference (local_name names.locals n) [] → m ≡ signed_as b k → b ≡ M.signed (meaning e) → Lowers names fs e w s m
-lowers-Local e n names fs w s k m b is name made sign im a sc all =
+pub lowers-Local : (e : Expr) (n : ℕ) (names : NameMap) (fs : List Function) (hs : List Helper) (w : ℕ) (s : Bool) (k m : T.Meaning) (b : Bool)
+    → e.form ≡ V.Local n → k ≡ T.reference (local_name names.locals n) [] → m ≡ signed_as b k → b ≡ M.signed (meaning e) → Lowers names fs hs e w s m
+lowers-Local e n names fs hs w s k m b is name made sign im a sc all helps =
     let level = same-Local e n is in
     let shown = (subst (Each (LeafStands names fs im a sc)) (leaves-Local e n is) all).0 in
     let whole = made ∙ ap (signed_as b) name in

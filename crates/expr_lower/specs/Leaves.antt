@@ -1,28 +1,22 @@
 -- What an expression reads, and which of its forms aren't lowered.
-use Rattle.std.specs.Prelude.{ℕ, List, [], ◌∷◌, ◌++◌}
-use Rattle.b4_core.specs.declared.operators.EqOp.{EqOp}
-use Rattle.b4_core.specs.declared.operators.EqOp.TheVariants.{Logic, Case, Wild}
+use Rattle.std.specs.Prelude.{ℕ, List, [], ◌∷◌, ◌++◌, length}
 use Rattle.sv_types.specs.declared.expression.Expr.{Expr, Expr-F, fold-Expr}
 use Rattle.sv_types.specs.declared.expression.Form.{Form-F}
 use Rattle.sv_types.specs.declared.expression.Choice.{Choice-F}
 use Rattle.sv_types.specs.Layouts.{Layout, layout}
 
--- a signal or a local by its number, with the type that the expression has there; or a form that isn't lowered yet
+-- A signal or a local by its number, with the type that the expression has there; a call of a function by its number, with
+-- the type that the expression has and the number of its arguments; or a form that isn't lowered yet.
 pub data Leaf : Type 0 where
   Signals : ℕ → Layout → Leaf
   Locals : ℕ → Layout → Leaf
+  Calls : ℕ → Layout → ℕ → Leaf
   Unlowered : Leaf
 
 -- all lists, one behind the other
 abbrev pub together : List (List Leaf) → List Leaf
 together [] = []
 together (l ∷ ls) = l ++ together ls
-
--- `==?` needs a helper
-abbrev pub by_helper : EqOp → List Leaf → List Leaf
-by_helper Logic l = l
-by_helper Case l = l
-by_helper Wild l = Unlowered ∷ l
 
 abbrev pub choice_step : Choice-F (List Leaf) (Layout → List Leaf) (List Leaf) → List Leaf
 choice_step (Choice-F.Value v) = v
@@ -45,17 +39,17 @@ form_step (Form-F.Binary op x y) of = x ++ y
 form_step (Form-F.Shift op x y) of = x ++ y
 form_step (Form-F.Power x y) of = x ++ y
 form_step (Form-F.Order op x y) of = x ++ y
-form_step (Form-F.Equal op negated x y) of = by_helper op (x ++ y)
+form_step (Form-F.Equal op negated x y) of = x ++ y
 form_step (Form-F.Both x y) of = x ++ y
 form_step (Form-F.Either x y) of = x ++ y
 form_step (Form-F.Choose z x y) of = z ++ (x ++ y)
 form_step (Form-F.Concat xs) of = together xs
 form_step (Form-F.Repeat n xs) of = together xs
-form_step (Form-F.Inside x cs) of = Unlowered ∷ (x ++ together cs)
-form_step (Form-F.Cast x) of = Unlowered ∷ x
-form_step (Form-F.Clog2 x) of = Unlowered ∷ x
-form_step (Form-F.Pattern xs) of = Unlowered ∷ together xs
-form_step (Form-F.Call f xs) of = Unlowered ∷ together xs
+form_step (Form-F.Inside x cs) of = x ++ together cs
+form_step (Form-F.Cast x) of = x
+form_step (Form-F.Clog2 x) of = x
+form_step (Form-F.Pattern xs) of = together xs
+form_step (Form-F.Call f xs) of = Calls f of (length xs) ∷ together xs
 form_step (Form-F.Stream reversed n xs) of = Unlowered ∷ together xs
 
 abbrev pub expr_step : Expr-F (List Leaf) (Layout → List Leaf) (List Leaf) → List Leaf
@@ -73,4 +67,5 @@ Each P (l ∷ ls) = P l × Each P ls
 abbrev pub IsLowered : Leaf → Type 0
 IsLowered (Signals n of) = Unit {0}
 IsLowered (Locals n of) = Unit {0}
+IsLowered (Calls f of n) = Unit {0}
 IsLowered Unlowered = ⊥

@@ -9,6 +9,7 @@ use Rattle.sv_types.specs.Surroundings.{Around, Parameter, local_number}
 use Rattle.sv_types.specs.Meanings as S
 use Rattle.sv_types.specs.Expressions.{meaning}
 use Rattle.v_tree.specs.Names.{Name}
+use Rattle.v_tree.specs.declared.names.Helper.{Helper}
 use Rattle.v_tree.specs.declared.names.NameMap.{NameMap}
 use Rattle.v_meaning.specs.Scopes.{Scope, named}
 use Rattle.v_meaning.specs.Values as T
@@ -17,10 +18,12 @@ use Rattle.eval_parts.specs.Limits.{Fits}
 use Rattle.eval_forms.specs.Asked.{Asked, width_asked, sign_asked, form_asked}
 use Rattle.lowering_laws.specs.Agreeing.{Images, Stands}
 use Rattle.lowering_laws.specs.Held.{marked}
+use Rattle.lowering_laws.specs.Helpers.{StandsFor}
 use Rattle.lowering_laws.specs.NamedImages.{SameNames}
 use Rattle.lowering_laws.specs.Same.{Same}
-use Rattle.expr_lower.specs.Leaves.{Leaf, Signals, Locals, Unlowered, leaves, Each}
-use Rattle.expr_lower.specs.Named.{signal_name, local_name}
+use Rattle.path_flatten.specs.Helping.{EachHelps}
+use Rattle.expr_lower.specs.Leaves.{Leaf, Signals, Locals, Calls, Unlowered, leaves, Each}
+use Rattle.expr_lower.specs.Named.{signal_name, local_name, function_name}
 
 -- A name stands for the image of a signal or local of a type: it is a vector with the type's bits, and the images are told so.
 pub record IsShown (name : Name) (im : Images) (sc : Scope) (n : ℕ) (of : Layout) : Type 0 where
@@ -30,10 +33,17 @@ pub record IsShown (name : Name) (im : Images) (sc : Scope) (n : ℕ) (of : Layo
   pub image : im.width n ≡ length of.two_state
   pub marks : (j : ℕ) → im.two_state n j ≡ marked of.two_state j
 
+-- A name stands for a function with these formals, which are so many, and whose result has the type's bits.
+pub record IsCalled (name : Name) (formals : List Parameter) (a : Around) (sc : Scope) (f : ℕ) (of : Layout) (n : ℕ) : Type 0 where
+  pub formals_are : (a.callee f).formals ≡ formals
+  pub count : n ≡ length formals
+  pub stands : StandsFor (a.callee f) (length of.two_state) (sc.callee name)
+
 -- the text has what a leaf of the expression needs
 abbrev pub LeafStands : NameMap → List Function → Images → Around → Scope → Leaf → Type 0
 LeafStands names fs im a sc (Signals n of) = IsShown (signal_name names.signals n) im sc n of
 LeafStands names fs im a sc (Locals n of) = IsShown (local_name names.locals n) im sc (local_number n) of
+LeafStands names fs im a sc (Calls f of n) = IsCalled (function_name names.functions f) (formals_in fs f) a sc f of n
 LeafStands names fs im a sc Unlowered = ⊥
 
 -- A target expression stands for an expression on all valuations that agree, and names the images of what that names, all of
@@ -42,16 +52,16 @@ pub record Stood (im : Images) (a : Around) (sc : Scope) (e : S.Meaning) (w : �
   pub stands : Stands im a sc e w s m
   pub names : SameNames im.number e m sc
 
--- so it is for an expression at a width and a sign, wherever the text has what the leaves need
-abbrev pub Lowers : NameMap → List Function → Expr → ℕ → Bool → T.Meaning → Type 0
-Lowers names fs e w s m = (im : Images) (a : Around) (sc : Scope) → Each (LeafStands names fs im a sc) (leaves e) → Stood im a sc (meaning e) w s m
+-- so it is for an expression at a width and a sign, wherever the text has what the leaves need and these helpers
+abbrev pub Lowers : NameMap → List Function → List Helper → Expr → ℕ → Bool → T.Meaning → Type 0
+Lowers names fs hs e w s m = (im : Images) (a : Around) (sc : Scope) → Each (LeafStands names fs im a sc) (leaves e) → EachHelps hs sc → Stood im a sc (meaning e) w s m
 
 -- what is asked, one by one
-abbrev pub LowersEach : NameMap → List Function → List Asked → List T.Meaning → Type 0
-LowersEach names fs [] [] = Unit {0}
-LowersEach names fs [] (m ∷ ms) = ⊥
-LowersEach names fs (q ∷ qs) [] = ⊥
-LowersEach names fs (q ∷ qs) (m ∷ ms) = Lowers names fs q.of (width_asked q.ask (meaning q.of)) (sign_asked q.ask (meaning q.of)) m × LowersEach names fs qs ms
+abbrev pub LowersEach : NameMap → List Function → List Helper → List Asked → List T.Meaning → Type 0
+LowersEach names fs hs [] [] = Unit {0}
+LowersEach names fs hs [] (m ∷ ms) = ⊥
+LowersEach names fs hs (q ∷ qs) [] = ⊥
+LowersEach names fs hs (q ∷ qs) (m ∷ ms) = Lowers names fs hs q.of (width_asked q.ask (meaning q.of)) (sign_asked q.ask (meaning q.of)) m × LowersEach names fs hs qs ms
 
 -- the same for one valuation
 abbrev pub SameEach : List Asked → Around → List T.Meaning → Scope → Valuation → Type 0
@@ -68,13 +78,21 @@ NamesEach image (q ∷ qs) [] sc = ⊥
 NamesEach image (q ∷ qs) (m ∷ ms) sc = SameNames image (meaning q.of) m sc × NamesEach image qs ms sc
 
 -- A target expression that is made of the target expressions of what an expression asks stands for the expression.
-abbrev pub Combines : NameMap → List Function → Expr → ℕ → Bool → List T.Meaning → T.Meaning → Type 0
-Combines names fs e w s parts m = Fits (meaning e) (formals_in fs) w
-    → LowersEach names fs (form_asked (layout e.of) (formals_in fs) w s (out-Form e.form)) parts → Lowers names fs e w s m
+abbrev pub Combines : NameMap → List Function → List Helper → Expr → ℕ → Bool → List T.Meaning → T.Meaning → Type 0
+Combines names fs hs e w s parts m = Fits (meaning e) (formals_in fs) w
+    → LowersEach names fs hs (form_asked (layout e.of) (formals_in fs) w s (out-Form e.form)) parts → Lowers names fs hs e w s m
 
--- whatever the names and functions are
+-- whatever the names, functions and helpers are
 abbrev pub CombinesAll : Expr → ℕ → Bool → List T.Meaning → T.Meaning → Type 0
-CombinesAll e w s parts m = (names : NameMap) (fs : List Function) → Combines names fs e w s parts m
+CombinesAll e w s parts m = (names : NameMap) (fs : List Function) (hs : List Helper) → Combines names fs hs e w s parts m
+
+-- in each context, whatever the names and functions are
+abbrev pub CombinesAnywhere : List Helper → Expr → List T.Meaning → T.Meaning → Type 0
+CombinesAnywhere hs e parts m = (names : NameMap) (fs : List Function) (w : ℕ) (s : Bool) → Combines names fs hs e w s parts m
+
+-- in one context
+abbrev pub CombinesIn : List Helper → Expr → ℕ → Bool → List T.Meaning → T.Meaning → Type 0
+CombinesIn hs e w s parts m = (names : NameMap) (fs : List Function) → Combines names fs hs e w s parts m
 
 -- there are as many parts as the expression asks for
 abbrev pub AreParts : Expr → ℕ → Bool → ℕ → Type 0

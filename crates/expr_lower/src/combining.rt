@@ -11,6 +11,7 @@ ghost use Rattle.v_build.specs.Trees.{meanings};
 ghost use Rattle.eval_parts.specs.Steps.{is_path};
 ghost use Rattle.expr_lower.specs.Leaves.{leaves, Each, IsLowered};
 ghost use Rattle.expr_lower.specs.Lowering.{CombinesAll, AreParts};
+ghost use Rattle.expr_lower.specs.Specials.{is_special};
 
 use crate::numbers::{number, with_sign};
 use crate::operands::{one, three, two};
@@ -61,6 +62,7 @@ pub fn combine(
 ) -> Result<VExpr, AllocError>
     requires kind { is_path (out-Form e.now.form) ≡ false }
     requires built { Each IsLowered (leaves e.now) }
+    requires plain { is_special (out-Form e.now.form) ≡ false }
     requires narrow { (meaning e.now).widest ≤ 4194304 }
     requires count { AreParts e.now width signed (length parts) }
     ensures { IfOk result (λ m. CombinesAll e.now width signed (meanings parts) (means.meaning m)) }

@@ -3,9 +3,13 @@
 #![tactic(auto)]
 
 mod combining;
+mod formed;
+mod insides;
+mod logarithms;
 mod lowering;
 mod named;
 mod numbers;
 mod operands;
+mod specials;
 
 pub use lowering::lower;

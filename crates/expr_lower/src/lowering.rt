@@ -1,6 +1,6 @@
 //! The lowering of expressions, from the operands up.
 
-ghost use Rattle.std.specs.Prelude.{◌≡◌, ◌≤◌, false, length, IfOk};
+ghost use Rattle.std.specs.Prelude.{◌≡◌, ◌≤◌, false, length, IfOk, OnOk};
 ghost use Rattle.sv_types.specs.declared.expression.Form.{out-Form};
 ghost use Rattle.sv_types.specs.Layouts.{layout};
 ghost use Rattle.sv_types.specs.Expressions.{meaning};
@@ -10,15 +10,17 @@ ghost use Rattle.eval_parts.specs.Limits.{Fits};
 ghost use Rattle.eval_parts.specs.Steps.{is_path};
 ghost use Rattle.eval_forms.specs.Asked.{asked, form_asked, width_asked, sign_asked};
 ghost use Rattle.eval_forms.specs.Callees.{formals_in, AllFunctionsFit};
+ghost use Rattle.path_flatten.specs.Helping.{Grows};
 ghost use Rattle.expr_lower.specs.Leaves.{leaves, Each, IsLowered};
 ghost use Rattle.expr_lower.specs.Lowering.{Lowers, LowersEach};
 ghost use Rattle.expr_lower.specs.Numbers.{IsWhole};
 
-use crate::combining::combine;
+use crate::formed::formed;
 use crate::named::{local_text, signal_text};
 use crate::numbers::with_sign;
 use eval_forms::{Ask, Operand, operands};
 use eval_parts::{Step, own_sign, own_width, step_of};
+use path_flatten::Helpers;
 use std::alloc::{AllocError, Global};
 use sv_source::{Items, Text};
 use sv_types::{Expr, Function};
@@ -34,7 +36,7 @@ fn whole(alloc: Global, of: Text, signed: bool) -> Result<VExpr, AllocError>
     Ok(made)
 }
 
-/// An expression at a width and a sign of its context, or want of memory.
+/// An expression at a width and a sign of its context, which calls some helpers more. Or want of memory.
 #[cycle(lower)]
 pub fn lower(
     alloc: Global,
@@ -43,11 +45,13 @@ pub fn lower(
     e: &Expr,
     width: u32,
     signed: bool,
+    helpers: &mut Helpers,
 ) -> Result<VExpr, AllocError>
     requires functions { AllFunctionsFit functions.now }
     requires built { Each IsLowered (leaves e.now) }
     requires fits { Fits (meaning e.now) (formals_in functions.now) width }
-    ensures { IfOk result (λ m. Lowers names.now functions.now e.now width signed (means.meaning m)) }
+    ensures grows { OnOk result (Grows helpers.old helpers.new) }
+    ensures lowers { IfOk result (λ m. Lowers names.now functions.now helpers.new e.now width signed (means.meaning m)) }
 {
     match step_of(e) {
         Some(Step::Signal(n)) => {
@@ -65,8 +69,8 @@ pub fn lower(
         Some(Step::Part { .. }) => unreachable!(),
         Some(Step::Slide { .. }) => unreachable!(),
         None => {
-            let lowered = parts(alloc, names, functions, e, width, signed)?;
-            let form = combine(alloc, e, width, signed, lowered)?;
+            let lowered = parts(alloc, names, functions, e, width, signed, helpers)?;
+            let form = formed(alloc, names, functions, e, width, signed, lowered, helpers)?;
             Ok(form)
         }
     }
@@ -81,17 +85,19 @@ fn parts(
     e: &Expr,
     width: u32,
     signed: bool,
+    helpers: &mut Helpers,
 ) -> Result<VExprs, AllocError>
     requires functions { AllFunctionsFit functions.now }
     requires kind { is_path (out-Form e.now.form) ≡ false }
     requires built { Each IsLowered (leaves e.now) }
     requires fits { Fits (meaning e.now) (formals_in functions.now) width }
-    ensures { IfOk result (λ ps. LowersEach names.now functions.now (form_asked (layout e.now.of) (formals_in functions.now) width signed (out-Form e.now.form)) (meanings ps)) }
+    ensures grows { OnOk result (Grows helpers.old helpers.new) }
+    ensures lowers { IfOk result (λ ps. LowersEach names.now functions.now helpers.new (form_asked (layout e.now.of) (formals_in functions.now) width signed (out-Form e.now.form)) (meanings ps)) }
 {
     let asks = operands(alloc, e, width, signed, functions)?;
     let mut made = VExprs::new(alloc);
     for operand in &asks {
-        let part = answer(alloc, names, functions, *operand)?;
+        let part = answer(alloc, names, functions, *operand, helpers)?;
         made.push(part)?;
     }
     Ok(made)
@@ -104,24 +110,26 @@ fn answer(
     names: &NameMap,
     functions: &[Function],
     operand: Operand<'_>,
+    helpers: &mut Helpers,
 ) -> Result<VExpr, AllocError>
     requires functions { AllFunctionsFit functions.now }
     requires built { Each IsLowered (leaves operand.of.now) }
     requires fits { Fits (meaning operand.of.now) (formals_in functions.now) (width_asked operand.ask (meaning operand.of.now)) }
-    ensures { IfOk result (λ m. Lowers names.now functions.now operand.entry.of.now (width_asked operand.entry.ask (meaning operand.entry.of.now)) (sign_asked operand.entry.ask (meaning operand.entry.of.now)) (means.meaning m)) }
+    ensures grows { OnOk result (Grows helpers.old helpers.new) }
+    ensures lowers { IfOk result (λ m. Lowers names.now functions.now helpers.new operand.entry.of.now (width_asked operand.entry.ask (meaning operand.entry.of.now)) (sign_asked operand.entry.ask (meaning operand.entry.of.now)) (means.meaning m)) }
 {
     match operand.ask {
         Ask::Bits(width, signed) => {
-            let bits = lower(alloc, names, functions, operand.of, width, signed)?;
+            let bits = lower(alloc, names, functions, operand.of, width, signed, helpers)?;
             Ok(bits)
         }
         Ask::Again(width, signed) => {
-            let again = lower(alloc, names, functions, operand.of, width, signed)?;
+            let again = lower(alloc, names, functions, operand.of, width, signed, helpers)?;
             Ok(again)
         }
         Ask::Place => {
             let (width, signed) = (own_width(operand.of), own_sign(operand.of));
-            let place = lower(alloc, names, functions, operand.of, width, signed)?;
+            let place = lower(alloc, names, functions, operand.of, width, signed, helpers)?;
             Ok(place)
         }
     }

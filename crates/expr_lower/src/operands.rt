@@ -19,7 +19,7 @@ pub struct Triple {
 }
 
 /// The last one.
-fn last(parts: &mut VExprs) -> VExpr
+pub fn last(parts: &mut VExprs) -> VExpr
     requires { 1 ≤ length parts.old }
     ensures { parts.old ≡ parts.new ++ result ∷ [] }
 {
@@ -27,6 +27,16 @@ fn last(parts: &mut VExprs) -> VExpr
         Some(part) => part,
         None => unreachable!(),
     }
+}
+
+/// The last two.
+pub fn last_two(parts: &mut VExprs) -> Pair
+    requires { 2 ≤ length parts.old }
+    ensures { parts.old ≡ parts.new ++ result.left ∷ result.right ∷ [] }
+{
+    let right = last(parts);
+    let left = last(parts);
+    Pair { left, right }
 }
 
 /// The only one.

@@ -1,5 +1,5 @@
 -- Calls keep the order of the text: the breaks of a function that is first needed stand behind the call's name.
-use Rattle.std.proofs.Common.{ℕ, suc, ◌≤◌, ◌<◌, ◌==◌, List, [], ◌∷◌, length, max, map, zip, Option, Some, None, arith}
+use Rattle.std.proofs.Common.{ℕ, suc, ◌≤◌, ◌<◌, ◌==◌, List, [], ◌∷◌, length, max, map, zip, Option, Some, None, Bool, true, false, cond, arith}
 use Rattle.std.specs.Prelude.{Ok, Err, not}
 use Rattle.sv_tree.specs.Extents.{qualified_first}
 use Rattle.sv_tree.specs.declared.expressions.Expr.{Expr-F}
@@ -10,8 +10,8 @@ use Rattle.sv_types.specs.declared.statement.Formal.{Formal}
 use Rattle.sv_types.specs.declared.statement.Function.{Function}
 use Rattle.sv_types.specs.declared.types.SvType.{SvType}
 use Rattle.sv_types.specs.Layouts.{width_of}
-use Rattle.expr_type.specs.Breaks.{Breaks, Within}
-use Rattle.expr_type.specs.Typings.{Checked, joined, applied, all, all_of, at_all, lesser, rule, unless, where_whole, whole}
+use Rattle.expr_type.specs.Breaks.{Breaks, At, Within}
+use Rattle.expr_type.specs.Typings.{Checked, joined, applied, broken, all, all_of, at_all, lesser, rule, unless, where_whole, whole}
 use Rattle.expr_type.specs.Shapes.{is_assignable, is_plain_to_enum}
 use Rattle.expr_type.specs.Names.{Called, Context, Source, position}
 use Rattle.expr_type.specs.declared.operand.Valued.{Valued}
@@ -117,13 +117,21 @@ needed-placed : (k : Context) (at : ℕ) (o : Option ℕ) → RoutinesInOrder k 
 needed-placed k at None rs = λ fs. tt
 needed-placed k at (Some n) rs = placed-from k.source.instance (position k.source at) (k.routine n) at (suc at) (place k.source at at (suc at) (omega arith) (omega arith)) (rs n)
 
+needed-with-placed : (k : Context) (at : ℕ) (o : Option ℕ) (count : ℕ) → RoutinesInOrder k → PlacedTyping k.source.instance at (suc at) (F.needed_with k at o count)
+needed-with-placed k at None count rs = λ fs. tt
+needed-with-placed k at (Some n) count rs = by (F.has_count (k.text n) count)
+  where
+    by : (b : Bool) → PlacedTyping k.source.instance at (suc at) (cond b (F.needed k at (Some n)) (broken (At (position k.source at) 405)))
+    by true = needed-placed k at (Some n) rs
+    by false = λ fs. place k.source at at (suc at) (omega arith) (omega arith)
+
 pub call : (of : QualifiedName) (opening : ℕ) (arguments : List Meaning) (closing : ℕ) → qualified_first of ≤ of.name → of.name < opening → opening < closing
     → AllInOrder (suc opening) closing arguments → InOrder (qualified_first of) (suc closing) (expr_step (Expr-F.Call of opening arguments closing None))
 call of opening arguments closing h m n q k rs =
     plain-stands k.source (F.call k of (actuals k arguments)) (qualified_first of) (suc closing)
     (λ fs.
-    let x = F.needed k of.name (k.finds of) in
+    let x = F.needed_with k of.name (k.finds of) (length (actuals k arguments)) in
     let y = all (actuals k arguments) in
     let gs = (x fs).functions in
     call-if k.source (qualified_first of) of.name opening closing (x fs).result (y gs).result (y gs).functions h m n
-    (needed-placed k of.name (k.finds of) rs fs) (arguments-stand k arguments (suc opening) closing rs q gs))
+    (needed-with-placed k of.name (k.finds of) (length (actuals k arguments)) rs fs) (arguments-stand k arguments (suc opening) closing rs q gs))

@@ -1,6 +1,6 @@
 -- Small texts: the definitions compute. Texts are given by their layers, as the trees that they stand for.
-use Rattle.std.proofs.Common.{◌≡◌, ℕ, suc, ◌+◌, Bool, true, false, List, [], ◌∷◌, ◌++◌, map, max, refl, ap, ◌∙◌, ◌&&◌, cond, Option, Some, None}
-use Rattle.std.specs.Prelude.{nat_lt, pos, Ok, Err, codes, slice_get, flat_map}
+use Rattle.std.proofs.Common.{◌≡◌, ℕ, suc, ◌+◌, Bool, true, false, List, [], ◌∷◌, ◌++◌, map, max, refl, rules, ap, ◌∙◌, ◌&&◌, cond, Option, Some, None}
+use Rattle.std.specs.Prelude.{nat_lt, not, pos, Ok, Err, codes, slice_get, flat_map}
 use Rattle.std.specs.Str.{bytes_eq}
 use Rattle.sv_source.specs.declared.token.Kind.TheVariants.{Name}
 use Rattle.sv_source.specs.declared.token.Token.{Token}
@@ -10,8 +10,9 @@ use Rattle.sv_tree.specs.declared.operators.AssignmentOperator.TheVariants as A
 use Rattle.sv_tree.specs.declared.operators.BinaryOperator.TheVariants as N
 use Rattle.sv_types.specs.declared.frame.SignalId.{SignalId}
 use Rattle.sv_types.specs.declared.types.SvType as X
-use Rattle.sv_types.specs.declared.types.SvType.{SvType}
+use Rattle.sv_types.specs.declared.types.SvType.{SvType, the_lemmas}
 use Rattle.sv_types.specs.declared.types.SvType.TheVariants.{Enum}
+use Rattle.pattern_fit.specs.Same.{same_type}
 use Rattle.expr_type.specs.Breaks.{Breaks, At, Key, first}
 use Rattle.expr_type.specs.Typings.{Checked, Typing, all_of, both, broken, joined, lesser, where_whole, rule, whole, refused, unless, at_all}
 use Rattle.expr_type.specs.Shapes.{is_plain_to_enum, one_bit, vector, sign_of}
@@ -22,7 +23,8 @@ use Rattle.sv_types.specs.declared.statement.FunctionKind.TheVariants.{Plain}
 use Rattle.sv_types.specs.declared.statement.Stmt.TheVariants as S
 use Rattle.expr_type.specs.Names.{Called, Context, Source, Other, word_in, position}
 use Rattle.expr_type.specs.declared.operand.Valued.{Valued}
-use Rattle.expr_type.specs.Operands.{too_wide, Operand, Pattern, Stream, is_constant_value, is_value, names_any, is_streamed, value, width}
+use Rattle.expr_type.specs.Operands.{too_wide, Operand, Pattern, Stream, is_constant_value, is_value, is_streamed, value, width}
+use Rattle.expr_type.specs.Uses.{names_any}
 use Rattle.expr_type.specs.Operators.{by_itself, expr_at, valued, in_context, binary_of}
 use Rattle.expr_type.proofs.Widths.{sign-vector, width-1, width-4, width-8, width-129}
 use Rattle.b4_core.specs.declared.operators.BinOp.TheVariants as B
@@ -110,9 +112,15 @@ enum-plain : given_to enum_text 0 1 (name 2) ≡ at 2 503
 unfolding X.out-SvType denote.Hole.Carrier.out
 enum-plain = refl
 
-enum-own : given_to enum_text 0 1 (name 0) ≡ None
+same-enum : (t : SvType) → same_type (Enum 7 t []) (Enum 7 t []) ≡ same_type t t
+same-enum t = search (rules, the_lemmas)
+
+same-bits : same_type (vector 2 false) (vector 2 false) ≡ true
+same-bits = search (rules, the_lemmas)
+
+enum-own : is_plain_to_enum colour colour ≡ false
 unfolding X.out-SvType denote.Hole.Carrier.out
-enum-own = refl
+enum-own = ap not (same-enum (vector 2 false) ∙ same-bits)
 
 -- `{a, 1}`
 abbrev braces : Context
@@ -198,8 +206,7 @@ stream-too-long k =
   where
     rest : Source → Checked Expr
     rest k =
-        refused (is_plain_to_enum (vector 4 false) (vector 129 false)) (position k 14) 503
-        (refused (nat_lt 65536 (width_of (vector 4 false))) (position k 14) 701 (Ok (by_itself k 14 (vector 129 false) (F.Signal 0)).expr))
+        refused (nat_lt 65536 (width_of (vector 4 false))) (position k 14) 701 (Ok (by_itself k 14 (vector 129 false) (F.Signal 0)).expr)
 
 stream-elsewhere : (k : Source) (v : Valued) → is_value k (Stream v) ≡ Err (At (position k v.first) 512)
 stream-elsewhere k v = refl

@@ -4,7 +4,7 @@ use Rattle.std.specs.Prelude.{pos, ◌-ℤ◌, unsigned_abs, ◌*◌, Ok, Err, n
 use Rattle.std.specs.List.{list_any}
 use Rattle.expr_type.specs.Breaks as K
 use Rattle.expr_type.specs.Breaks.{At, Quiet, Position, Within, is_before, key_at}
-use Rattle.expr_type.specs.Streams.{holds_stream}
+use Rattle.expr_type.specs.Uses.{holds_stream, names_any}
 use Rattle.sv_tree.specs.declared.expressions.Expr.{Expr-F}
 use Rattle.sv_tree.specs.declared.operators.BinaryOperator.{BinaryOperator}
 use Rattle.sv_tree.specs.declared.operators.UnaryOperator.{UnaryOperator}
@@ -13,7 +13,9 @@ use Rattle.sv_types.specs.declared.types.SvType.{SvType}
 use Rattle.expr_type.specs.Typings.{Checked, Typing, joined, applied, checked, both, broken, by_functions, lesser, rule, whole, refused, where_whole}
 use Rattle.expr_type.specs.Names.{Context, Source, Thing, member_in, position, thing, word}
 use Rattle.expr_type.specs.Names as N
-use Rattle.expr_type.specs.Selects.{Step, Member, Index, Part, Slide, index_in, is_index, part_type, path, stepped}
+use Rattle.expr_type.specs.declared.step.Step.{Step}
+use Rattle.expr_type.specs.declared.step.Step.TheVariants.{Member, Index, Part, Slide}
+use Rattle.expr_type.specs.Selects.{index_in, is_index, part_type, path, stepped}
 use Rattle.expr_type.specs.Forms.{SelectMeaning}
 use Rattle.sv_tree.specs.Extents.{qualified_first}
 use Rattle.sv_tree.specs.declared.expressions.Select.{Select-F}
@@ -22,7 +24,7 @@ use Rattle.sv_types.specs.declared.frame.SignalId.{SignalId}
 use Rattle.sv_types.specs.Layouts.{width_of}
 use Rattle.expr_type.specs.declared.operand.Number.{Number}
 use Rattle.expr_type.specs.declared.operand.Valued.{Valued}
-use Rattle.expr_type.specs.Operands.{Operand, Plain, Pattern, Stream, bits_in, constant_in, has_bits, is_constant_value, width, in_range, is_number_in, is_value, names_any, number_of, number_or, number_within, stops, value}
+use Rattle.expr_type.specs.Operands.{Operand, Plain, Pattern, Stream, bits_in, constant_in, has_bits, is_constant_value, width, in_range, is_number_in, is_value, number_of, number_or, number_within, stops, value}
 use Rattle.expr_type.specs.Operands as V
 use Rattle.sv_types.specs.declared.expression.Form.{Form}
 use Rattle.expr_type.specs.Operators.{binary_of, unary_of, by_itself, is_part, concat_of, exprs, repeat_of, all_bits, choice_of, chosen_type}

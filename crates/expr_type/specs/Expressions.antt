@@ -25,8 +25,9 @@ use Rattle.expr_type.specs.declared.operand.Valued.{Valued}
 use Rattle.expr_type.specs.Operands.{Operand, Plain, Stream, constant_in, given, has_bits, is_constant, is_value, number_of, number_within, parenthesized, unstreamed, value}
 use Rattle.expr_type.specs.Operands as V
 use Rattle.expr_type.specs.Operators.{Alternative, Only, From, binary_of, unary_of, choice_of, inside_of, concat_of, exprs, repeat_of, is_part}
-use Rattle.expr_type.specs.Selects.{Step, bound_in, width_in, index_in, is_index}
-use Rattle.expr_type.specs.Selects as S
+use Rattle.expr_type.specs.declared.step.Step.{Step}
+use Rattle.expr_type.specs.declared.step.Step.TheVariants as S
+use Rattle.expr_type.specs.Selects.{bound_in, width_in, index_in, is_index}
 use Rattle.expr_type.specs.KeywordTypes.{Dim, keyword_type}
 use Rattle.expr_type.specs.Literals as L
 use Rattle.expr_type.specs.Forms as F

@@ -21,11 +21,12 @@ use Rattle.expr_type.specs.Breaks.{At, Quiet}
 use Rattle.expr_type.specs.Typings.{Checked, Typing, where_whole, refused, all_of, whole, broken, rule, checked, both, all, from_token}
 use Rattle.expr_type.specs.Shapes.{most_bits, integer, one_bit, vector, is_assignable, is_unpacked}
 use Rattle.expr_type.specs.Literals as L
-use Rattle.expr_type.specs.Names.{Called, Context, Source, Thing, Signal, Local, Constant, TypeName, Interface, Other, Nothing, position, thing, word, member_in}
+use Rattle.expr_type.specs.Names.{Called, Context, RoutineText, Source, formal_count, Thing, Signal, Local, Constant, TypeName, Interface, Other, Nothing, position, thing, word, member_in}
 use Rattle.expr_type.specs.declared.operand.Valued.{Valued}
 use Rattle.expr_type.specs.Operands.{Operand, Plain, Pattern, Stream, value, bits_in, passed, width, number_within}
 use Rattle.expr_type.specs.Operators.{by_itself, all_bits, is_signed, not_too_long}
-use Rattle.expr_type.specs.Selects.{Step, path}
+use Rattle.expr_type.specs.declared.step.Step.{Step}
+use Rattle.expr_type.specs.Selects.{path}
 use Rattle.expr_type.specs.KeywordTypes.{Dim, named_type}
 
 abbrev pub most_of_literal : ℕ
@@ -195,6 +196,15 @@ abbrev pub needed : Context → ℕ → Option ℕ → Typing Called
 needed k at None = broken Quiet
 needed k at (Some n) = from_token (position k.source at) (k.routine n)
 
+-- Its number of formals is there in its text: a call with another number of actuals breaks E405, whatever becomes of the function.
+abbrev pub has_count : Option RoutineText → ℕ → Bool
+has_count None count = true
+has_count (Some t) count = formal_count t == count
+
+abbrev pub needed_with : Context → ℕ → Option ℕ → ℕ → Typing Called
+needed_with k at None count = broken Quiet
+needed_with k at (Some n) count = cond (has_count (k.text n) count) (needed k at (Some n)) (broken (At (position k.source at) 405))
+
 abbrev pub passed_to : Source → Formal × Operand → Checked Expr
 passed_to k p = passed k p.0.local.of p.1
 
@@ -204,7 +214,7 @@ call_of k first name c os =
     (where_whole (all_of (map (passed_to k) (zip c.of.formals os))) (λ es. Ok (by_itself k first c.of.of (F.Call c.place es))))
 
 abbrev pub call : Context → QualifiedName → List (Typing Operand) → Typing Valued
-call k of xs = both (needed k of.name (k.finds of)) (all xs) (λ c os. rule (call_of k.source (qualified_first of) of.name c os))
+call k of xs = both (needed_with k of.name (k.finds of) (length xs)) (all xs) (λ c os. rule (call_of k.source (qualified_first of) of.name c os))
 
 -- Streams. A part is any value, or a stream; a number there has a size (E501).
 abbrev pub is_streamed_part : Source → Operand → Checked Valued

@@ -3,7 +3,7 @@ pub mod Typings
 pub mod Shapes
 pub mod Literals
 pub mod Names
-pub mod Streams
+pub mod Uses
 pub mod Operands
 pub mod Operators
 pub mod Selects

@@ -1,10 +1,11 @@
 -- What names stand for where something is typed.
-use Rattle.std.specs.Prelude.{ℕ, ◌-◌, Bool, true, false, ◌&&◌, ◌==◌, cond, List, [], ◌∷◌, ◌++◌, Option, Some, None, slice_get}
+use Rattle.std.specs.Prelude.{ℕ, ◌-◌, Bool, true, false, ◌&&◌, ◌==◌, cond, List, [], ◌∷◌, ◌++◌, length, Option, Some, None, slice_get}
 use Rattle.std.specs.Str.{bytes_eq}
 use Rattle.sv_source.specs.declared.token.Place.{Place}
 use Rattle.sv_source.specs.declared.token.Spot.{Spot}
 use Rattle.sv_source.specs.declared.token.Token.{Token}
 use Rattle.sv_tree.specs.declared.functions.Function as T
+use Rattle.sv_tree.specs.declared.functions.FormalList.{FormalList}
 use Rattle.sv_tree.specs.declared.functions.Task.{Task}
 use Rattle.sv_tree.specs.declared.names.QualifiedName.{QualifiedName}
 use Rattle.sv_types.specs.declared.types.SvType.{SvType}
@@ -41,6 +42,15 @@ pub data RoutineText : Type 0 where
 pub record Source : Type 0 where
   pub tokens : List Token
   pub instance : ℕ
+
+-- how many formals it has
+abbrev pub formals_in : Option FormalList → ℕ
+formals_in None = 0
+formals_in (Some l) = length l.formals
+
+abbrev pub formal_count : RoutineText → ℕ
+formal_count (OfFunction f) = formals_in f.formals
+formal_count (OfTask t) = formals_in t.formals
 
 -- Where a text stands: the tokens and the instance; by number of declaration what the names of the text stand for so far; the
 -- declaration that a name finds at its token; the declaration that stands at a token; which declarations are instances and

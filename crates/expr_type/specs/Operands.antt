@@ -1,5 +1,5 @@
 -- Typed expressions as they stand in others: alone, or as what is given to a target.
-use Rattle.std.specs.Prelude.{ℕ, ◌^◌, max, Bool, true, false, ◌&&◌, ◌==◌, nat_lt, not, cond, ℤ, int_le, List, [], ◌∷◌, length, Option, Some, None, Ok, Err}
+use Rattle.std.specs.Prelude.{ℕ, ◌^◌, max, Bool, true, false, ◌&&◌, nat_lt, not, cond, ℤ, int_le, List, [], ◌∷◌, Option, Some, None, Ok, Err}
 use Rattle.b4_core.specs.declared.bit.Bit4.TheVariants.{X}
 use Rattle.b4_core.specs.Vectors.{known, number}
 use Rattle.sv_types.specs.declared.expression.Expr.{Expr}
@@ -18,7 +18,7 @@ use Rattle.expr_type.specs.declared.operand.Valued.{Valued}
 use Rattle.expr_type.specs.Breaks.{At}
 use Rattle.expr_type.specs.Typings.{lesser, Checked, Typing, where_whole, refused, unless, at_all, checked, rule, by_functions}
 use Rattle.expr_type.specs.Shapes.{most_arithmetic, most_bits, is_unpacked, is_assignable, is_plain_to_enum}
-use Rattle.expr_type.specs.Streams.{holds_stream}
+use Rattle.expr_type.specs.Uses.{holds_stream, names_any}
 use Rattle.expr_type.specs.Names.{Source, position}
 
 -- Operators do arithmetic and compare by order at up to 128 bits: those in an operand that are too wide in a context of a width. In
@@ -67,7 +67,8 @@ has_bits k v = refused (is_unpacked v.expr.of) (position k v.first) 508 (Ok v)
 abbrev pub bits_in : Source → Typing Operand → Typing Valued
 bits_in k x = checked (value k x) (λ v. rule (has_bits k v))
 
--- What is given to a target of a type (clauses 6.19.3, 10.8 and 11.4.14). An enum takes only its own type.
+-- What is given to a target of a type (clauses 6.19.3, 10.8 and 11.4.14). An enum takes only its own type, but a stream is
+-- converted by its bits.
 abbrev pub is_plain : Source → SvType → Valued → Checked Expr
 is_plain k t v = refused (is_plain_to_enum t v.expr.of) (position k v.first) 503 (Ok v.expr)
 
@@ -78,9 +79,7 @@ is_given k t v =
 
 abbrev pub is_streamed : Source → SvType → Valued → Checked Expr
 is_streamed k t v =
-    refused (nat_lt (width_of t) (width v)) (position k v.first) 501
-    (refused (is_plain_to_enum t v.expr.of) (position k v.first) 503
-    (refused (nat_lt most_bits (width_of t)) (position k v.first) 701 (Ok v.expr)))
+    refused (nat_lt (width_of t) (width v)) (position k v.first) 501 (refused (nat_lt most_bits (width_of t)) (position k v.first) 701 (Ok v.expr))
 
 -- an assignment
 abbrev pub given : Source → SvType → Operand → Checked Expr
@@ -107,9 +106,6 @@ unstreamed k x = checked x (λ o. rule (no_stream k o))
 -- 65,536 turns of each loop and 2^20 statements (E608). Other rules on them stand between these.
 abbrev pub nothing_held : List Function → Around
 nothing_held fs = record { now = λ q. X; holds = λ n. false; callee = callees fs }
-
-abbrev pub names_any : Expr → Bool
-names_any e = not (length (meaning e).names == 0)
 
 -- a stream as a constant
 abbrev pub constant_stream : {A : Type 0} → Source → Valued → Checked A

@@ -191,7 +191,7 @@ unary_of op k at v = taking k at (v ∷ []) (by_prefix (unary_kind op) k at v)
 
 -- `?:`. Arms of one enum give that enum; unpacked arms break E504.
 abbrev pub chosen_type : Valued → Valued → SvType
-chosen_type l r = cond (is_same_enum (enum_of l.expr.of) (enum_of r.expr.of)) l.expr.of (both_type l r)
+chosen_type l r = cond (is_same_enum l.expr.of r.expr.of) l.expr.of (both_type l r)
 
 abbrev pub choice_of : Source → ℕ → Valued → Valued → Valued → Checked Valued
 choice_of k at on l r =

@@ -18,7 +18,7 @@ use Rattle.expr_type.specs.Breaks.{At, Quiet}
 use Rattle.expr_type.specs.Typings.{Checked, where_whole, all_of, least_of_all}
 use Rattle.expr_type.specs.Names.{Context, Source, Thing, Signal, Local, Constant, TypeName, Interface, Other, Nothing, position, thing, word}
 use Rattle.expr_type.specs.declared.operand.Valued.{Valued}
-use Rattle.expr_type.specs.Operands.{Operand, passed, has_bits, number_of}
+use Rattle.expr_type.specs.Operands.{Operand, passed, has_bits, is_value, number_of}
 use Rattle.expr_type.specs.Operands as V
 use Rattle.sv_types.specs.Layouts.{width_of}
 use Rattle.expr_type.specs.Operators.{expr_at, by_itself, not_too_long}
@@ -164,9 +164,10 @@ default_types rest p = elim p.0 [
   | I.Spread ↦ leaves (levels p.1) rest p.1
 ]
 
--- what is given to each of some types: of the breaks the least counts
+-- what is given to each of some types, of whose breaks the least counts; or to none, where it is looked at by itself
 abbrev pub tried : Source → Operand → List SvType → Checked (List Expr)
-tried k v ts = least_of_all (map (λ t. passed k t v) ts)
+tried k v [] = where_whole (is_value k v) (λ u. Ok [])
+tried k v (t ∷ ts) = least_of_all (map (λ u. passed k u v) (t ∷ ts))
 
 -- all items in the order of the text
 abbrev pub tries : Source → ℕ → Rest → List Taken → ℕ → List Item → List (Checked (List Expr))

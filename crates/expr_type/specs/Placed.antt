@@ -13,7 +13,8 @@ use Rattle.sv_tree.specs.declared.operators.UnaryOperator.{UnaryOperator}
 use Rattle.sv_tree.specs.Extents.{qualified_first}
 use Rattle.sv_tree.specs.declared.expressions.Select.{Select-F}
 use Rattle.sv_tree.specs.declared.names.QualifiedName.{QualifiedName}
-use Rattle.expr_type.specs.Selects.{Step, Member, Index, Part, Slide}
+use Rattle.expr_type.specs.declared.step.Step.{Step}
+use Rattle.expr_type.specs.declared.step.Step.TheVariants.{Member, Index, Part, Slide}
 use Rattle.expr_type.specs.Forms.{SelectMeaning}
 use Rattle.expr_type.specs.Expressions.{Meaning, expr_step, select_step}
 

@@ -12,6 +12,8 @@ use Rattle.expr_type.specs.Shapes.{is_unpacked, is_indexed, element_of, members_
 use Rattle.expr_type.specs.Names.{Source, position, word}
 use Rattle.expr_type.specs.declared.operand.Number.{Number}
 use Rattle.expr_type.specs.declared.operand.Valued.{Valued}
+use Rattle.expr_type.specs.declared.step.Step.{Step}
+use Rattle.expr_type.specs.declared.step.Step.TheVariants.{Member, Index, Part, Slide}
 use Rattle.expr_type.specs.Operands.{Operand, width, bits_in, number_within}
 use Rattle.expr_type.specs.Operators.{by_itself, not_too_long}
 
@@ -82,13 +84,7 @@ slide k opening up v i n =
     refused (is_unpacked v.expr.of) (position k opening) 508
     (not_too_long k opening (width_of of) (Ok (by_itself k v.first of (F.Slide v.expr i.expr (unsigned_abs n) up))))
 
--- A step of a path, whose own parts are whole.
-pub data Step : Type 0 where
-  Member : ℕ → Step
-  Index : ℕ → Valued → Step
-  Part : ℕ → Number → Number → Step
-  Slide : ℕ → Bool → Valued → Number → Step
-
+-- a step of a path, whose own parts are whole
 abbrev pub stepped : Source → Valued → Step → Checked Valued
 stepped k v (Member name) = member_of k name v
 stepped k v (Index opening i) = element k opening v i

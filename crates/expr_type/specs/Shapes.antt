@@ -1,11 +1,11 @@
 -- What the rules ask of types, and the types of operators (IEEE 1800-2017 clauses 6.11, 6.22, 7.2 to 7.4 and 11.6).
-use Rattle.std.specs.Prelude.{ℕ, Bool, true, false, ◌&&◌, ◌||◌, ◌==◌, not, cond, ℤ, pos, ◌-ℤ◌, List, [], Option, Some, None}
+use Rattle.std.specs.Prelude.{ℕ, Bool, true, false, ◌&&◌, ◌||◌, ◌==◌, not, cond, ℤ, pos, ◌-ℤ◌, List, [], Option, Some, None, is_some}
 use Rattle.std.specs.List.{list_all}
 use Rattle.sv_types.specs.declared.types.SvType.{SvType, SvType-F, out-SvType, fold-SvType}
 use Rattle.sv_types.specs.declared.types.SvType.TheVariants.{Scalar, PackedArray}
 use Rattle.sv_types.specs.declared.types.Member.{Member}
 use Rattle.sv_types.specs.Layouts.{layout, count_of}
-use Rattle.pattern_fit.specs.Same.{same_step, same_member}
+use Rattle.pattern_fit.specs.Same.{same_step, same_member, same_type}
 
 abbrev pub most_bits : ℕ
 most_bits = 65536
@@ -48,13 +48,20 @@ enum_of t = elim (out-SvType t) [
   | SvType-F.UnpackedArray l r item ↦ None
 ]
 
+abbrev pub is_enum : SvType → Bool
+is_enum t = is_some (enum_of t)
+
+-- one enum (clause 6.22.1)
 abbrev pub is_number : Option ℕ → ℕ → Bool
 is_number None n = false
 is_number (Some m) n = m == n
 
-abbrev pub is_same_enum : Option ℕ → Option ℕ → Bool
-is_same_enum None u = false
-is_same_enum (Some n) u = is_number u n
+abbrev pub is_same_number : Option ℕ → Option ℕ → Bool
+is_same_number None u = false
+is_same_number (Some n) u = is_number u n
+
+abbrev pub is_same_enum : SvType → SvType → Bool
+is_same_enum t u = is_same_number (enum_of t) (enum_of u) && same_type t u
 
 -- Unpacked arrays match by their sizes and elements, other types where they are one type (clause 6.22.2).
 abbrev pub same_count : ℤ → ℤ → ℤ → ℤ → Bool
@@ -84,11 +91,14 @@ abbrev pub is_assignable : SvType → SvType → Bool
 is_assignable t u = cond (is_unpacked t) (matches t u) (not (is_unpacked u))
 
 abbrev pub is_plain_to_enum : SvType → SvType → Bool
-is_plain_to_enum t u = elim (enum_of t) [ None ↦ false | Some n ↦ not (is_number (enum_of u) n) ]
+is_plain_to_enum t u = is_enum t && not (is_same_enum t u)
 
 -- an element of what can be indexed: a packed struct, a union and an enum as the vector of their bits
 abbrev pub bit_of_type : SvType → SvType
 bit_of_type t = Scalar (not (list_all (λ b. b) (layout t).two_state)) false
+
+abbrev pub element_of_enum : SvType → SvType → SvType
+element_of_enum t base = elim (out-SvType base) [ SvType-F.PackedArray l r s item ↦ item | other ↦ bit_of_type t ]
 
 abbrev pub element_of : SvType → SvType
 element_of t = elim (out-SvType t) [
@@ -96,7 +106,7 @@ element_of t = elim (out-SvType t) [
   | SvType-F.PackedArray l r s item ↦ item
   | SvType-F.Struct id packed s ms ↦ bit_of_type t
   | SvType-F.Union id s ms ↦ bit_of_type t
-  | SvType-F.Enum id base names ↦ elim (out-SvType base) [ SvType-F.PackedArray l r s item ↦ item | other ↦ bit_of_type t ]
+  | SvType-F.Enum id base names ↦ element_of_enum t base
   | SvType-F.UnpackedArray l r item ↦ item
 ]
 

@@ -53,7 +53,7 @@ use Rattle.expr_type.specs.Names.{Called, Context, LocalId, position, spot, with
 use Rattle.expr_type.specs.declared.operand.Valued.{Valued}
 use Rattle.expr_type.specs.Operands.{is_constant_value, constant_alone, constant_of, first_of, Operand, Plain, Pattern, Stream, given, no_stream, passed, unstreamed, is_value, bits_in, too_wide, width, value_by}
 use Rattle.expr_type.specs.Operators.{by_itself, expr_at, exprs, binary_of, not_too_long}
-use Rattle.expr_type.specs.Forms.{cast_expr, needed}
+use Rattle.expr_type.specs.Forms.{cast_expr, needed_with}
 use Rattle.expr_type.specs.Expressions as E
 use Rattle.expr_type.specs.Expressions.{Meaning, meaning, operand, select_meaning}
 use Rattle.expr_type.specs.Types.{TypeFound, dims, typed_text, declared_type}
@@ -85,7 +85,7 @@ is_later _ = false
 -- a stream is no operand
 abbrev pub as_operand : Context → Target → Checked Valued
 as_operand k (ToPath v) = Ok v
-as_operand k (ToParts v vs) = Ok v
+as_operand k (ToParts v vs e) = Ok v
 as_operand k (ToStream v) = Err (At (position k.source v.first) 512)
 
 abbrev pub combined : Context → ℕ → Option BinaryOperator → Target → Operand → Checked Operand
@@ -145,10 +145,14 @@ abbrev pub initial_value : Context → SvType → Option Initializer → Typing 
 initial_value k t None = whole None
 initial_value k t (Some i) = checked (operand k i.value) (λ o. rule (where_whole (given k.source t o) (λ e. Ok (Some e))))
 
-abbrev pub local_of : Context → ℕ → SvType → Option Expr → Checked Declared
+abbrev pub local_of : Context → ℕ → SvType → Option Expr → Declared
 local_of k at t e =
     let id = local_id k at t in
-    not_too_long k.source at (width_of t) (Ok (record nothing { ids = id ∷ []; locals = record { number = id.number; of = t; initial = e } ∷ [] }))
+    record nothing { ids = id ∷ []; locals = record { number = id.number; of = t; initial = e } ∷ [] }
+
+-- a local's type has at most 65,536 bits (E701), whatever becomes of its value
+abbrev pub local_type : Context → ℕ → Typing SvType → Typing SvType
+local_type k at t = checked t (λ u. rule (not_too_long k.source at (width_of u) (Ok u)))
 
 -- of a broken type the value is looked at by itself
 abbrev pub with_type : Context → Option SvType → Option Initializer → Typing (Option Expr)
@@ -158,7 +162,7 @@ with_type k (Some t) i = initial_value k t i
 
 abbrev pub variable : Option SvType → Declarator → Context → Typing Declared
 variable of d k =
-    both_by (declared_type k of d.unpacked) (λ t. with_type k t d.initial) (λ t e. rule (local_of k d.name t e))
+    both_by (local_type k d.name (declared_type k of d.unpacked)) (λ t. with_type k t d.initial) (λ t e. whole (local_of k d.name t e))
 
 abbrev pub type_names : TypeFound → Declared
 type_names f = record nothing { values = f.names }
@@ -399,10 +403,12 @@ abbrev pub first_by : Context → LoopStart → Option TypeFound → Typing Expr
 first_by k l None = checked (operand k l.value) (λ o. broken Quiet)
 first_by k l (Some f) = checked (operand k l.value) (λ o. rule (loop_first k f.of o))
 
+abbrev pub loop_type : Context → LoopStart → Typing TypeFound
+loop_type k l = checked (typed_text l.of k) (λ f. rule (not_too_long k.source l.name (width_of f.of) (Ok f)))
+
 abbrev pub loop_variable : Context → LoopStart → Typing LoopVariable
 loop_variable k l =
-    both_by (typed_text l.of k) (first_by k l)
-    (λ f e. rule (not_too_long k.source l.name (width_of f.of) (Ok (record { id = local_id k l.name f.of; first = e }))))
+    both_by (loop_type k l) (first_by k l) (λ f e. whole (record { id = local_id k l.name f.of; first = e }))
 
 abbrev pub in_loop : Context → Option LoopVariable → Context
 in_loop k None = k
@@ -499,7 +505,7 @@ call_stmt_of k at c as' =
 
 abbrev pub call_stmt : Context → QualifiedName → List Meaning → Typing R.Stmt
 call_stmt k of es =
-    both_by (needed k of.name (k.finds of)) (λ o. all (actuals k (ways o) es)) (λ c as'. rule (call_stmt_of k of.name c as'))
+    both_by (needed_with k of.name (k.finds of) (length es)) (λ o. all (actuals k (ways o) es)) (λ c as'. rule (call_stmt_of k of.name c as'))
 
 -- statements, form by form
 abbrev pub StmtMeaning : Type 0

@@ -1,13 +1,15 @@
 -- What is assigned to (IEEE 1800-2017 clauses 10.3, 10.4, 11.4.12 and 11.4.14).
 use Rattle.std.specs.Prelude.{ℕ, ◌%◌, Bool, ◌&&◌, ◌==◌, nat_lt, not, List, [], ◌∷◌, map, Option, Some, None, Ok, Err}
+use Rattle.std.specs.List.{list_any}
 use Rattle.sv_tree.specs.declared.expressions.SliceSize.{SliceSize}
 use Rattle.sv_tree.specs.declared.names.QualifiedName.{QualifiedName}
 use Rattle.sv_tree.specs.declared.statements.Lvalue.{Lvalue, Lvalue-F, fold-Lvalue}
 use Rattle.sv_types.specs.declared.expression.Expr.{Expr}
 use Rattle.expr_type.specs.Breaks.{At}
-use Rattle.expr_type.specs.Typings.{Checked, Typing, whole, rule, checked, both, all, where_whole, refused}
-use Rattle.expr_type.specs.Shapes.{is_unpacked}
-use Rattle.expr_type.specs.Names.{Context, position}
+use Rattle.expr_type.specs.Typings.{Checked, Typing, whole, rule, checked, both, all, lesser, where_whole, refused}
+use Rattle.sv_types.specs.declared.types.SvType.{SvType}
+use Rattle.expr_type.specs.Shapes.{is_enum, is_unpacked}
+use Rattle.expr_type.specs.Names.{Context, Source, position}
 use Rattle.expr_type.specs.declared.operand.Valued.{Valued}
 use Rattle.expr_type.specs.Operands.{Operand, Plain, Pattern, Stream, given, width}
 use Rattle.expr_type.specs.Operators.{concat_of, exprs, all_bits}
@@ -15,25 +17,33 @@ use Rattle.expr_type.specs.Forms.{reverses, stream_of}
 use Rattle.expr_type.specs.Expressions.{select_meaning, slice_meaning}
 use Rattle.expr_type.specs.TargetNames.{named_target}
 
--- A target: a path; a concatenation with its parts; or a stream, with the bits of its slices where it reverses them.
+-- A target: a path; a concatenation with its parts, and whether one of them is an enum; or a stream, with the bits of its slices where
+-- it reverses them.
 pub data Target : Type 0 where
   ToPath : Valued → Target
-  ToParts : Valued → List Valued → Target
+  ToParts : Valued → List Valued → Bool → Target
   ToStream : Valued → Target
 
 abbrev pub whole_of : Target → Valued
 whole_of (ToPath v) = v
-whole_of (ToParts v vs) = v
+whole_of (ToParts v vs e) = v
 whole_of (ToStream v) = v
 
 -- a part of a concatenated target has bits (E508), and is no stream (E512)
-abbrev pub is_target_part : Context → Target → Checked Valued
-is_target_part k (ToPath v) = refused (is_unpacked v.expr.of) (position k.source v.first) 508 (Ok v)
-is_target_part k (ToParts v vs) = Ok v
+pub record TargetPart : Type 0 where
+  pub of : Valued
+  pub has_enum : Bool
+
+abbrev pub is_target_part : Context → Target → Checked TargetPart
+is_target_part k (ToPath v) =
+    refused (is_unpacked v.expr.of) (position k.source v.first) 508 (Ok (record { of = v; has_enum = is_enum v.expr.of }))
+is_target_part k (ToParts v vs e) = Ok (record { of = v; has_enum = e })
 is_target_part k (ToStream v) = Err (At (position k.source v.first) 512)
 
-abbrev pub joined_target : Context → ℕ → List Valued → Checked Target
-joined_target k opening vs = where_whole (concat_of k.source opening (exprs vs)) (λ v. Ok (ToParts v vs))
+abbrev pub joined_target : Context → ℕ → List TargetPart → Checked Target
+joined_target k opening ps =
+    let vs = map (λ (p : TargetPart). p.of) ps in
+    where_whole (concat_of k.source opening (exprs vs)) (λ v. Ok (ToParts v vs (list_any (λ (p : TargetPart). p.has_enum) ps)))
 
 -- a stream that reverses its slices has whole slices alone (E511)
 abbrev pub stream_target : Context → ℕ → Bool → ℕ → List Valued → Checked Target
@@ -56,7 +66,7 @@ target_step (Lvalue-F.Name name selects) k in_statement =
     checked (named_target k in_statement (simple_name name) (map select_meaning selects)) (λ v. whole (ToPath v))
 target_step (Lvalue-F.Concatenation opening targets closing) k in_statement =
     checked (all (map (λ (t : TargetMeaning). checked (t k in_statement) (λ u. rule (is_target_part k u))) targets))
-    (λ vs. rule (joined_target k opening vs))
+    (λ ps. rule (joined_target k opening ps))
 target_step (Lvalue-F.Stream opening operator at size inner_opening targets inner_closing closing) k in_statement =
     both (slice_or_one k size) (all (map (λ (t : TargetMeaning). checked (t k in_statement) (λ u. whole (whole_of u))) targets))
     (λ n vs. rule (stream_target k opening (reverses operator) n vs))
@@ -68,7 +78,7 @@ target = fold-Lvalue TargetMeaning target_step
 -- what an assignment writes, in order
 abbrev pub parts_of : Target → List Expr
 parts_of (ToPath v) = v.expr ∷ []
-parts_of (ToParts v vs) = exprs vs
+parts_of (ToParts v vs e) = exprs vs
 parts_of (ToStream v) = v.expr ∷ []
 
 -- A target stream takes no more bits than its value has (E501). What is given to another target is assigned to its bits.
@@ -78,7 +88,16 @@ has_enough k v (Plain u) =
 has_enough k v (Pattern tick of) = Err (At (position k.source tick) 505)
 has_enough k v (Stream u) = refused (nat_lt (width u) (width v)) (position k.source v.first) 501 (Ok u.expr)
 
+-- An enum in a concatenated target is given plain bits (E503), but those of a stream are converted.
+abbrev pub with_no_enum : Source → Bool → ℕ → Checked Expr → Checked Expr
+with_no_enum k e first x = where_whole (lesser (refused e (position k first) 503 (Ok e)) x) (λ p. Ok p.1)
+
+abbrev pub given_to_parts : Source → SvType → Bool → Operand → Checked Expr
+given_to_parts k t e (Plain u) = with_no_enum k e u.first (given k t (Plain u))
+given_to_parts k t e (Pattern tick of) = with_no_enum k e tick (of tick t)
+given_to_parts k t e (Stream u) = given k t (Stream u)
+
 abbrev pub assigned : Context → Target → Operand → Checked Expr
 assigned k (ToPath v) o = given k.source v.expr.of o
-assigned k (ToParts v vs) o = given k.source v.expr.of o
+assigned k (ToParts v vs e) o = given_to_parts k.source v.expr.of e o
 assigned k (ToStream v) o = has_enough k v o

@@ -27,7 +27,7 @@ use Rattle.sv_types.specs.Values.{value_of_bits}
 use Rattle.expr_type.specs.Breaks.{Quiet}
 use Rattle.expr_type.specs.Typings.{Checked, Typing, whole, broken, rule, by_functions, checked, both, both_by, all, refused}
 use Rattle.expr_type.specs.Shapes.{sign_of, is_unpacked}
-use Rattle.expr_type.specs.Names.{Context, position, thing, word, with_values}
+use Rattle.expr_type.specs.Names.{Context, Source, position, thing, word, with_values}
 use Rattle.expr_type.specs.Operands.{constant_in, is_number_in}
 use Rattle.expr_type.specs.Operators.{not_too_long}
 use Rattle.expr_type.specs.KeywordTypes.{Dim, keyword_type, implicit_type, unpacked}
@@ -121,12 +121,12 @@ name_values k base lost before last (n ∷ ns) =
     (λ o. name_values (name_behind k base o) base (not (is_some o)) (goes_on_from o before) (last_number o) ns)
     (λ v vs. whole (v ∷ vs))
 
-abbrev pub enum_name : Context → SvType → NameValue → EnumName
-enum_name k base v = record { name = word k.source v.at; value = vec (width_of base) v.number }
+abbrev pub enum_name : Source → SvType → NameValue → EnumName
+enum_name k base v = record { name = word k v.at; value = vec (width_of base) v.number }
 
 abbrev pub enum_found : Context → ℕ → SvType → List NameValue → TypeFound
 enum_found k at base vs =
-    let t = Enum at base (map (enum_name k base) vs) in
+    let t = Enum at base (map (enum_name k.source base) vs) in
     record { of = t; names = map (value_in k t) vs }
 
 -- Structs and unions. A member of a packed one is packed (E404), and those of a union have one width (E506).
@@ -159,22 +159,22 @@ all_fields k inside (m ∷ ms) =
     both_by (m k inside) (λ o. all_fields (names_behind k o) inside ms)
     (λ f g. whole (record { fields = f.fields ++ g.fields; names = f.names ++ g.names }))
 
-abbrev pub member : Context → Field → Member
-member k f = record { name = word k.source f.at; of = f.of }
+abbrev pub member : Source → Field → Member
+member k f = record { name = word k f.at; of = f.of }
 
 abbrev pub first_width : List Field → ℕ
 first_width [] = 0
 first_width (f ∷ fs) = width_of f.of
 
-abbrev pub same_widths : Context → ℕ → List Field → Checked SvType → Checked SvType
+abbrev pub same_widths : Source → ℕ → List Field → Checked SvType → Checked SvType
 same_widths k w [] other = other
-same_widths k w (f ∷ fs) other = refused (not (width_of f.of == w)) (position k.source f.at) 506 (same_widths k w fs other)
+same_widths k w (f ∷ fs) other = refused (not (width_of f.of == w)) (position k f.at) 506 (same_widths k w fs other)
 
 abbrev pub sign_by : Option Packing → Bool
 sign_by None = false
 sign_by (Some p) = elim p.signing [ None ↦ false | Some s ↦ elim s [ Signed at ↦ true | Unsigned at ↦ false ] ]
 
-abbrev pub aggregate : Context → Aggregate → Option Packing → List Field → Checked SvType
+abbrev pub aggregate : Source → Aggregate → Option Packing → List Field → Checked SvType
 aggregate k (A.Struct at) p fs = Ok (Struct at (is_some p) (sign_by p) (map (member k) fs))
 aggregate k (A.Union at) p fs = same_widths k (first_width fs) fs (Ok (Union at (sign_by p) (map (member k) fs)))
 
@@ -194,7 +194,7 @@ type_step (TypeText-F.Keyword of ds) k = checked (dims k ds) (λ d. whole (only 
 type_step (TypeText-F.Structure of packing opening members closing ds) k =
     both_by
     (checked (all_fields k (is_some packing) members)
-    (λ f. checked (rule (aggregate k of packing f.fields)) (λ t. whole (record { of = t; names = f.names }))))
+    (λ f. checked (rule (aggregate k.source of packing f.fields)) (λ t. whole (record { of = t; names = f.names }))))
     (λ o. dims (behind o) ds)
     (λ f d. checked (dimensioned k.source f.of (whole d)) (λ t. whole (record f { of = t })))
   where

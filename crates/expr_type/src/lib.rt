@@ -9,11 +9,15 @@ mod halt;
 mod kinds;
 mod operand;
 mod source;
+mod step;
+mod uses;
 
 pub use halt::Halt;
 pub use kinds::{BinaryKind, UnaryKind};
 pub use operand::{Number, Valued};
 pub use source::Source;
+pub use step::Step;
+pub use uses::Uses;
 
 /// Where breaks stand in the order of the text, the first of them is the least by turn and rule.
 pub fn firsts_are_least()

@@ -51,7 +51,9 @@ pub enum Offset {
 /// What is passed as a signed number of so many bits.
 #[derive(Drop)]
 pub struct Argument {
+    /// The expression.
     pub expr: VExpr,
+    /// How many bits it has.
     pub bits: u32,
 }
 
@@ -72,8 +74,8 @@ fn with_zero(alloc: Global, e: VExpr) -> Result<VExpr, AllocError>
     Ok(concatenation(items))
 }
 
-/// An index as a signed number.
-fn signed_index(alloc: Global, index: Index) -> Result<Argument, AllocError>
+/// An index as a signed number. Or want of memory.
+pub fn signed_index(alloc: Global, index: Index) -> Result<Argument, AllocError>
     requires { index.width ≤ 64 }
     ensures bits { IfOk result (λ x. x.bits ≤ 65) }
     ensures number { IfOk result (λ x. IsSignedIndex index (meaning x.expr) x.bits) }
@@ -96,7 +98,7 @@ fn signed_index(alloc: Global, index: Index) -> Result<Argument, AllocError>
 }
 
 /// An offset as the base of a select.
-pub(crate) fn base_of(offset: Offset) -> VExpr
+pub fn base_of(offset: Offset) -> VExpr
     ensures base { IsBase offset (meaning result) }
     ensures names { NamesOffset offset (meaning result) }
 {
@@ -261,8 +263,8 @@ fn is_plain(of: &SvType, up: bool, n: u32) -> bool
     true
 }
 
-/// Where so many elements begin, from an index on.
-pub(crate) fn offset_of(
+/// Where so many elements begin, from an index on. Or want of memory.
+pub fn offset_of(
     alloc: Global,
     of: &SvType,
     up: bool,

@@ -25,8 +25,8 @@ pub struct Rank {
     pub rank: VExpr,
 }
 
-/// An expression in braces, which is unsigned and valued alone.
-pub(crate) fn braced(alloc: Global, e: VExpr) -> Result<VExpr, AllocError>
+/// An expression in braces, which is unsigned and valued alone. Or want of memory.
+pub fn braced(alloc: Global, e: VExpr) -> Result<VExpr, AllocError>
     ensures { IfOk result (λ b. meaning b ≡ terms.braced (meaning e)) }
 {
     let mut items: VExprs = Items::from_vec(Vec::new(alloc));

@@ -1,3 +1,4 @@
 pub mod Tables
 pub mod Covers
 pub mod Forms
+pub mod Members

@@ -7,3 +7,4 @@ mod same;
 
 pub use fitting::fit;
 pub use pattern::{FitFail, Key, Keys, Pattern, PatternItem, PatternItems, Rest};
+pub use same::is_same;

@@ -1,13 +1,16 @@
 //! When two types are one type.
 
-ghost use Rattle.std.specs.Prelude.{◌≡◌};
-ghost use Rattle.pattern_fit.specs.Same.{same_type, of_scalar, of_struct, of_union, of_enum};
+ghost use Rattle.std.specs.Prelude.{◌≡◌, map};
+ghost use Rattle.pattern_fit.specs.Same as same;
+ghost use Rattle.pattern_fit.specs.Same.{same_type, of_member, of_scalar};
 ghost use Rattle.sv_types.specs.declared.types.SvType.{out-SvType};
 
-use sv_types::SvType;
+use sv_types::{Member, SvType};
 
-// Whether two types are one: structs, unions and enums by their declarations, others by their form.
-pub(crate) fn is_same(a: &SvType, b: &SvType) -> bool
+/// Whether two types are one (IEEE 1800-2017 clause 6.22.1): structs, unions and enums by their declarations and the types in them,
+/// others by their form.
+#[cycle(same)]
+pub fn is_same(a: &SvType, b: &SvType) -> bool
     ensures { result ≡ same_type a.now b.now }
 {
     match a {
@@ -30,9 +33,42 @@ pub(crate) fn is_same(a: &SvType, b: &SvType) -> bool
             SvType::Enum { .. } => false,
             SvType::UnpackedArray { .. } => false,
         },
-        SvType::Struct { id, .. } => is_struct(*id, b),
-        SvType::Union { id, .. } => is_union(*id, b),
-        SvType::Enum { id, .. } => is_enum(*id, b),
+        SvType::Struct { id, members, .. } => match b {
+            SvType::Struct {
+                id: i,
+                members: others,
+                ..
+            } => *id == *i && same_members(members.as_slice(), others.as_slice()),
+            SvType::Scalar { .. } => false,
+            SvType::PackedArray { .. } => false,
+            SvType::Union { .. } => false,
+            SvType::Enum { .. } => false,
+            SvType::UnpackedArray { .. } => false,
+        },
+        SvType::Union { id, members, .. } => match b {
+            SvType::Union {
+                id: i,
+                members: others,
+                ..
+            } => *id == *i && same_members(members.as_slice(), others.as_slice()),
+            SvType::Scalar { .. } => false,
+            SvType::PackedArray { .. } => false,
+            SvType::Struct { .. } => false,
+            SvType::Enum { .. } => false,
+            SvType::UnpackedArray { .. } => false,
+        },
+        SvType::Enum { id, base, .. } => match b {
+            SvType::Enum {
+                id: i,
+                base: other,
+                ..
+            } => *id == *i && is_same(base.get(), other.get()),
+            SvType::Scalar { .. } => false,
+            SvType::PackedArray { .. } => false,
+            SvType::Struct { .. } => false,
+            SvType::Union { .. } => false,
+            SvType::UnpackedArray { .. } => false,
+        },
         SvType::UnpackedArray { left, right, item } => match b {
             SvType::UnpackedArray {
                 left: l,
@@ -48,6 +84,22 @@ pub(crate) fn is_same(a: &SvType, b: &SvType) -> bool
     }
 }
 
+// Whether members have the same types one by one.
+#[cycle(same)]
+fn same_members(a: &[Member], b: &[Member]) -> bool
+    ensures { result ≡ same.same_members (map of_member a.now) b.now }
+{
+    if a.len() != b.len() {
+        return false;
+    }
+    for (n, member) in a.iter().enumerate() {
+        if !is_same(&member.of, &b[n].of) {
+            return false;
+        }
+    }
+    true
+}
+
 fn is_scalar(four: bool, signed: bool, t: &SvType) -> bool
     ensures { result ≡ of_scalar four signed (out-SvType t.now) }
 {
@@ -57,45 +109,6 @@ fn is_scalar(four: bool, signed: bool, t: &SvType) -> bool
         SvType::Struct { .. } => false,
         SvType::Union { .. } => false,
         SvType::Enum { .. } => false,
-        SvType::UnpackedArray { .. } => false,
-    }
-}
-
-fn is_struct(id: u32, t: &SvType) -> bool
-    ensures { result ≡ of_struct id (out-SvType t.now) }
-{
-    match t {
-        SvType::Struct { id: i, .. } => id == *i,
-        SvType::Scalar { .. } => false,
-        SvType::PackedArray { .. } => false,
-        SvType::Union { .. } => false,
-        SvType::Enum { .. } => false,
-        SvType::UnpackedArray { .. } => false,
-    }
-}
-
-fn is_union(id: u32, t: &SvType) -> bool
-    ensures { result ≡ of_union id (out-SvType t.now) }
-{
-    match t {
-        SvType::Union { id: i, .. } => id == *i,
-        SvType::Scalar { .. } => false,
-        SvType::PackedArray { .. } => false,
-        SvType::Struct { .. } => false,
-        SvType::Enum { .. } => false,
-        SvType::UnpackedArray { .. } => false,
-    }
-}
-
-fn is_enum(id: u32, t: &SvType) -> bool
-    ensures { result ≡ of_enum id (out-SvType t.now) }
-{
-    match t {
-        SvType::Enum { id: i, .. } => id == *i,
-        SvType::Scalar { .. } => false,
-        SvType::PackedArray { .. } => false,
-        SvType::Struct { .. } => false,
-        SvType::Union { .. } => false,
         SvType::UnpackedArray { .. } => false,
     }
 }

@@ -37,13 +37,18 @@ fn structure(id: u32, members: Vec<Member>) -> SvType {
     }
 }
 
+// struct packed { logic [3:0] lo; }
+fn inner(alloc: Global, id: u32) -> Result<SvType, Fail> {
+    let mut members = Vec::new(alloc);
+    members.push(member(alloc, b"lo", nibble(alloc)?)?)?;
+    Ok(structure(id, members))
+}
+
 // struct packed { logic [3:0] hi; struct packed { logic [3:0] lo; } in; }
 fn nested(alloc: Global) -> Result<SvType, Fail> {
-    let mut inner = Vec::new(alloc);
-    inner.push(member(alloc, b"lo", nibble(alloc)?)?)?;
     let mut outer = Vec::new(alloc);
     outer.push(member(alloc, b"hi", nibble(alloc)?)?)?;
-    outer.push(member(alloc, b"in", structure(1, inner))?)?;
+    outer.push(member(alloc, b"in", inner(alloc, 1)?)?)?;
     Ok(structure(0, outer))
 }
 
@@ -136,19 +141,20 @@ fn items_of_members(rt: HostRuntime) -> Result<(), Fail> {
     Ok(())
 }
 
-// A value of a struct's own type is given to it whole.
+// A value of a struct's own type is given to it whole; that of another declaration, or of one with other members, is not.
 #[test]
 fn own_type(rt: HostRuntime) -> Result<(), Fail> {
     let alloc = rt.alloc();
-    let inner = structure(1, Vec::new(alloc));
-    assert_eq!(rt;
-        taken(alloc, &nested(alloc)?, "hi", Rest::Typed(inner))?.as_slice(),
-        b"0d".as_slice()
-    );
-    let other = structure(2, Vec::new(alloc));
-    assert_eq!(rt;
-        taken(alloc, &nested(alloc)?, "hi", Rest::Typed(other))?.as_slice(),
-        b"0s".as_slice()
-    );
+    let cases = [
+        (inner(alloc, 1)?, "0d"),
+        (inner(alloc, 2)?, "0s"),
+        (structure(1, Vec::new(alloc)), "0s"),
+    ];
+    for (of, want) in cases {
+        assert_eq!(rt;
+            taken(alloc, &nested(alloc)?, "hi", Rest::Typed(of))?.as_slice(),
+            want.as_bytes()
+        );
+    }
     Ok(())
 }

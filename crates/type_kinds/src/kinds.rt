@@ -3,6 +3,7 @@
 ghost use Rattle.std.specs.Prelude.{◌≡◌};
 ghost use Rattle.expr_type.specs.Shapes as shape;
 
+use pattern_fit::is_same;
 use sv_types::SvType;
 
 /// Whether values of a type have no bits that operators take: it is an unpacked struct or array.
@@ -54,6 +55,16 @@ pub fn enum_of(t: &SvType) -> Option<u32>
     }
 }
 
+/// Whether a type is an enum.
+pub fn is_enum(t: &SvType) -> bool
+    ensures { result ≡ shape.is_enum t.now }
+{
+    match enum_of(t) {
+        None => false,
+        Some(_) => true,
+    }
+}
+
 fn is_number(n: Option<u32>, m: u32) -> bool
     ensures { result ≡ shape.is_number n m }
 {
@@ -63,22 +74,25 @@ fn is_number(n: Option<u32>, m: u32) -> bool
     }
 }
 
-/// Whether two types are one enum.
-pub fn is_same_enum(t: &SvType, u: &SvType) -> bool
-    ensures { result ≡ shape.is_same_enum (shape.enum_of t.now) (shape.enum_of u.now) }
+fn is_same_number(n: Option<u32>, m: Option<u32>) -> bool
+    ensures { result ≡ shape.is_same_number n m }
 {
-    match enum_of(t) {
+    match n {
         None => false,
-        Some(n) => is_number(enum_of(u), n),
+        Some(k) => is_number(m, k),
     }
+}
+
+/// Whether two types are one enum (clause 6.22.1).
+pub fn is_same_enum(t: &SvType, u: &SvType) -> bool
+    ensures { result ≡ shape.is_same_enum t.now u.now }
+{
+    is_same_number(enum_of(t), enum_of(u)) && is_same(t, u)
 }
 
 /// Whether the first type is an enum that the second one isn't (clause 6.19.3).
 pub fn is_plain_to_enum(t: &SvType, u: &SvType) -> bool
     ensures { result ≡ shape.is_plain_to_enum t.now u.now }
 {
-    match enum_of(t) {
-        None => false,
-        Some(n) => !is_number(enum_of(u), n),
-    }
+    is_enum(t) && !is_same_enum(t, u)
 }

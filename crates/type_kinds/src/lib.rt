@@ -2,9 +2,13 @@
 #![tactic(auto)]
 
 mod copies;
+mod elements;
 mod kinds;
 mod makes;
 
 pub use copies::copy_type;
-pub use kinds::{enum_of, is_array, is_indexed, is_plain_to_enum, is_same_enum, is_unpacked};
+pub use elements::{element_of, is_two_state};
+pub use kinds::{
+    enum_of, is_array, is_enum, is_indexed, is_plain_to_enum, is_same_enum, is_unpacked,
+};
 pub use makes::{one_bit, vector};

@@ -6,6 +6,7 @@ use Rattle.eval_parts.proofs.Nodes.{nodes}
 use Rattle.eval_forms.specs.Asked.{asked, form_asked, AllFitAsked}
 use Rattle.eval_forms.specs.Callees.{formals_in}
 use Rattle.eval_forms.proofs.AskedLaws.{AllFewer}
+use Rattle.path_flatten.specs.Helping.{Grows}
 use Rattle.expr_lower.specs.Leaves.{IsLowered}
 use Rattle.expr_lower.proofs.AskedLeaves.{EachAsked}
 use Rattle.expr_lower.proofs.Asking.{Made}
@@ -28,5 +29,6 @@ invariant-parts-loop-operand l =
       fits : AllFitAsked (formals_in l.functions) qs;
       fewer : AllFewer (nodes l.e) qs;
       built : EachAsked IsLowered qs;
-      made : Made l.names l.functions qs all (meanings l.made);
+      grows : Grows l.initial.helpers l.helpers;
+      made : Made l.names l.functions l.helpers qs all (meanings l.made);
     }

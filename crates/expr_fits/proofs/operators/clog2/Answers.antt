@@ -1,0 +1,5 @@
+use Rattle.expr_fits.proofs.Forms as F
+use Rattle.expr_fits.proofs.operators.clog2.Goals as goal
+
+pub returns : goal.returns
+returns c = λ fs. F.by-Clog2 c.args.e.now (record { of = c.args.x; width = c.own.result }) c.args.width fs c.requires.form c.requires.some (c.if-not-is_vector.ensures) c.own.ensures.value

@@ -1,0 +1,49 @@
+-- What is cast, and what is assigned to members, elements and formals (IEEE 1800-2017 clauses 6.24, 10.7, 10.9 and 13.5).
+use Rattle.std.specs.Prelude.{◌≡◌, ⊤, ℕ, ◌<◌, ◌≤◌, Bool, true, List, [], ◌∷◌, length}
+use Rattle.b4_core.specs.declared.bit.Bit4.{Bit4}
+use Rattle.b4_core.specs.Vectors.{ext}
+use Rattle.row_machine.specs.Valuation.{Valuation}
+use Rattle.sv_types.specs.declared.types.SvType.{SvType}
+use Rattle.sv_types.specs.Layouts.{layout, stored}
+use Rattle.sv_types.specs.Surroundings.{Around}
+use Rattle.sv_types.specs.Meanings as S
+use Rattle.sv_types.specs.Operators as O
+use Rattle.v_tree.specs.declared.names.Helper.{Helper}
+use Rattle.v_tree.specs.declared.names.HelperKind.TheVariants.{Cast}
+use Rattle.v_meaning.specs.Scopes.{Scope}
+use Rattle.v_meaning.specs.Values as T
+use Rattle.lowering_laws.specs.Same.{Same, SameAlone, HasBits}
+use Rattle.path_flatten.specs.Helping.{EachHelps}
+use Rattle.form_lower.specs.Calls.{NamesOf}
+
+-- the helper that gives what it is passed
+abbrev pub cutter : ℕ → Helper
+cutter n = record { kind = Cast; width = n }
+
+-- what an expression gives to a place with these marks, as it is stored there
+pub record Assigns (two_state : List Bool) (m : T.Meaning) (hs : List Helper) (r : T.Meaning) : Type 0 where
+  pub bits : (x : List Bit4) (sc : Scope) (v : Valuation) → EachHelps hs sc → T.given m (length two_state) sc v ≡ x → length x ≡ length two_state
+      → HasBits r (stored two_state x) sc v
+  pub names : NamesOf (m ∷ []) r
+
+-- so for each of some expressions, which are at most as many as the places
+abbrev pub AllAssign : List (List Bool) → List T.Meaning → List Helper → List T.Meaning → Type 0
+AllAssign [] [] hs [] = ⊤
+AllAssign [] [] hs (r ∷ rs) = ⊥
+AllAssign [] (m ∷ ms) hs rs = ⊥
+AllAssign (b ∷ bs) [] hs [] = ⊤
+AllAssign (b ∷ bs) [] hs (r ∷ rs) = ⊥
+AllAssign (b ∷ bs) (m ∷ ms) hs [] = ⊥
+AllAssign (b ∷ bs) (m ∷ ms) hs (r ∷ rs) = Assigns b m hs r × AllAssign bs ms hs rs
+
+-- what stands for a cast to a type, wherever the text has its helpers
+pub record Casts (e : S.Meaning) (t : SvType) (m : T.Meaning) (hs : List Helper) (r : T.Meaning) : Type 0 where
+  pub same : (at w : ℕ) (s : Bool) (a : Around) (sc : Scope) (v : Valuation) → EachHelps hs sc → length (S.alone e a) ≡ S.wide e → SameAlone e a m sc v
+      → Same (O.cast (layout t) at e) w s a r sc v
+  pub names : NamesOf (m ∷ []) r
+
+-- Bits in a context: as they are where they are as many as a type's, and else those that the context takes.
+pub record Fits (whole : Bool) (m : T.Meaning) (to : ℕ) (s : Bool) (hs : List Helper) (r : T.Meaning) : Type 0 where
+  pub bits : (c : List Bit4) (n : ℕ) (sc : Scope) (v : Valuation) → EachHelps hs sc → HasBits m c sc v → (whole ≡ true → length c ≡ n) → 0 < to → n ≤ to
+      → (d : List Bit4) × HasBits r d sc v × (n ≤ length d) × (length d ≤ to) × ((w : ℕ) → w ≤ to → ext w s d ≡ ext w s c)
+  pub names : NamesOf (m ∷ []) r

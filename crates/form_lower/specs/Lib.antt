@@ -1,0 +1,4 @@
+pub mod Calls
+pub mod Wilds
+pub mod Assigned
+pub mod Places

@@ -1,0 +1,4 @@
+pub mod Matching
+pub mod Wide
+pub mod Casts
+pub mod Admitting

@@ -1,0 +1,4 @@
+pub mod Values
+pub mod Locals
+pub mod Flows
+pub mod Calls

@@ -1,0 +1,10 @@
+pub mod FullLevels
+pub mod Levels
+pub mod Longs
+pub mod Nodes
+pub mod Passing
+pub mod Branching
+pub mod Combining
+pub mod Turning
+pub mod Scoping
+pub mod Composing

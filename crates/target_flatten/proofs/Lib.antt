@@ -1,0 +1,4 @@
+pub mod Powers
+pub mod Stands
+pub mod Ranking
+pub mod Writing
