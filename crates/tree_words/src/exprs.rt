@@ -1,6 +1,6 @@
 //! The stack machine that makes trees of words.
 
-use crate::types::{bit_type, bits, bits_between, type_of, vector};
+use crate::types::{bit_type, bits, bits_between, int_type, type_of, vector};
 use crate::words::Word;
 use eval_parts::own_sign;
 use expr_fits::own;
@@ -9,16 +9,17 @@ use std::alloc::{AllocError, Global};
 use sv_source::{Boxed, Place, Spot, Text};
 use sv_types::{Choice, Choices, Expr, Exprs, Form, SvType, Value, is_narrow, of_bits, width};
 
-// What was made.
+/// Types and expressions that were made.
 #[derive(Drop)]
-struct Stack {
+pub struct Stack {
     types: Vec<SvType>,
     exprs: Vec<Expr>,
     next: u32,
 }
 
 impl Stack {
-    fn new(alloc: Global) -> Stack {
+    /// Nothing yet.
+    pub fn new(alloc: Global) -> Stack {
         Stack {
             types: Vec::new(alloc),
             exprs: Vec::new(alloc),
@@ -27,8 +28,8 @@ impl Stack {
     }
 }
 
-// A place without a text.
-fn spot(alloc: Global, at: u32) -> Spot {
+/// A place without a text.
+pub fn spot(alloc: Global, at: u32) -> Spot {
     Spot {
         at,
         place: Place {
@@ -48,13 +49,13 @@ fn zero(alloc: Global) -> Expr {
     }
 }
 
-// The last type.
-fn last_type(stack: &mut Stack) -> SvType {
+/// The last type.
+pub fn last_type(stack: &mut Stack) -> SvType {
     stack.types.pop().unwrap_or(bit_type())
 }
 
-// The last expression.
-fn last(alloc: Global, stack: &mut Stack) -> Expr {
+/// The last expression.
+pub fn last(alloc: Global, stack: &mut Stack) -> Expr {
     match stack.exprs.pop() {
         Some(e) => e,
         None => zero(alloc),
@@ -71,8 +72,8 @@ fn two(alloc: Global, stack: &mut Stack) -> Result<(Boxed<Expr>, Boxed<Expr>), A
     Ok((x, y))
 }
 
-// The last `count` expressions in the order in which they were made.
-fn several(alloc: Global, stack: &mut Stack, count: u32) -> Result<Exprs, AllocError> {
+/// The last `count` expressions in the order in which they were made.
+pub fn several(alloc: Global, stack: &mut Stack, count: u32) -> Result<Exprs, AllocError> {
     let mut taken = Vec::new(alloc);
     for _i in 0..count {
         taken.push(last(alloc, stack))?;
@@ -263,8 +264,8 @@ fn put_operator(alloc: Global, stack: &mut Stack, word: Word) -> Result<(), Allo
     }
 }
 
-// Values, select paths and lists.
-fn put(alloc: Global, stack: &mut Stack, word: Word) -> Result<(), AllocError> {
+/// Puts what a word of an expression makes.
+pub fn put(alloc: Global, stack: &mut Stack, word: Word) -> Result<(), AllocError> {
     match word {
         Word::Type(words) => {
             stack.types.push(type_of(alloc, words)?)?;
@@ -280,6 +281,10 @@ fn put(alloc: Global, stack: &mut Stack, word: Word) -> Result<(), AllocError> {
         }
         Word::Scalar => {
             stack.types.push(bit_type())?;
+            Ok(())
+        }
+        Word::Int => {
+            stack.types.push(int_type(alloc)?)?;
             Ok(())
         }
         Word::Bits(text) => number(alloc, stack, text, false, false),
@@ -331,6 +336,10 @@ fn put(alloc: Global, stack: &mut Stack, word: Word) -> Result<(), AllocError> {
         Word::Pattern(count) => {
             let es = several(alloc, stack, count)?;
             push_typed(alloc, stack, Form::Pattern(es))
+        }
+        Word::Call(f, count) => {
+            let es = several(alloc, stack, count)?;
+            push_typed(alloc, stack, Form::Call(f, es))
         }
         Word::Stream(reversed, slice, count) => {
             let parts = several(alloc, stack, count)?;

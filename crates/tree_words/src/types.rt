@@ -13,6 +13,21 @@ pub fn bit_type() -> SvType {
     }
 }
 
+/// The type `int`.
+pub fn int_type(alloc: Global) -> Result<SvType, AllocError> {
+    let bit = SvType::Scalar {
+        four: false,
+        signed: false,
+    };
+    let item = Boxed::new(alloc, bit)?;
+    Ok(SvType::PackedArray {
+        left: 31,
+        right: 0,
+        signed: true,
+        item,
+    })
+}
+
 /// A four-state vector with these bounds.
 pub fn bits_between(
     alloc: Global,

@@ -1,6 +1,7 @@
-//! Expressions as words of a stack machine.
+//! Expressions, statements and functions as words of a stack machine.
 
 use b4_core::{BinOp, Bit4, EqOp, OrdOp, RedOp, ShiftOp, UnOp};
+use sv_types::{CaseKind, Way};
 
 /// A word. Where it makes a value of a type that no rule gives, that is the type that was last put.
 #[derive(Clone, Copy)]
@@ -13,6 +14,8 @@ pub enum Word {
     SignedVector(i64, i64),
     /// The type of one four-state bit.
     Scalar,
+    /// The type `int`.
+    Int,
     /// A number of these bits, the most significant one first.
     Bits(&'static str),
     /// A signed number.
@@ -71,4 +74,40 @@ pub enum Word {
     Pattern(u32),
     /// A stream in slices of so many bits, of so many.
     Stream(bool, u32, u32),
+    /// A call of a function by its number with so many arguments, of the last type.
+    Call(u32, u32),
+    /// A local of the last type for the next block, by its number.
+    Declare(u32),
+    /// The same; it starts with the last expression.
+    Start(u32),
+    /// A block of the locals that wait and of so many statements.
+    Block(u32),
+    /// What stands for a replaced call: the locals that wait, so many statements before, and where so a statement then.
+    Made(u32, bool),
+    /// `if`, or with `else` where so.
+    If(bool),
+    /// A `case` with so many values for each item, and with `default` where so.
+    Case(CaseKind, &'static str, bool),
+    /// `for` over a local, of a first value, a test, a step and a statement.
+    Loop(u32),
+    /// An assignment to so many targets, nonblocking where so.
+    Assign(u32, bool),
+    /// A call of a task by its number with so many actuals.
+    Task(u32, u32),
+    /// `break`.
+    Break,
+    /// `continue`.
+    Continue,
+    /// `return`.
+    Return,
+    /// A formal of the last type, by the number of its local.
+    Formal(u32, Way),
+    /// A function with the formals that wait, of the last type and the last statement.
+    Function,
+    /// The words of `s = bits`, for a signal of eight bits.
+    Set(u32, &'static str),
+    /// The words of `s = s + 8'd1`, for a signal of eight bits.
+    More(u32),
+    /// The words of `int n = 0`, `n < limit` and `n + 1`, for a local and a signed limit.
+    Upto(u32, &'static str),
 }
