@@ -1,0 +1,4 @@
+pub mod Digits
+pub mod Adding
+pub mod Ordering
+pub mod Layouts
