@@ -11,7 +11,7 @@ mod unary;
 
 pub use binary::{binary_kind, binary_of};
 pub use joins::{concat_of, is_part, repeat_of};
-pub use makes::{by_itself, in_context};
-pub use operands::has_bits;
+pub use makes::{Parts, by_itself, in_context};
+pub use operands::{MOST_ARITHMETIC, Operands, Pair, beside, both_type, has_bits};
 pub use spots::spot_at;
 pub use unary::{unary_kind, unary_of};

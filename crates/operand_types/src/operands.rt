@@ -1,6 +1,6 @@
 //! Operands, and what operators ask of them.
 
-ghost use Rattle.std.specs.Prelude.{◌≡◌, ◌≤◌, ◌++◌, ◌∷◌, [], max, ◌&&◌, IfOk};
+ghost use Rattle.std.specs.Prelude.{◌≡◌, ◌≤◌, ◌++◌, ◌∷◌, [], max, ◌&&◌, ◌||◌, false, IfOk};
 ghost use Rattle.expr_type.specs.Answers.{Gives, source};
 ghost use Rattle.expr_type.specs.Typings.{at_all};
 ghost use Rattle.expr_type.specs.Operands as rule;
@@ -22,6 +22,15 @@ use type_kinds::{is_unpacked, vector};
 /// The most bits on which operators do arithmetic and compare by order.
 pub const MOST_ARITHMETIC: u32 = 128;
 
+/// Two operands of an operator.
+#[derive(Drop)]
+pub struct Operands {
+    /// The left operand.
+    pub left: Valued,
+    /// The right operand.
+    pub right: Valued,
+}
+
 /// The width of an operand.
 pub fn width_of_operand(v: &Valued) -> u32
     requires { IsNarrow v.now }
@@ -32,24 +41,24 @@ pub fn width_of_operand(v: &Valued) -> u32
 }
 
 /// The larger width of two operands.
-pub fn both_wide(l: &Valued, r: &Valued) -> u32
-    requires left { IsNarrow l.now }
-    requires right { IsNarrow r.now }
-    ensures value { result ≡ operator.both_wide l.now r.now }
+pub fn both_wide(parts: &Operands) -> u32
+    requires left { IsNarrow parts.now.left }
+    requires right { IsNarrow parts.now.right }
+    ensures value { result ≡ operator.both_wide parts.now.left parts.now.right }
     ensures narrow { result ≤ 65536 }
 {
-    width_of_operand(l).max(width_of_operand(r))
+    width_of_operand(&parts.left).max(width_of_operand(&parts.right))
 }
 
 /// The type that operators give to two operands: the larger width, signed if both are.
-pub fn both_type(alloc: Global, l: &Valued, r: &Valued) -> Result<SvType, AllocError>
-    requires left { IsNarrow l.now }
-    requires right { IsNarrow r.now }
-    ensures value { IfOk result (λ t. t ≡ operator.both_type l.now r.now) }
+pub fn both_type(alloc: Global, parts: &Operands) -> Result<SvType, AllocError>
+    requires left { IsNarrow parts.now.left }
+    requires right { IsNarrow parts.now.right }
+    ensures value { IfOk result (λ t. t ≡ operator.both_type parts.now.left parts.now.right) }
     ensures narrow { IfOk result (λ t. width_of t ≤ 65536) }
 {
-    let signed = is_signed(&l.expr.of) && is_signed(&r.expr.of);
-    vector(alloc, both_wide(l, r), signed)
+    let signed = is_signed(&parts.left.expr.of) && is_signed(&parts.right.expr.of);
+    vector(alloc, both_wide(parts), signed)
 }
 
 /// The vector of an expression's width and sign.
@@ -74,11 +83,21 @@ pub fn has_bits(text: Source<'_>, v: Valued) -> Result<Valued, Halt>
     Ok(v)
 }
 
-/// Whether one of two operands is unpacked.
-pub fn is_unpacked_pair(l: &Valued, r: &Valued) -> bool
-    ensures { result ≡ list_any (λ (v : Valued). shape.is_unpacked v.expr.of) (l.now ∷ r.now ∷ []) }
+// Whether one of two tests says yes.
+fn is_either(left: bool, right: bool) -> bool
+    ensures { result ≡ (left || (right || false)) }
 {
-    is_unpacked(&l.expr.of) || is_unpacked(&r.expr.of)
+    left || right
+}
+
+/// Whether one of two operands is unpacked.
+pub fn is_unpacked_pair(parts: &Operands) -> bool
+    ensures { result ≡ list_any (λ (v : Valued). shape.is_unpacked v.expr.of) (parts.now.left ∷ parts.now.right ∷ []) }
+{
+    is_either(
+        is_unpacked(&parts.left.expr.of),
+        is_unpacked(&parts.right.expr.of),
+    )
 }
 
 /// That no operator in an operand is too wide in a context of a width (E502).
@@ -136,50 +155,54 @@ fn pair_of(
     ensures right { IfOk result (λ p. p.right ≡ right) }
     ensures operators { IfOk result (λ p. arithmetic ≡ Ok p.arithmetic) }
 {
-    let left = Boxed::new(alloc, left);
-    let (left, right) = pairs::both(left, Boxed::new(alloc, right))?;
+    let boxes = pairs::both(Boxed::new(alloc, left), Boxed::new(alloc, right));
+    let ((left, right), arithmetic) = pairs::both(boxes, arithmetic)?;
     Ok(Pair {
         left,
         right,
-        arithmetic: arithmetic?,
+        arithmetic,
     })
 }
 
 /// Two operands of an operator that isn't arithmetic.
-pub fn beside(alloc: Global, l: Valued, r: Valued) -> Result<Pair, AllocError>
-    ensures left { IfOk result (λ p. p.left ≡ l.expr) }
-    ensures right { IfOk result (λ p. p.right ≡ r.expr) }
-    ensures operators { IfOk result (λ p. p.arithmetic ≡ l.arithmetic ++ r.arithmetic) }
+pub fn beside(alloc: Global, parts: Operands) -> Result<Pair, AllocError>
+    ensures left { IfOk result (λ p. p.left ≡ parts.left.expr) }
+    ensures right { IfOk result (λ p. p.right ≡ parts.right.expr) }
+    ensures operators { IfOk result (λ p. p.arithmetic ≡ parts.left.arithmetic ++ parts.right.arithmetic) }
 {
-    let arithmetic = appended(l.arithmetic, r.arithmetic);
-    pair_of(alloc, l.expr, r.expr, arithmetic)
+    let Operands { left, right } = parts;
+    let arithmetic = appended(left.arithmetic, right.arithmetic);
+    pair_of(alloc, left.expr, right.expr, arithmetic)
 }
 
 /// Two operands of an operator that does arithmetic.
-pub fn around_operator(alloc: Global, l: Valued, at: u32, r: Valued) -> Result<Pair, AllocError>
-    ensures left { IfOk result (λ p. p.left ≡ l.expr) }
-    ensures right { IfOk result (λ p. p.right ≡ r.expr) }
-    ensures operators { IfOk result (λ p. p.arithmetic ≡ l.arithmetic ++ at ∷ r.arithmetic) }
+pub fn around_operator(alloc: Global, at: u32, parts: Operands) -> Result<Pair, AllocError>
+    ensures left { IfOk result (λ p. p.left ≡ parts.left.expr) }
+    ensures right { IfOk result (λ p. p.right ≡ parts.right.expr) }
+    ensures operators { IfOk result (λ p. p.arithmetic ≡ parts.left.arithmetic ++ at ∷ parts.right.arithmetic) }
 {
-    let arithmetic = around(l.arithmetic, at, r.arithmetic);
-    pair_of(alloc, l.expr, r.expr, arithmetic)
+    let Operands { left, right } = parts;
+    let arithmetic = around(left.arithmetic, at, right.arithmetic);
+    pair_of(alloc, left.expr, right.expr, arithmetic)
 }
 
 /// Two operands of which the right one is valued alone.
-pub fn shifted(alloc: Global, l: Valued, r: Valued) -> Result<Pair, AllocError>
-    ensures left { IfOk result (λ p. p.left ≡ l.expr) }
-    ensures right { IfOk result (λ p. p.right ≡ r.expr) }
-    ensures operators { IfOk result (λ p. p.arithmetic ≡ l.arithmetic) }
+pub fn shifted(alloc: Global, parts: Operands) -> Result<Pair, AllocError>
+    ensures left { IfOk result (λ p. p.left ≡ parts.left.expr) }
+    ensures right { IfOk result (λ p. p.right ≡ parts.right.expr) }
+    ensures operators { IfOk result (λ p. p.arithmetic ≡ parts.left.arithmetic) }
 {
-    pair_of(alloc, l.expr, r.expr, Ok(l.arithmetic))
+    let Operands { left, right } = parts;
+    pair_of(alloc, left.expr, right.expr, Ok(left.arithmetic))
 }
 
 /// Two operands of an operator that does arithmetic, of which the right one is valued alone.
-pub fn raised(alloc: Global, l: Valued, at: u32, r: Valued) -> Result<Pair, AllocError>
-    ensures left { IfOk result (λ p. p.left ≡ l.expr) }
-    ensures right { IfOk result (λ p. p.right ≡ r.expr) }
-    ensures operators { IfOk result (λ p. p.arithmetic ≡ l.arithmetic ++ at ∷ []) }
+pub fn raised(alloc: Global, at: u32, parts: Operands) -> Result<Pair, AllocError>
+    ensures left { IfOk result (λ p. p.left ≡ parts.left.expr) }
+    ensures right { IfOk result (λ p. p.right ≡ parts.right.expr) }
+    ensures operators { IfOk result (λ p. p.arithmetic ≡ parts.left.arithmetic ++ at ∷ []) }
 {
-    let arithmetic = around(l.arithmetic, at, Items::new(alloc));
-    pair_of(alloc, l.expr, r.expr, arithmetic)
+    let Operands { left, right } = parts;
+    let arithmetic = around(left.arithmetic, at, Items::new(alloc));
+    pair_of(alloc, left.expr, right.expr, arithmetic)
 }
