@@ -14,11 +14,11 @@ use Rattle.sv_types.specs.Paths.{same_marks, unlike, unlike_part, elements_marks
 use Rattle.sv_types.proofs.TypeShapes.{Kinds, by-type}
 use Rattle.sv_types.proofs.Components.{member-layout}
 use Rattle.sv_types.proofs.Lengths.{layout-Scalar, layout-PackedArray, layout-UnpackedArray, layout-Struct, layout-Union, layout-Enum}
-use Rattle.expr_type.specs.Shapes.{bit_of_type, element_of, element_of_enum, members_of}
+use Rattle.expr_type.specs.Shapes.{bit_of_type, element_of, members_of}
 use Rattle.expr_type.specs.Selects as S
 use Rattle.expr_type.specs.Selects.{Place, part_type}
-use Rattle.typing_fits.specs.Types.{Fullness, fullness, member_fullness, is_full}
-use Rattle.typing_fits.proofs.Full.{and-left, and-right, full-Scalar, full-PackedArray, full-UnpackedArray, full-Enum, full-Struct, full-Union, full-member, fullness-Enum, fullness-Struct, fullness-Union, fullness-UnpackedArray, members_full}
+use Rattle.typing_fits.specs.Types.{is_full, is_full_member}
+use Rattle.typing_fits.proofs.Full.{and-left, and-right, full-Scalar, full-PackedArray, full-UnpackedArray, full-Enum, full-Struct, full-Union, full-member, members_full}
 
 -- an element, as a type and as a part
 pub record IsElement (t : SvType) (from : Layout) : Type 0 where
@@ -74,14 +74,8 @@ element-Struct id packed s ms = search (rules, the_lemmas)
 element-Union : (id : ℕ) (s : Bool) (ms : List Member) → element_of (V.Union id s ms) ≡ bit_of_type (V.Union id s ms)
 element-Union id s ms = search (rules, the_lemmas)
 
-element-Enum : (id : ℕ) (base : SvType) (names : List EnumName) → element_of (V.Enum id base names) ≡ element_of_enum (V.Enum id base names) base
+element-Enum : (id : ℕ) (base : SvType) (names : List EnumName) → element_of (V.Enum id base names) ≡ element_of base
 element-Enum id base names = search (rules, the_lemmas)
-
-on-Scalar : (t : SvType) (four s : Bool) → element_of_enum t (V.Scalar four s) ≡ bit_of_type t
-on-Scalar t four s = search (rules, the_lemmas)
-
-on-PackedArray : (t : SvType) (l r : ℤ) (s : Bool) (item : SvType) → element_of_enum t (V.PackedArray l r s item) ≡ item
-on-PackedArray t l r s item = search (rules, the_lemmas)
 
 -- the items of an array
 packed-item : (l r : ℤ) (s : Bool) (item : SvType) → is_full item ≡ true → IsElement item (layout (V.PackedArray l r s item))
@@ -94,30 +88,8 @@ unpacked-item l r item full =
     let is = layout-UnpackedArray l r item in
     record { marks = ap (λ (x : Layout). x.element.two_state) (sym is); sign = ap (λ (x : Layout). x.element.signed) (sym is); full = full }
 
--- an enum on a type of bits
 abbrev AnyMember : Member → Type 0
 AnyMember m = Unit {0}
-
-abbrev pub EnumOn : SvType → Type 0
-EnumOn base = (t : SvType) → layout t ≡ layout base → is_full base ≡ true → (fullness base).base ≡ true → IsElement (element_of_enum t base) (layout base)
-
-abbrev base_of : Fullness → Bool
-base_of f = f.base
-
-enums : Kinds EnumOn AnyMember
-enums = record {
-  member = λ m h. tt;
-  scalar = λ four s t is full base. as-element _ _ (layout (V.Scalar four s)) (sym (on-Scalar t four s)) (bit-element t (layout (V.Scalar four s)) is (scalar-bit four s));
-  packed = λ l r s item h t is full base.
-      as-element _ _ (layout (V.PackedArray l r s item)) (sym (on-PackedArray t l r s item)) (packed-item l r s item (sym (full-PackedArray l r s item) ∙ full));
-  structure = λ id packed s ms h t is full bottom. absurd (let e : false ≡ true = sym (ap base_of (fullness-Struct id packed s ms)) ∙ bottom in cc);
-  union = λ id s ms h t is full bottom. absurd (let e : false ≡ true = sym (ap base_of (fullness-Union id s ms)) ∙ bottom in cc);
-  enumeration = λ id base names h t is full bottom. absurd (let e : false ≡ true = sym (ap base_of (fullness-Enum id base names)) ∙ bottom in cc);
-  unpacked = λ l r item h t is full bottom. absurd (let e : false ≡ true = sym (ap base_of (fullness-UnpackedArray l r item)) ∙ bottom in cc);
-}
-
-pub enum-on : (base : SvType) → EnumOn base
-enum-on = by-type EnumOn AnyMember enums
 
 itself : (b : Bool) → b ≡ (b && true)
 itself true = refl
@@ -143,10 +115,8 @@ elements = record {
   union = λ id s ms h full.
       as-element _ _ (layout (V.Union id s ms)) (sym (element-Union id s ms)) (bit-element (V.Union id s ms) (layout (V.Union id s ms)) refl (union-bit id s ms));
   enumeration = λ id base names h full.
-      let is = layout-Enum id base names in
-      let both : (is_full base && (fullness base).base) ≡ true = sym (full-Enum id base names) ∙ full in
-      let e = enum-on base (V.Enum id base names) is (and-left (is_full base) (fullness base).base both) (and-right (is_full base) (fullness base).base both) in
-      as-element _ _ (layout (V.Enum id base names)) (sym (element-Enum id base names)) (subst (λ l. IsElement (element_of_enum (V.Enum id base names) base) l) (sym is) e);
+      as-element _ _ (layout (V.Enum id base names)) (sym (element-Enum id base names))
+      (subst (λ l. IsElement (element_of base) l) (sym (layout-Enum id base names)) (h (sym (full-Enum id base names) ∙ full)));
   unpacked = λ l r item h full. as-element _ _ (layout (V.UnpackedArray l r item)) (sym (element-UnpackedArray l r item)) (unpacked-item l r item (sym (full-UnpackedArray l r item) ∙ full));
 }
 
@@ -193,11 +163,11 @@ pub record IsMember (t : SvType) (from : Layout) (k : ℕ) : Type 0 where
   pub full : is_full t ≡ true
 
 first-full : (m : Member) (ms : List Member) → members_full (m ∷ ms) ≡ true → is_full m.of ≡ true
-first-full m ms h = sym (full-member m) ∙ and-left (member_fullness m).full (list_all (λ (f : Fullness). f.full) (map member_fullness ms)) h
+first-full m ms h = sym (full-member m) ∙ and-left (is_full_member m) (list_all (λ b. b) (map is_full_member ms)) h
 
 -- all of these members are full, or there are none
 abbrev AllFull : List Member → Type 0
-AllFull ms = list_all (λ (f : Fullness). f.full) (map member_fullness ms) ≡ true
+AllFull ms = list_all (λ b. b) (map is_full_member ms) ≡ true
 
 all-full : (ms : List Member) → members_full ms ≡ true → AllFull ms
 all-full [] h = refl
@@ -206,7 +176,7 @@ all-full (m ∷ ms) h = h
 named-struct : (ms : List Member) (n : ℕ) (name : List ℕ) (p : Place) → AllFull ms → S.named n ms name ≡ Some p → (k : ℕ) × (p.number ≡ n + k) × (unlike_part (layout p.of) (slice_get (above_the_next (map member_layout ms)) k) ≡ 0) × (is_full p.of ≡ true)
 named-struct [] n name p full h = absurd (cc)
 named-struct (m ∷ ms) n name p full h =
-    by (bytes_eq m.name name) refl h (λ e. named-struct ms (suc n) name p (and-right (member_fullness m).full (list_all (λ (f : Fullness). f.full) (map member_fullness ms)) full) e)
+    by (bytes_eq m.name name) refl h (λ e. named-struct ms (suc n) name p (and-right (is_full_member m) (list_all (λ b. b) (map is_full_member ms)) full) e)
   where
     by : (b : Bool) → bytes_eq m.name name ≡ b → cond b (Some (record { number = n; of = m.of })) (S.named (suc n) ms name) ≡ Some p
         → (S.named (suc n) ms name ≡ Some p → (k : ℕ) × (p.number ≡ suc n + k) × (unlike_part (layout p.of) (slice_get (above_the_next (map member_layout ms)) k) ≡ 0) × (is_full p.of ≡ true))
@@ -219,7 +189,7 @@ named-struct (m ∷ ms) n name p full h =
           0,
           omega (arith, number),
           like (layout p.of) (member_layout m).two_state (member_layout m).signed (ap (λ (l : Layout). l.two_state) lay) (ap (λ (l : Layout). l.signed) lay),
-          ap is_full (sym of) ∙ sym (full-member m) ∙ and-left (member_fullness m).full (list_all (λ (f : Fullness). f.full) (map member_fullness ms)) full,
+          ap is_full (sym of) ∙ sym (full-member m) ∙ and-left (is_full_member m) (list_all (λ b. b) (map is_full_member ms)) full,
         )
     by false is e rest =
         let r = rest e in
@@ -228,7 +198,7 @@ named-struct (m ∷ ms) n name p full h =
 named-union : (ms : List Member) (n : ℕ) (name : List ℕ) (p : Place) → AllFull ms → S.named n ms name ≡ Some p → (k : ℕ) × (p.number ≡ n + k) × (unlike_part (layout p.of) (slice_get (map at_the_bottom (map member_layout ms)) k) ≡ 0) × (is_full p.of ≡ true)
 named-union [] n name p full h = absurd (cc)
 named-union (m ∷ ms) n name p full h =
-    by (bytes_eq m.name name) refl h (λ e. named-union ms (suc n) name p (and-right (member_fullness m).full (list_all (λ (f : Fullness). f.full) (map member_fullness ms)) full) e)
+    by (bytes_eq m.name name) refl h (λ e. named-union ms (suc n) name p (and-right (is_full_member m) (list_all (λ b. b) (map is_full_member ms)) full) e)
   where
     by : (b : Bool) → bytes_eq m.name name ≡ b → cond b (Some (record { number = n; of = m.of })) (S.named (suc n) ms name) ≡ Some p
         → (S.named (suc n) ms name ≡ Some p → (k : ℕ) × (p.number ≡ suc n + k) × (unlike_part (layout p.of) (slice_get (map at_the_bottom (map member_layout ms)) k) ≡ 0) × (is_full p.of ≡ true))
@@ -241,7 +211,7 @@ named-union (m ∷ ms) n name p full h =
           0,
           omega (arith, number),
           like (layout p.of) (member_layout m).two_state (member_layout m).signed (ap (λ (l : Layout). l.two_state) lay) (ap (λ (l : Layout). l.signed) lay),
-          ap is_full (sym of) ∙ sym (full-member m) ∙ and-left (member_fullness m).full (list_all (λ (f : Fullness). f.full) (map member_fullness ms)) full,
+          ap is_full (sym of) ∙ sym (full-member m) ∙ and-left (is_full_member m) (list_all (λ b. b) (map is_full_member ms)) full,
         )
     by false is e rest =
         let r = rest e in

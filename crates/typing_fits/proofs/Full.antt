@@ -13,55 +13,31 @@ use Rattle.sv_types.proofs.Terms.{Each}
 use Rattle.sv_types.proofs.TypeShapes.{Kinds, by-type}
 use Rattle.sv_types.proofs.Components.{member-layout}
 use Rattle.sv_types.proofs.Lengths.{layout-Scalar, layout-Enum, width-PackedArray, width-UnpackedArray, width-Struct, width-Union}
-use Rattle.typing_fits.specs.Types.{Fullness, fullness, member_fullness, is_full, all_full}
-
-pub fullness-Scalar : (four s : Bool) → fullness (V.Scalar four s) ≡ record { full = true; base = true }
-fullness-Scalar four s = search (rules, the_lemmas)
-
-pub fullness-PackedArray : (l r : ℤ) (s : Bool) (item : SvType) → fullness (V.PackedArray l r s item) ≡ record { full = is_full item; base = true }
-fullness-PackedArray l r s item = search (rules, the_lemmas)
-
-pub fullness-UnpackedArray : (l r : ℤ) (item : SvType) → fullness (V.UnpackedArray l r item) ≡ record { full = is_full item; base = false }
-fullness-UnpackedArray l r item = search (rules, the_lemmas)
-
-pub fullness-Enum : (id : ℕ) (base : SvType) (names : List EnumName) → fullness (V.Enum id base names) ≡ record { full = is_full base && (fullness base).base; base = false }
-fullness-Enum id base names = search (rules, the_lemmas)
-
-pub fullness-Struct : (id : ℕ) (packed s : Bool) (ms : List Member) → fullness (V.Struct id packed s ms) ≡ record { full = all_full (map member_fullness ms); base = false }
-fullness-Struct id packed s ms = search (rules, the_lemmas)
-
-pub fullness-Union : (id : ℕ) (s : Bool) (ms : List Member) → fullness (V.Union id s ms) ≡ record { full = all_full (map member_fullness ms); base = false }
-fullness-Union id s ms = search (rules, the_lemmas)
-
-pub fullness-member : (m : Member) → member_fullness m ≡ fullness m.of
-fullness-member m = search (rules, the_lemmas)
-
-abbrev full_of : Fullness → Bool
-full_of f = f.full
-
-pub full-Scalar : (four s : Bool) → is_full (V.Scalar four s) ≡ true
-full-Scalar four s = ap full_of (fullness-Scalar four s)
+use Rattle.typing_fits.specs.Types.{is_full, is_full_member, has_some}
 
 pub full-PackedArray : (l r : ℤ) (s : Bool) (item : SvType) → is_full (V.PackedArray l r s item) ≡ is_full item
-full-PackedArray l r s item = ap full_of (fullness-PackedArray l r s item)
+full-PackedArray l r s item = search (rules, the_lemmas)
 
 pub full-UnpackedArray : (l r : ℤ) (item : SvType) → is_full (V.UnpackedArray l r item) ≡ is_full item
-full-UnpackedArray l r item = ap full_of (fullness-UnpackedArray l r item)
+full-UnpackedArray l r item = search (rules, the_lemmas)
 
-pub full-Enum : (id : ℕ) (base : SvType) (names : List EnumName) → is_full (V.Enum id base names) ≡ is_full base && (fullness base).base
-full-Enum id base names = ap full_of (fullness-Enum id base names)
+pub full-Scalar : (four s : Bool) → is_full (V.Scalar four s) ≡ true
+full-Scalar four s = search (rules, the_lemmas)
+
+pub full-Enum : (id : ℕ) (base : SvType) (names : List EnumName) → is_full (V.Enum id base names) ≡ is_full base
+full-Enum id base names = search (rules, the_lemmas)
 
 abbrev pub members_full : List Member → Bool
-members_full ms = all_full (map member_fullness ms)
+members_full ms = has_some (map is_full_member ms) && list_all (λ b. b) (map is_full_member ms)
 
 pub full-Struct : (id : ℕ) (packed s : Bool) (ms : List Member) → is_full (V.Struct id packed s ms) ≡ members_full ms
-full-Struct id packed s ms = ap full_of (fullness-Struct id packed s ms)
+full-Struct id packed s ms = search (rules, the_lemmas)
 
 pub full-Union : (id : ℕ) (s : Bool) (ms : List Member) → is_full (V.Union id s ms) ≡ members_full ms
-full-Union id s ms = ap full_of (fullness-Union id s ms)
+full-Union id s ms = search (rules, the_lemmas)
 
-pub full-member : (m : Member) → (member_fullness m).full ≡ is_full m.of
-full-member m = ap full_of (fullness-member m)
+pub full-member : (m : Member) → is_full_member m ≡ is_full m.of
+full-member m = search (rules, the_lemmas)
 
 pub and-left : (a b : Bool) → (a && b) ≡ true → a ≡ true
 and-left true b h = refl
@@ -80,7 +56,7 @@ MemberBits m = Bits m.of
 
 first-bits : (m : Member) (ms : List Member) → MemberBits m → members_full (m ∷ ms) ≡ true → 0 < length (member_layout m).two_state
 first-bits m ms here h =
-    let full = sym (full-member m) ∙ and-left (member_fullness m).full (list_all full_of (map member_fullness ms)) h in
+    let full = sym (full-member m) ∙ and-left (is_full_member m) (list_all (λ b. b) (map is_full_member ms)) h in
     let some = here full in
     omega (arith, ap (λ (l : Layout). length l.two_state) (member-layout m), some)
 
@@ -114,7 +90,7 @@ kinds = record {
   structure = λ id packed s ms h full. omega (arith, width-Struct id packed s ms, struct-bits ms h (sym (full-Struct id packed s ms) ∙ full));
   union = λ id s ms h full. omega (arith, width-Union id s ms, union-bits ms h (sym (full-Union id s ms) ∙ full));
   enumeration = λ id base names h full.
-      let some = h (and-left (is_full base) (fullness base).base (sym (full-Enum id base names) ∙ full)) in
+      let some = h (sym (full-Enum id base names) ∙ full) in
       omega (arith, ap (λ (l : Layout). length l.two_state) (layout-Enum id base names), some);
   unpacked = λ l r item h full.
       let some = h (sym (full-UnpackedArray l r item) ∙ full) in

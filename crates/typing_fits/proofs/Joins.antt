@@ -20,10 +20,10 @@ use Rattle.expr_type.specs.Operands.{too_wide, width}
 use Rattle.expr_type.specs.Operators.{Alternative, Only, From, by_itself, in_context, both_type, both_wide, both_signed, is_signed, chosen_type, choice_of, exprs, all_bits, concat_of, repeat_of, over, in_alternative, choice, compared, ordered, wide_in, inside_of}
 use Rattle.expr_type.specs.Forms.{stream_of}
 use Rattle.typing_fits.specs.Sound.{IsNarrowType, Limited, LimitedAt, Sound, AllSound, SoundAlone, AllSoundAlone}
-use Rattle.typing_fits.specs.Alternatives.{AllSoundIn, AlikeIfOneEnum}
+use Rattle.typing_fits.specs.Alternatives.{AllSoundIn}
 use Rattle.typing_fits.proofs.Contexts.{allowed, allowed-left, allowed-right, none-left, none-right, refused-then, word}
 use Rattle.typing_fits.proofs.Vectors.{IsResult, vector-of, vector-as, one_bit-of, narrow-vector, narrow-one_bit, result-of, result-as}
-use Rattle.typing_fits.proofs.Same.{alike}
+use Rattle.typing_fits.proofs.Same.{alike-width, alike-sign}
 use Rattle.typing_fits.proofs.Limits as M
 use Rattle.typing_fits.proofs.Limits.{at-width}
 use Rattle.typing_fits.proofs.Lists as T
@@ -36,13 +36,13 @@ same-sign true true h = refl
 same-sign true false h = sym h
 same-sign false b h = refl
 
-chosen-by : (b : Bool) (l r : Valued) (gs : List Function) → is_same_enum l.expr.of r.expr.of ≡ b → AlikeIfOneEnum l r → Sound l gs → Sound r gs
+chosen-by : (b : Bool) (l r : Valued) (gs : List Function) → is_same_enum l.expr.of r.expr.of ≡ b → Sound l gs → Sound r gs
     → IsNarrowType (cond b l.expr.of (both_type l r)) × IsResult (layout (cond b l.expr.of (both_type l r))) (O.both_wide (meaning l.expr) (meaning r.expr)) (O.both_signed (meaning l.expr) (meaning r.expr))
-chosen-by true l r gs is a x y =
-    let wide_l : width l ≡ both_wide l r = omega (arith, a.width is) in
-    let sign_l : is_signed l ≡ both_signed l r = sym (same-sign (is_signed l) (is_signed r) (a.sign is)) in
+chosen-by true l r gs is x y =
+    let wide_l : width l ≡ both_wide l r = omega (arith, alike-width l r is) in
+    let sign_l : is_signed l ≡ both_signed l r = sym (same-sign (is_signed l) (is_signed r) (alike-sign l r is)) in
     (x.of, result-of l.expr.of (O.both_wide (meaning l.expr) (meaning r.expr)) (O.both_signed (meaning l.expr) (meaning r.expr)) x.of (wide_l ∙ wide-both l r) (sign_l ∙ signed-both l r))
-chosen-by false l r gs is a x y = (both-narrow l r gs x y, (both-vector l r gs x y).result)
+chosen-by false l r gs is x y = (both-narrow l r gs x y, (both-vector l r gs x y).result)
 
 pub choice-sound : (k : Source) (at : ℕ) (on l r v : Valued) (gs : List Function) → choice_of k at on l r ≡ Ok v → Sound on gs → Sound l gs → Sound r gs → Sound v gs
 choice-sound k at on l r v gs h z x y =
@@ -50,7 +50,7 @@ choice-sound k at on l r v gs h z x y =
     let ops = l.arithmetic ++ r.arithmetic in
     let form = F.Choose on.expr l.expr r.expr in
     let inner = in_context k on.begins t form ops in
-    let c = chosen-by (is_same_enum l.expr.of r.expr.of) l r gs refl (alike l r x.of.full) x y in
+    let c = chosen-by (is_same_enum l.expr.of r.expr.of) l r gs refl x y in
     let first = refused-then (is_unpacked l.expr.of || is_unpacked r.expr.of) (position k at) 504 (refused (list_any (λ (u : Valued). is_unpacked u.expr.of) (on ∷ [])) (position k at) 508 inner) v h in
     in-context k on.begins t form ops v gs _ (L.form-Choose on.expr l.expr r.expr) c.0
     (M.choose-limits (layout t) on.begins (meaning on.expr) (meaning l.expr) (meaning r.expr) ops l.arithmetic r.arithmetic gs c.1 (λ w e. allowed-left w l.arithmetic r.arithmetic e)

@@ -29,7 +29,7 @@ use Rattle.expr_type.specs.Typings.{Checked, where_whole, all_of}
 use Rattle.expr_type.specs.Names.{Context, Source}
 use Rattle.expr_type.specs.Operators.{expr_at, not_too_long}
 use Rattle.expr_type.specs.Patterns.{Item, Parts, is_default, keyed, defaults, rest_of, types_in, levels, takes_itself, spread, value_of, made, tries, key_in, all_keys, taken_by, fitted_by, fitted}
-use Rattle.typing_fits.specs.Types.{Fullness, member_fullness, is_full}
+use Rattle.typing_fits.specs.Types.{is_full, is_full_member}
 use Rattle.typing_fits.specs.Sound.{Knows, IsNarrowType, Limited, LimitedAt, SoundFor}
 use Rattle.typing_fits.specs.Operands.{SoundPattern, SoundOperand, AllSoundFor}
 use Rattle.typing_fits.specs.Patterns.{AllSoundItems}
@@ -97,16 +97,16 @@ array-covered t item n of full w is parts marks types = subst (λ ts. Covered t 
 
 -- structs
 abbrev AllFull : List Member → Type 0
-AllFull ms = list_all (λ (f : Fullness). f.full) (map member_fullness ms) ≡ true
+AllFull ms = list_all (λ b. b) (map is_full_member ms) ≡ true
 
 struct-narrow : (ms : List Member) (w : ℕ) → AllFull ms → length (stacked_marks (map member_layout ms)) ≤ w → Narrow w (map (λ (m : Member). m.of) ms)
 struct-narrow [] w full h = tt
 struct-narrow (m ∷ ms) w full h =
     let n = length-append (stacked_marks (map member_layout ms)) (member_layout m).two_state in
     let e : length (member_layout m).two_state ≡ width_of m.of = ap (λ (l : Layout). length l.two_state) (member-layout m) in (
-      sym (full-member m) ∙ and-left (member_fullness m).full (list_all (λ (f : Fullness). f.full) (map member_fullness ms)) full,
+      sym (full-member m) ∙ and-left (is_full_member m) (list_all (λ b. b) (map is_full_member ms)) full,
       omega (arith, n, e, h),
-      struct-narrow ms w (and-right (member_fullness m).full (list_all (λ (f : Fullness). f.full) (map member_fullness ms)) full) (omega (arith, n, h)),
+      struct-narrow ms w (and-right (is_full_member m) (list_all (λ b. b) (map is_full_member ms)) full) (omega (arith, n, h)),
     )
 
 struct-parts : (ms : List Member) → part_marks (above_the_next (map member_layout ms)) ≡ type_marks (map (λ (m : Member). m.of) ms)

@@ -1,5 +1,5 @@
 -- Types that are one type have one width, and enums that are one have one sign.
-use Rattle.std.proofs.Common.{◌≡◌, ℕ, ◌*◌, ◌<◌, ◌≤◌, max, ℤ, Bool, true, false, ◌&&◌, ◌==◌, cond, List, [], ◌∷◌, length, map, Option, Some, None, refl, arith, ap, sym, ◌∙◌, rules, length-append}
+use Rattle.std.proofs.Common.{◌≡◌, ℕ, ◌*◌, ◌<◌, ◌≤◌, max, ℤ, Bool, true, false, ◌&&◌, ◌==◌, cond, List, [], ◌∷◌, length, map, refl, arith, ap, sym, ◌∙◌, rules, length-append}
 use Rattle.std.specs.Prelude.{nat_lt}
 use Rattle.std.specs.Ordering.{int_eq}
 use Rattle.std.proofs.lemmas.Int.{ints}
@@ -12,13 +12,13 @@ use Rattle.sv_types.specs.Layouts.{Layout, member_layout, width_of, count_of, st
 use Rattle.sv_types.proofs.Terms.{Each}
 use Rattle.sv_types.proofs.TypeShapes.{Kinds, by-type}
 use Rattle.sv_types.proofs.Components.{member-layout}
-use Rattle.sv_types.proofs.Lengths.{layout-Scalar, layout-PackedArray, layout-Enum, width-PackedArray, width-UnpackedArray, width-Struct, width-Union}
+use Rattle.sv_types.proofs.Lengths.{layout-Scalar, layout-PackedArray, layout-UnpackedArray, layout-Struct, layout-Union, layout-Enum, width-PackedArray, width-UnpackedArray, width-Struct, width-Union}
 use Rattle.pattern_fit.specs.Same.{same_type, of_member, same_bool, of_scalar, is_packed_array, same_members, of_struct, of_union, of_enum, is_unpacked_array}
-use Rattle.expr_type.specs.Shapes.{enum_of, is_same_number, sign_of}
+use Rattle.expr_type.specs.Shapes.{enum_of, is_same_number, sign_of, is_same_enum}
+use Rattle.expr_type.specs.Operands.{width}
+use Rattle.expr_type.specs.Operators.{is_signed}
 use Rattle.expr_type.specs.declared.operand.Valued.{Valued}
-use Rattle.typing_fits.specs.Types.{Fullness, fullness, is_full}
-use Rattle.typing_fits.specs.Alternatives.{AlikeIfOneEnum}
-use Rattle.typing_fits.proofs.Full.{and-left, and-right, full-Enum, fullness-Enum, fullness-Struct, fullness-Union, fullness-UnpackedArray}
+use Rattle.typing_fits.proofs.Full.{and-left, and-right}
 
 -- a type as it is taken apart
 out-Scalar : (four s : Bool) → out-SvType (V.Scalar four s) ≡ SvType-F.Scalar four s
@@ -49,10 +49,10 @@ same-PackedArray l r s item u = search (rules, the_lemmas)
 same-UnpackedArray : (l r : ℤ) (item u : SvType) → same_type (V.UnpackedArray l r item) u ≡ is_unpacked_array l r (same_type item) (out-SvType u)
 same-UnpackedArray l r item u = search (rules, the_lemmas)
 
-same-Struct : (id : ℕ) (packed s : Bool) (ms : List Member) (u : SvType) → same_type (V.Struct id packed s ms) u ≡ of_struct id (map of_member ms) (out-SvType u)
+same-Struct : (id : ℕ) (packed s : Bool) (ms : List Member) (u : SvType) → same_type (V.Struct id packed s ms) u ≡ of_struct id packed s (map of_member ms) (out-SvType u)
 same-Struct id packed s ms u = search (rules, the_lemmas)
 
-same-Union : (id : ℕ) (s : Bool) (ms : List Member) (u : SvType) → same_type (V.Union id s ms) u ≡ of_union id (map of_member ms) (out-SvType u)
+same-Union : (id : ℕ) (s : Bool) (ms : List Member) (u : SvType) → same_type (V.Union id s ms) u ≡ of_union id s (map of_member ms) (out-SvType u)
 same-Union id s ms u = search (rules, the_lemmas)
 
 same-Enum : (id : ℕ) (base : SvType) (names : List EnumName) (u : SvType) → same_type (V.Enum id base names) u ≡ of_enum id (same_type base) (out-SvType u)
@@ -162,12 +162,18 @@ widths = record {
       ∙ sym (width-PackedArray i j t other))
       (λ id pk t ms is. absurd (cc)) (λ id t ms is. absurd (cc)) (λ id base names is. absurd (cc)) (λ i j other is. absurd (cc)) u (sym (same-PackedArray l r s item u) ∙ h);
   structure = λ id pk s ms same u h.
-      by-test (of_struct id (map of_member ms)) (λ u. width_of (V.Struct id pk s ms) ≡ width_of u) (λ f t is. absurd (cc)) (λ l r t item is. absurd (cc))
-      (λ j pk2 t ns is. width-Struct id pk s ms ∙ total-same ms ns same (and-right (id == j) (same_members (map of_member ms) ns) is) ∙ sym (width-Struct j pk2 t ns)) (λ j t ns is. absurd (cc))
+      by-test (of_struct id pk s (map of_member ms)) (λ u. width_of (V.Struct id pk s ms) ≡ width_of u) (λ f t is. absurd (cc)) (λ l r t item is. absurd (cc))
+      (λ j pk2 t ns is.
+      let m = same_members (map of_member ms) ns in
+      width-Struct id pk s ms
+      ∙ total-same ms ns same (and-right (same_bool s t) m (and-right (same_bool pk pk2) (same_bool s t && m) (and-right (id == j) (same_bool pk pk2 && (same_bool s t && m)) is)))
+      ∙ sym (width-Struct j pk2 t ns)) (λ j t ns is. absurd (cc))
       (λ j base names is. absurd (cc)) (λ l r item is. absurd (cc)) u (sym (same-Struct id pk s ms u) ∙ h);
   union = λ id s ms same u h.
-      by-test (of_union id (map of_member ms)) (λ u. width_of (V.Union id s ms) ≡ width_of u) (λ f t is. absurd (cc)) (λ l r t item is. absurd (cc)) (λ j pk t ns is. absurd (cc))
-      (λ j t ns is. width-Union id s ms ∙ widest-same ms ns same (and-right (id == j) (same_members (map of_member ms) ns) is) ∙ sym (width-Union j t ns)) (λ j base names is. absurd (cc))
+      by-test (of_union id s (map of_member ms)) (λ u. width_of (V.Union id s ms) ≡ width_of u) (λ f t is. absurd (cc)) (λ l r t item is. absurd (cc)) (λ j pk t ns is. absurd (cc))
+      (λ j t ns is.
+      let m = same_members (map of_member ms) ns in
+      width-Union id s ms ∙ widest-same ms ns same (and-right (same_bool s t) m (and-right (id == j) (same_bool s t && m) is)) ∙ sym (width-Union j t ns)) (λ j base names is. absurd (cc))
       (λ l r item is. absurd (cc)) u (sym (same-Union id s ms u) ∙ h);
   enumeration = λ id base names same u h.
       by-test (of_enum id (same_type base)) (λ u. width_of (V.Enum id base names) ≡ width_of u) (λ f t is. absurd (cc)) (λ l r t item is. absurd (cc)) (λ j pk t ns is. absurd (cc)) (λ j t ns is. absurd (cc))
@@ -187,12 +193,9 @@ widths = record {
 pub same-width : (t u : SvType) → same_type t u ≡ true → width_of t ≡ width_of u
 same-width = by-type SameWidth MemberWidth widths
 
--- signs of what an enum may stand on
-abbrev base_of : Fullness → Bool
-base_of f = f.base
-
+-- signs
 abbrev SameSign : SvType → Type 0
-SameSign t = (fullness t).base ≡ true → (u : SvType) → same_type t u ≡ true → sign_of t ≡ sign_of u
+SameSign t = (u : SvType) → same_type t u ≡ true → sign_of t ≡ sign_of u
 
 scalar-sign : (four s : Bool) → sign_of (V.Scalar four s) ≡ s
 scalar-sign four s = ap (λ (l : Layout). l.signed) (layout-Scalar four s)
@@ -200,64 +203,64 @@ scalar-sign four s = ap (λ (l : Layout). l.signed) (layout-Scalar four s)
 array-sign : (l r : ℤ) (s : Bool) (item : SvType) → sign_of (V.PackedArray l r s item) ≡ s
 array-sign l r s item = ap (λ (l : Layout). l.signed) (layout-PackedArray l r s item)
 
+struct-sign : (id : ℕ) (packed s : Bool) (ms : List Member) → sign_of (V.Struct id packed s ms) ≡ (packed && s)
+struct-sign id packed s ms = ap (λ (l : Layout). l.signed) (layout-Struct id packed s ms)
+
+union-sign : (id : ℕ) (s : Bool) (ms : List Member) → sign_of (V.Union id s ms) ≡ s
+union-sign id s ms = ap (λ (l : Layout). l.signed) (layout-Union id s ms)
+
+enum-sign : (id : ℕ) (base : SvType) (names : List EnumName) → sign_of (V.Enum id base names) ≡ sign_of base
+enum-sign id base names = ap (λ (l : Layout). l.signed) (layout-Enum id base names)
+
+unpacked-sign : (l r : ℤ) (item : SvType) → sign_of (V.UnpackedArray l r item) ≡ false
+unpacked-sign l r item = ap (λ (l : Layout). l.signed) (layout-UnpackedArray l r item)
+
 signs : Kinds SameSign AnyMember
 signs = record {
   member = λ m h. tt;
-  scalar = λ four s base u h.
+  scalar = λ four s u h.
       by-test (of_scalar four s) (λ u. sign_of (V.Scalar four s) ≡ sign_of u)
       (λ f t is. scalar-sign four s ∙ bool-same s t (and-right (same_bool four f) (same_bool s t) is) ∙ sym (scalar-sign f t)) (λ l r t item is. absurd (cc)) (λ id pk t ms is. absurd (cc)) (λ id t ms is. absurd (cc))
       (λ id base names is. absurd (cc)) (λ l r item is. absurd (cc)) u (sym (same-Scalar four s u) ∙ h);
-  packed = λ l r s item i base u h.
+  packed = λ l r s item i u h.
       by-test (is_packed_array l r s (same_type item)) (λ u. sign_of (V.PackedArray l r s item) ≡ sign_of u) (λ f t is. absurd (cc))
       (λ i j t other is.
       let rest = and-right (int_eq l i) (int_eq r j && (same_bool s t && same_type item other)) is in
       let last = and-right (int_eq r j) (same_bool s t && same_type item other) rest in
       array-sign l r s item ∙ bool-same s t (and-left (same_bool s t) (same_type item other) last) ∙ sym (array-sign i j t other))
       (λ id pk t ms is. absurd (cc)) (λ id t ms is. absurd (cc)) (λ id base names is. absurd (cc)) (λ i j other is. absurd (cc)) u (sym (same-PackedArray l r s item u) ∙ h);
-  structure = λ id pk s ms i base u h. absurd (let e : false ≡ true = sym (ap base_of (fullness-Struct id pk s ms)) ∙ base in cc);
-  union = λ id s ms i base u h. absurd (let e : false ≡ true = sym (ap base_of (fullness-Union id s ms)) ∙ base in cc);
-  enumeration = λ id b names i base u h. absurd (let e : false ≡ true = sym (ap base_of (fullness-Enum id b names)) ∙ base in cc);
-  unpacked = λ l r item i base u h. absurd (let e : false ≡ true = sym (ap base_of (fullness-UnpackedArray l r item)) ∙ base in cc);
+  structure = λ id pk s ms i u h.
+      by-test (of_struct id pk s (map of_member ms)) (λ u. sign_of (V.Struct id pk s ms) ≡ sign_of u) (λ f t is. absurd (cc)) (λ l r t item is. absurd (cc))
+      (λ j pk2 t ns is.
+      let m = same_members (map of_member ms) ns in
+      let rest = and-right (id == j) (same_bool pk pk2 && (same_bool s t && m)) is in
+      let one = bool-same pk pk2 (and-left (same_bool pk pk2) (same_bool s t && m) rest) in
+      let two = bool-same s t (and-left (same_bool s t) m (and-right (same_bool pk pk2) (same_bool s t && m) rest)) in
+      struct-sign id pk s ms ∙ ap (λ b. b && s) one ∙ ap (λ b. pk2 && b) two ∙ sym (struct-sign j pk2 t ns))
+      (λ j t ns is. absurd (cc)) (λ j base names is. absurd (cc)) (λ l r item is. absurd (cc)) u (sym (same-Struct id pk s ms u) ∙ h);
+  union = λ id s ms i u h.
+      by-test (of_union id s (map of_member ms)) (λ u. sign_of (V.Union id s ms) ≡ sign_of u) (λ f t is. absurd (cc)) (λ l r t item is. absurd (cc)) (λ j pk t ns is. absurd (cc))
+      (λ j t ns is.
+      let m = same_members (map of_member ms) ns in
+      union-sign id s ms ∙ bool-same s t (and-left (same_bool s t) m (and-right (id == j) (same_bool s t && m) is)) ∙ sym (union-sign j t ns))
+      (λ j base names is. absurd (cc)) (λ l r item is. absurd (cc)) u (sym (same-Union id s ms u) ∙ h);
+  enumeration = λ id base names same u h.
+      by-test (of_enum id (same_type base)) (λ u. sign_of (V.Enum id base names) ≡ sign_of u) (λ f t is. absurd (cc)) (λ l r t item is. absurd (cc)) (λ j pk t ns is. absurd (cc)) (λ j t ns is. absurd (cc))
+      (λ j other others is. enum-sign id base names ∙ same other (and-right (id == j) (same_type base other) is) ∙ sym (enum-sign j other others)) (λ l r item is. absurd (cc)) u (sym (same-Enum id base names u) ∙ h);
+  unpacked = λ l r item i u h.
+      by-test (is_unpacked_array l r (same_type item)) (λ u. sign_of (V.UnpackedArray l r item) ≡ sign_of u) (λ f t is. absurd (cc)) (λ i j t other is. absurd (cc)) (λ id pk t ms is. absurd (cc))
+      (λ id t ms is. absurd (cc)) (λ id base names is. absurd (cc)) (λ i j other is. unpacked-sign l r item ∙ sym (unpacked-sign i j other)) u (sym (same-UnpackedArray l r item u) ∙ h);
 }
 
-base-sign : (t : SvType) → SameSign t
-base-sign = by-type SameSign AnyMember signs
+pub same-sign : (t u : SvType) → same_type t u ≡ true → sign_of t ≡ sign_of u
+same-sign = by-type SameSign AnyMember signs
 
--- enums that are one
-abbrev EnumSign : SvType → Type 0
-EnumSign t = is_full t ≡ true → (n : ℕ) → enum_of t ≡ Some n → (u : SvType) → same_type t u ≡ true → sign_of t ≡ sign_of u
+-- arms of one enum
+abbrev one_enum : SvType → SvType → Bool
+one_enum t u = is_same_number (enum_of t) (enum_of u)
 
-enum-sign-is : (id : ℕ) (base : SvType) (names : List EnumName) → sign_of (V.Enum id base names) ≡ sign_of base
-enum-sign-is id base names = ap (λ (l : Layout). l.signed) (layout-Enum id base names)
+pub alike-width : (l r : Valued) → is_same_enum l.expr.of r.expr.of ≡ true → width l ≡ width r
+alike-width l r h = same-width l.expr.of r.expr.of (and-right (one_enum l.expr.of r.expr.of) (same_type l.expr.of r.expr.of) h)
 
-none-enum : (t : SvType) (n : ℕ) → enum_of t ≡ None → enum_of t ≡ Some n → ⊥
-none-enum t n h g = let e : None ≡ Some n = sym h ∙ g in cc
-
-enums : Kinds EnumSign AnyMember
-enums = record {
-  member = λ m h. tt;
-  scalar = λ four s full n is u h. absurd (none-enum (V.Scalar four s) n (search (rules, the_lemmas)) is);
-  packed = λ l r s item i full n is u h. absurd (none-enum (V.PackedArray l r s item) n (search (rules, the_lemmas)) is);
-  structure = λ id pk s ms i full n is u h. absurd (none-enum (V.Struct id pk s ms) n (search (rules, the_lemmas)) is);
-  union = λ id s ms i full n is u h. absurd (none-enum (V.Union id s ms) n (search (rules, the_lemmas)) is);
-  enumeration = λ id base names i full n is u h.
-      by-test (of_enum id (same_type base)) (λ u. sign_of (V.Enum id base names) ≡ sign_of u) (λ f t e. absurd (cc)) (λ l r t item e. absurd (cc)) (λ j pk t ns e. absurd (cc)) (λ j t ns e. absurd (cc))
-      (λ j other others e.
-      enum-sign-is id base names
-      ∙ base-sign base (and-right (is_full base) (fullness base).base (sym (full-Enum id base names) ∙ full)) other (and-right (id == j) (same_type base other) e) ∙ sym (enum-sign-is j other others))
-      (λ l r item e. absurd (cc)) u (sym (same-Enum id base names u) ∙ h);
-  unpacked = λ l r item i full n is u h. absurd (none-enum (V.UnpackedArray l r item) n (search (rules, the_lemmas)) is);
-}
-
-enum-sign : (t : SvType) → EnumSign t
-enum-sign = by-type EnumSign AnyMember enums
-
-one-by : (t u : SvType) (o : Option ℕ) → is_full t ≡ true → enum_of t ≡ o → (is_same_number o (enum_of u) && same_type t u) ≡ true → sign_of t ≡ sign_of u
-one-by t u None full is h = absurd (cc)
-one-by t u (Some n) full is h = enum-sign t full n is u (and-right (is_same_number (Some n) (enum_of u)) (same_type t u) h)
-
-pub alike : (l r : Valued) → is_full l.expr.of ≡ true → AlikeIfOneEnum l r
-alike l r full = record {
-  width = λ h. same-width l.expr.of r.expr.of (and-right (is_same_number (enum_of l.expr.of) (enum_of r.expr.of)) (same_type l.expr.of r.expr.of) h);
-  sign = λ h. one-by l.expr.of r.expr.of (enum_of l.expr.of) full refl h;
-}
+pub alike-sign : (l r : Valued) → is_same_enum l.expr.of r.expr.of ≡ true → is_signed l ≡ is_signed r
+alike-sign l r h = same-sign l.expr.of r.expr.of (and-right (one_enum l.expr.of r.expr.of) (same_type l.expr.of r.expr.of) h)
