@@ -1,4 +1,4 @@
-use Rattle.std.proofs.Common.{◌≡◌, length, arith, ap, ◌∙◌, subst}
+use Rattle.std.proofs.Common.{◌≡◌, length, arith, ap, subst}
 use Rattle.sv_types.specs.Layouts.{layout}
 use Rattle.sv_types.specs.Operators.{assigned_width}
 use Rattle.sv_types.specs.Expressions.{meaning}
@@ -9,7 +9,6 @@ use Rattle.expr_flows.specs.Known.{sight}
 use Rattle.design_breaks.specs.Indices.{unheld}
 use Rattle.bound_values.specs.declared.bounds.Bound.{Bound}
 use Rattle.bound_values.specs.Bounds.{BoundIs}
-use Rattle.bound_values.proofs.Looking as K
 use Rattle.bound_values.proofs.bounds.assigned.Goals as goal
 
 pub bound_value-requires-clause-alone : goal.bound_value-requires-clause-alone

@@ -1,4 +1,4 @@
-use Rattle.std.proofs.Common.{◌≡◌, ◌+◌, ◌&&◌, true, map, drop, refl, arith, ap, sym, ◌∙◌, subst}
+use Rattle.std.proofs.Common.{◌≡◌, ◌+◌, ◌&&◌, map, drop, arith, ap, sym, ◌∙◌, subst}
 use Rattle.std.proofs.Math.Bool.{and-true}
 use Rattle.std.proofs.Math.ListN.{drop_of_length-le}
 use Rattle.std.proofs.lemmas.Bool.{and_parts}
@@ -24,7 +24,6 @@ use Rattle.loop_laws.proofs.Lesser.{lesser-none}
 use Rattle.loop_laws.proofs.LongOperands as G
 use Rattle.loop_laws.proofs.SaidLevels as S
 use Rattle.bound_values.specs.declared.looks.Look.{Look}
-use Rattle.bound_values.specs.Looks.{both_looks}
 use Rattle.bound_values.proofs.Looking as K
 use Rattle.bound_values.proofs.looks.+looks.Goals as goal
 

@@ -1,4 +1,4 @@
-use Rattle.std.proofs.Common.{◌≡◌, true, false, sym, rules}
+use Rattle.std.proofs.Common.{◌≡◌, true, false, rules}
 use Rattle.bound_values.proofs.Looking as K
 use Rattle.bound_values.proofs.looks.index_long.Goals as goal
 
