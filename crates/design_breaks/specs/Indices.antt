@@ -22,6 +22,11 @@ lesser None other = other
 lesser (Some at) None = Some at
 lesser (Some at) (Some other) = Some (min at other)
 
+-- a token, or else another one: of a constant whose part takes too long nothing is said
+abbrev pub first_of : Option ℕ → Option ℕ → Option ℕ
+first_of None other = other
+first_of (Some at) other = Some at
+
 -- the constant index at the least first token in an expression, of those whose value takes too long
 abbrev pub Long : Type 0
 Long = Sight → Option ℕ
@@ -51,7 +56,7 @@ pub record SaidChoice : Type 0 where
 
 -- an index
 abbrev pub index : Said → Long
-index i k = lesser (i.long k) (cond (i.means.constant k && takes_too_long i.means k) (Some i.means.at) None)
+index i k = first_of (i.long k) (cond (i.means.constant k && takes_too_long i.means k) (Some i.means.at) None)
 
 abbrev pub all_said : List Said → Long
 all_said es = all (map (λ (e : Said). e.long) es)

@@ -8,7 +8,7 @@ use Rattle.sv_types.specs.Expressions.{meaning}
 use Rattle.sv_types.specs.Runs.{is_true, most_turns}
 use Rattle.sv_types.specs.Flows.{knowing}
 use Rattle.design_breaks.specs.declared.Unrolled.{Unrolled}
-use Rattle.design_breaks.specs.Indices.{unheld, takes_too_long, lesser, said, long_in}
+use Rattle.design_breaks.specs.Indices.{unheld, takes_too_long, first_of, lesser, said, long_in}
 
 -- so many statements may stand
 abbrev pub most_statements : ℕ
@@ -61,7 +61,7 @@ pub record Control : Type 0 where
 
 -- where a constant takes too long
 abbrev pub too_long_at : Expr → Sight → Option ℕ
-too_long_at e k = lesser ((said e).long k) (cond (takes_too_long (meaning e) k) (Some e.spot.at) None)
+too_long_at e k = first_of ((said e).long k) (cond (takes_too_long (meaning e) k) (Some e.spot.at) None)
 
 -- what is known once the variable is given a value
 abbrev pub given : Control → Expr → Sight → Sight
