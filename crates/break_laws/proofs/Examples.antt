@@ -1,5 +1,5 @@
 -- A small design that breaks no rule, and a loop that does: what the laws ask for can be met.
-use Rattle.std.proofs.Common.{◌≡◌, ℕ, ◌==◌, ◌&&◌, ◌||◌, not, inl, inr, length, Bool, true, false, List, [], ◌∷◌, ◌++◌, map, filter, flat_map, Some, refl, ap, sym, ◌∙◌, subst, rules, arith}
+use Rattle.std.proofs.Common.{◌≡◌, ℕ, ◌==◌, ◌&&◌, ◌||◌, not, inl, inr, length, Bool, true, false, List, [], ◌∷◌, ◌++◌, map, filter, flat_map, None, Some, refl, ap, sym, ◌∙◌, subst, rules, arith}
 use Rattle.std.specs.Prelude.{slice_get, nat_lt}
 use Rattle.std.specs.List.{list_any}
 use Rattle.std.proofs.lemmas.Bool.{and_right, and_from, false≢true}
@@ -44,7 +44,7 @@ use Rattle.design_breaks.specs.Memories.{is_unpacked_array, is_memory}
 use Rattle.design_breaks.specs.Indices as I
 use Rattle.design_breaks.specs.Unrolling as U
 use Rattle.design_breaks.specs.declared.Break.{Break}
-use Rattle.design_breaks.specs.declared.Unrolled.TheVariants.{Whole}
+use Rattle.design_breaks.specs.declared.Unrolled.{Unrolled}
 use Rattle.design_breaks.specs.Breaks as B
 use Rattle.design_breaks.specs.Breaks.{breaks, least_of}
 use Rattle.design_breaks.specs.Circles.{IsStuck}
@@ -113,7 +113,7 @@ module _ (here : Spot) (initial : Value) where
         assigns = record { at = here.at; later = false; to = (names 1 i).roots ++ [] } ∷ [];
         said = M.all (mentions-named 1 i ∷ mentions-named 0 i ∷ []);
         targets = λ fs. (names 1 i).roots ++ [];
-        unrolls = λ fs. U.counted (λ k u. U.stopped_at (I.all (long-named 1 i ∷ long-named 0 i ∷ []) k) u);
+        unrolls = λ fs. U.counted (λ k u. U.found (I.all (long-named 1 i ∷ long-named 0 i ∷ []) k) u);
       })
 
   abbrev design : Design
@@ -132,8 +132,11 @@ module _ (here : Spot) (initial : Value) where
   abbrev before : Sight
   before = unseen (parts design)
 
+  abbrev nothing_yet : Unrolled
+  nothing_yet = record { left = Some U.most_statements; endless = None }
+
   abbrev whole : Actions → Bool
-  whole a = B.is_none (a.unbounded (B.formals design) before) && B.is_whole (a.unrolls (B.formals design) before (Whole U.most_statements))
+  whole a = B.is_none (a.unbounded (B.formals design) before) && B.is_whole (a.unrolls (B.formals design) before nothing_yet)
 
   abbrev uses : Doing → List Use
   uses w = uses_of (w.flow before).writes
@@ -171,7 +174,7 @@ module _ (here : Spot) (initial : Value) where
   none-deferred = λ i. map (λ (x : A.Assignment). x.at) (filter (λ (x : A.Assignment). x.later && (true || B.names_local design x.to)) (body-says i).assigns)
 
   none-endless : B.endless_of design body ≡ []
-  none-endless = λ i. (body-says i).unbounded (B.formals design) before ++ B.endless_at ((body-says i).unrolls (B.formals design) before (Whole U.most_statements))
+  none-endless = λ i. (body-says i).unbounded (B.formals design) before ++ B.endless_at ((body-says i).unrolls (B.formals design) before nothing_yet)
 
   none-input : B.writes_input design assignment ≡ []
   unfolding P.signal
@@ -179,7 +182,7 @@ module _ (here : Spot) (initial : Value) where
       (filter (λ (u : Use). B.is_any_input design u.number && (nat_lt u.low u.high && not (B.is_own_link design K.Continuous u.number))) (uses (body-does i) ++ uses_of ((body-does i).flow before).later)))
 
   none-long : B.too_long design body here.at ≡ []
-  none-long = λ i. B.only_if (B.is_none ((body-says i).unbounded (B.formals design) before) && B.is_too_many ((body-says i).unrolls (B.formals design) before (Whole U.most_statements))) (here.at ∷ [])
+  none-long = λ i. B.only_if (B.is_none ((body-says i).unbounded (B.formals design) before) && B.is_too_many ((body-says i).unrolls (B.formals design) before nothing_yet)) (here.at ∷ [])
 
   none-wide : (n : ℕ) (s : Signal) → s.of ≡ bit → B.too_wide design (n, s) ≡ []
   none-wide n s is = by (is_unpacked_array s.of) (ap is_unpacked_array is ∙ packed)

@@ -11,3 +11,4 @@ pub mod FlowsFit
 pub mod Keeping
 pub mod Standing
 mod Examples
+mod Unrollings

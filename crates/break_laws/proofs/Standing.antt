@@ -22,7 +22,6 @@ use Rattle.design_breaks.specs.Memories.{is_edged}
 use Rattle.design_breaks.specs.Breaks as B
 use Rattle.design_breaks.specs.declared.Break.{Break}
 use Rattle.design_breaks.specs.declared.Unrolled.{Unrolled}
-use Rattle.design_breaks.specs.declared.Unrolled.TheVariants.{Whole, TooMany, Endless}
 use Rattle.design_breaks.specs.Breaks.{breaks, least_of, is_less, formals, unbounded_of, unrolled, unrolls, endless_of, endless_at, is_too_many, is_whole, too_long, only_if, written_twice, read_early, process_breaks, function_breaks, too_wide, numbered, at_each}
 use Rattle.break_laws.specs.Shapes.{ShapedProcess, only_those}
 use Rattle.break_laws.specs.Laws.{ProcessesAreFree, SomeBreakIsLeast, DesignsHaveOneTrace}
@@ -86,10 +85,14 @@ module _ (d : Design) where
   none-known [] h = refl
   none-known (n ∷ ns) h = cc
 
+  none-found : (left endless : Option ℕ) (at : ℕ) → endless_at (record { left = left; endless = endless }) ≡ [] → only_if (is_too_many (record { left = left; endless = endless })) (at ∷ []) ≡ []
+      → is_whole (record { left = left; endless = endless }) ≡ true
+  none-found None endless at h g = cc
+  none-found (Some n) None at h g = refl
+  none-found (Some n) (Some t) at h g = cc
+
   ends : (u : Unrolled) (at : ℕ) → endless_at u ≡ [] → only_if (is_too_many u) (at ∷ []) ≡ [] → is_whole u ≡ true
-  ends (Whole n) at h g = refl
-  ends TooMany at h g = cc
-  ends (Endless t) at h g = cc
+  ends u at h g = none-found u.left u.endless at h g
 
   can-unroll : (s : Stmt) (at : ℕ) → endless_of d s ≡ [] → too_long d s at ≡ [] → unrolls d s ≡ true
   can-unroll s at h g =

@@ -1,14 +1,13 @@
 //! The values and sizes of expressions.
 
 use crate::forms::{ALTERNATIVES, PATHS, PATTERNS, STATES};
-use crate::maker::expression;
 use crate::operators::{ARITHMETIC, BITWISE, COMPARISONS, FILLS, LOGIC, SELECTS, SHIFTS};
 use crate::runs::{environment, text_of_size, text_of_value};
-use crate::words::Word;
-use crate::words::Word::{Bits, Constant, Signal, Signed, Type, Vector};
 use std::alloc::{AllocError, Global};
 use std::process::Abort;
 use std::test::Fail;
+use tree_words::Word::{Bits, Constant, Signal, Signed, Type, Vector};
+use tree_words::{Word, expression};
 
 // Signals by number, the most significant bit first; the seventh isn't held.
 const SIGNALS: &[&str] = &[

@@ -1,11 +1,11 @@
 //! Expressions with the values that follow from the standard.
 
-use crate::words::Word;
-use crate::words::Word::{
+use b4_core::{BinOp, Bit4, ShiftOp};
+use tree_words::Word;
+use tree_words::Word::{
     Binary, Bits, Both, Cast, Choose, Concat, Constant, Fill, Index, Inside, Local, Member,
     Pattern, Scalar, Shift, Signal, Signed, SignedVector, Slide, Stream, Type, Vector,
 };
-use b4_core::{BinOp, Bit4, ShiftOp};
 
 /// Members and elements of constants (clauses 7.2 to 7.4 and 11.5.1).
 pub const PATHS: &[(&[Word], &str)] = &[

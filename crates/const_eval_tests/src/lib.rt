@@ -1,18 +1,20 @@
-//! Tests of constant evaluation, over tables of typed expressions.
+//! Tests of constant evaluation, over tables of typed expressions, statements and functions.
 #![tactic(auto)]
 
+#[cfg(test)]
+mod calls;
 #[cfg(test)]
 mod expressions;
 #[cfg(test)]
 mod forms;
 mod functions;
 #[cfg(test)]
-mod maker;
-#[cfg(test)]
 mod operators;
+#[cfg(test)]
+mod routines;
 #[cfg(test)]
 mod runs;
 #[cfg(test)]
-mod types;
+mod statements;
 #[cfg(test)]
-mod words;
+mod stmt_tables;

@@ -1,12 +1,12 @@
 //! Expressions with the values that Icarus Verilog gives them.
 
-use crate::words::Word;
-use crate::words::Word::{
+use b4_core::{BinOp, Bit4, EqOp, OrdOp, RedOp, ShiftOp, UnOp};
+use tree_words::Word;
+use tree_words::Word::{
     Binary, Bits, Both, Cast, Choose, Clog2, Concat, Either, Equal, Fill, GoesOn, Index, Member,
     Negate, Order, Part, Power, Reduce, Repeat, Scalar, Shift, Signal, Signed, SignedVector, Slide,
     Type, Unary, Vector,
 };
-use b4_core::{BinOp, Bit4, EqOp, OrdOp, RedOp, ShiftOp, UnOp};
 
 /// Numbers and bitwise operators.
 pub const BITWISE: &[(&[Word], &str)] = &[

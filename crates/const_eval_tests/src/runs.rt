@@ -1,12 +1,12 @@
 //! What is asked of constant evaluation, and its answers as text.
 
 use crate::functions::no_functions;
-use crate::types::{bits, put_value};
 use b4_core::Vec4;
 use const_eval::{Env, EvalFail, SizeFail, size, value};
 use expr_fits::fits_alone;
 use std::alloc::{AllocError, Global};
 use sv_types::{Expr, Value};
+use tree_words::{bits, put_value};
 
 // The bits of a signal; none where the text is empty.
 fn slot(alloc: Global, text: &str) -> Result<Option<Vec4>, AllocError> {

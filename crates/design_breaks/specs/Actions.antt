@@ -1,6 +1,6 @@
 -- What the statements of a process or function say: their assignments, what they pass to outputs, what they mention, and the
 -- loops whose bounds aren't known.
-use Rattle.std.specs.Prelude.{ℕ, Bool, true, false, ◌&&◌, ◌==◌, not, cond, List, [], ◌∷◌, ◌++◌, map, flat_map, Option, Some, None}
+use Rattle.std.specs.Prelude.{ℕ, Bool, true, false, ◌&&◌, ◌==◌, not, cond, List, [], ◌∷◌, ◌++◌, map, flat_map, zip, Option, Some, None}
 use Rattle.std.specs.List.{list_any}
 use Rattle.sv_types.specs.declared.expression.Expr.{Expr}
 use Rattle.sv_types.specs.declared.statement.Local.{Local}
@@ -90,6 +90,10 @@ passed_out [] es = []
 passed_out (p ∷ ps) [] = []
 passed_out (p ∷ ps) (e ∷ es) = cond (is_out p.way) (record { at = e.spot.at; to = (meaning e).roots } ∷ []) [] ++ passed_out ps es
 
+-- what is passed to formals
+abbrev pub passed_to : List Parameter → List Expr → List Expr
+passed_to ps es = map (λ p. p.1) (zip ps es)
+
 abbrev pub calling : ℕ → List Expr → Actions
 calling f actuals =
     let m = all_mentions actuals in
@@ -97,6 +101,7 @@ calling f actuals =
       said = record m { calls = f ∷ m.calls };
       passes = λ fs. passed_out (fs f) actuals;
       targets = λ fs. flat_map (λ (p : Passed). p.to) (passed_out (fs f) actuals);
+      unrolls = λ fs. U.valuing (passed_to (fs f) actuals);
     }
 
 -- what is known in the first turn of a loop

@@ -1,6 +1,6 @@
 -- Where a typed design breaks the rules on processes. A break stands at a token of an instance's text; rules on bits speak only
 -- of processes and functions whose loops can all be unrolled to as many statements as may stand.
-use Rattle.std.specs.Prelude.{ℕ, zero, suc, min, max, Bool, true, false, ◌&&◌, ◌||◌, ◌==◌, nat_lt, nat_le, not, cond, List, [], ◌∷◌, ◌++◌, length, map, flat_map, filter, reverse, take, drop, Option, Some, None, slice_get}
+use Rattle.std.specs.Prelude.{ℕ, zero, suc, min, max, Bool, true, false, ◌&&◌, ◌||◌, ◌==◌, nat_lt, nat_le, not, cond, List, [], ◌∷◌, ◌++◌, length, map, flat_map, filter, reverse, take, drop, Option, Some, None, is_some, slice_get}
 use Rattle.std.specs.List.{list_any, list_all}
 use Rattle.row_machine.specs.Valuation.{Place}
 use Rattle.row_machine.specs.Places.{places_of}
@@ -29,7 +29,6 @@ use Rattle.sv_types.specs.Functions.{parameters}
 use Rattle.sv_types.specs.Machine.{parts, places, unseen, is_input}
 use Rattle.design_breaks.specs.declared.Break.{Break}
 use Rattle.design_breaks.specs.declared.Unrolled.{Unrolled}
-use Rattle.design_breaks.specs.declared.Unrolled.TheVariants.{Whole, TooMany, Endless}
 use Rattle.design_breaks.specs.Unrolling.{most_statements}
 use Rattle.design_breaks.specs.Actions.{Assignment, Passed, actions}
 use Rattle.design_breaks.specs.Memories.{is_edged, is_memory, is_unpacked_array, flow, writes_of}
@@ -50,23 +49,17 @@ meet a b = (a.number == b.number) && nat_lt (max a.low b.low) (min a.high b.high
 
 -- why loops can't be unrolled to the end
 abbrev pub endless_at : Unrolled → List ℕ
-endless_at (Whole n) = []
-endless_at TooMany = []
-endless_at (Endless at) = at ∷ []
+endless_at u = elim u.endless [ None ↦ [] | Some at ↦ at ∷ [] ]
 
 abbrev pub is_too_many : Unrolled → Bool
-is_too_many (Whole n) = false
-is_too_many TooMany = true
-is_too_many (Endless at) = false
+is_too_many u = not (is_some u.left)
 
 abbrev pub is_none : List ℕ → Bool
 is_none [] = true
 is_none (n ∷ ns) = false
 
 abbrev pub is_whole : Unrolled → Bool
-is_whole (Whole n) = true
-is_whole TooMany = false
-is_whole (Endless at) = false
+is_whole u = is_some u.left && not (is_some u.endless)
 
 module _ (d : Design) where
   abbrev pub formals : ℕ → List Parameter
@@ -76,13 +69,13 @@ module _ (d : Design) where
   abbrev pub function_flow : Function → Flow
   function_flow f = (doing f.body).flow (unseen (parts d))
 
-  -- The loops that can't be unrolled: those whose bounds aren't known or whose variable is written in them; and the first one in
-  -- the unrolled list that makes too many turns, or the first constant there that takes too long.
+  -- The loops that can't be unrolled: those whose bounds aren't known or whose variable is written in them; and the one at the
+  -- least token in the unrolled list of those that make too many turns and of the constants that take too long.
   abbrev pub unbounded_of : Stmt → List ℕ
   unbounded_of s = (actions s).unbounded formals (unseen (parts d))
 
   abbrev pub unrolled : Stmt → Unrolled
-  unrolled s = (actions s).unrolls formals (unseen (parts d)) (Whole most_statements)
+  unrolled s = (actions s).unrolls formals (unseen (parts d)) (record { left = Some most_statements; endless = None })
 
   abbrev pub endless_of : Stmt → List ℕ
   endless_of s = unbounded_of s ++ endless_at (unrolled s)

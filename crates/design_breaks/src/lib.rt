@@ -14,11 +14,9 @@ pub struct Break {
 
 /// How far the loops of a process or function could be unrolled.
 #[derive(Clone, Copy, Debug, Drop)]
-pub enum Unrolled {
-    /// So far to the end, and so many more statements may stand.
-    Whole(u32),
-    /// More statements stand than may.
-    TooMany,
-    /// Not past a loop or constant at this token.
-    Endless(u32),
+pub struct Unrolled {
+    /// How many more statements may stand; none where more stand than may.
+    pub left: Option<u32>,
+    /// The least token found of a loop that makes too many turns or of a constant that takes too long.
+    pub endless: Option<u32>,
 }

@@ -4,6 +4,7 @@ ghost use Rattle.std.specs.Prelude.{◌≡◌, ◌≤◌, ◌∷◌, map, IfOk};
 ghost use Rattle.expr_build.specs.Nodes.{behind_marks};
 ghost use Rattle.expr_build.specs.Expressions as means;
 
+use crate::lists::with_last;
 use crate::nodes::{is_blank, kid, kids, kids_from, mark, row, token};
 use crate::rows;
 use crate::words::{
@@ -11,6 +12,7 @@ use crate::words::{
     unary_operator,
 };
 use ll_engine::Tree;
+use pairs::both;
 use std::alloc::{AllocError, Global};
 use sv_source::{Boxed, Items};
 use sv_tree::{
@@ -30,17 +32,17 @@ fn dimension(alloc: Global, depth: u32, tree: &Tree) -> Result<Dimension, AllocE
     ensures { IfOk result (λ d. d ≡ means.dimension_of (means.expr_within depth) tree.now) }
 {
     let opening = token(tree, 0);
-    let left = expr(alloc, depth, kid(tree, 1))?;
+    let left = expr(alloc, depth, kid(tree, 1));
     let bound = kid(tree, 2);
     let closing = token(tree, 3);
     if is_blank(bound) {
         return Ok(Dimension::Size {
             opening,
-            size: left,
+            size: left?,
             closing,
         });
     }
-    let right = expr(alloc, depth, kid(bound, 1))?;
+    let (left, right) = both(left, expr(alloc, depth, kid(bound, 1)))?;
     Ok(Dimension::Range {
         opening,
         left,
@@ -57,7 +59,8 @@ fn dimensions(alloc: Global, depth: u32, trees: &[Tree]) -> Result<Dimensions, A
 {
     let mut dimensions = Items::new(alloc);
     for tree in trees {
-        dimensions.push(dimension(alloc, depth, tree)?)?;
+        let (before, last) = both(Ok(dimensions), dimension(alloc, depth, tree))?;
+        dimensions = with_last(before, last)?;
     }
     Ok(dimensions)
 }
@@ -82,17 +85,17 @@ fn bracketed(alloc: Global, depth: u32, tree: &Tree) -> Result<Select, AllocErro
     ensures { IfOk result (λ s. s ≡ means.bracketed_of (means.expr_within depth) tree.now) }
 {
     let opening = token(tree, 0);
-    let left = expr(alloc, depth, kid(tree, 1))?;
+    let left = expr(alloc, depth, kid(tree, 1));
     let part = kid(tree, 2);
     let closing = token(tree, 3);
     if is_blank(part) {
         return Ok(Select::Index {
             opening,
-            index: left,
+            index: left?,
             closing,
         });
     }
-    let right = expr(alloc, depth, kid(part, 1))?;
+    let (left, right) = both(left, expr(alloc, depth, kid(part, 1)))?;
     let operator = kid(part, 0);
     Ok(Select::Part {
         opening,
@@ -111,7 +114,8 @@ fn selects(alloc: Global, depth: u32, trees: &[Tree]) -> Result<Selects, AllocEr
 {
     let mut selects = Items::new(alloc);
     for tree in trees {
-        selects.push(select(alloc, depth, tree)?)?;
+        let (before, last) = both(Ok(selects), select(alloc, depth, tree))?;
+        selects = with_last(before, last)?;
     }
     Ok(selects)
 }
@@ -121,10 +125,10 @@ fn selects(alloc: Global, depth: u32, trees: &[Tree]) -> Result<Selects, AllocEr
 fn exprs_behind(alloc: Global, depth: u32, first: Expr, rest: &[Tree]) -> Result<Exprs, AllocError>
     ensures { IfOk result (λ es. es ≡ first ∷ behind_marks (means.expr_within depth) rest.now) }
 {
-    let mut exprs = Items::new(alloc);
-    exprs.push(first)?;
+    let mut exprs = with_last(Items::new(alloc), first)?;
     for next in rest {
-        exprs.push(expr(alloc, depth, kid(next, 1))?)?;
+        let (before, last) = both(Ok(exprs), expr(alloc, depth, kid(next, 1)))?;
+        exprs = with_last(before, last)?;
     }
     Ok(exprs)
 }
@@ -161,8 +165,8 @@ fn default_item(alloc: Global, depth: u32, tree: &Tree) -> Result<PatternItem, A
 fn keyed_item(alloc: Global, depth: u32, key: &Tree, rest: &Tree) -> Result<PatternItem, AllocError>
     ensures { IfOk result (λ i. i ≡ means.keyed_item (means.expr_within depth) key.now rest.now) }
 {
-    let key = expr(alloc, depth, key)?;
-    let value = expr(alloc, depth, kid(rest, 1))?;
+    let key = expr(alloc, depth, key);
+    let (key, value) = both(key, expr(alloc, depth, kid(rest, 1)))?;
     Ok(PatternItem::Keyed {
         key,
         colon: token(rest, 0),
@@ -195,10 +199,10 @@ fn pattern_items(
 ) -> Result<PatternItems, AllocError>
     ensures { IfOk result (λ is. is ≡ first ∷ means.more_items (means.expr_within depth) rest.now) }
 {
-    let mut items = Items::new(alloc);
-    items.push(first)?;
+    let mut items = with_last(Items::new(alloc), first)?;
     for next in rest {
-        items.push(pattern_item(alloc, depth, kid(next, 1))?)?;
+        let (before, last) = both(Ok(items), pattern_item(alloc, depth, kid(next, 1)))?;
+        items = with_last(before, last)?;
     }
     Ok(items)
 }
@@ -215,8 +219,8 @@ fn pattern_from(alloc: Global, depth: u32, first: &Tree, rest: &Tree) -> Result<
             Ok(Pattern::Items(items))
         }
         rows::PATTERN_REPLICATION => {
-            let count = boxed(alloc, depth, first)?;
-            let items = exprs(alloc, depth, kid(rest, 1))?;
+            let count = boxed(alloc, depth, first);
+            let (count, items) = both(count, exprs(alloc, depth, kid(rest, 1)))?;
             Ok(Pattern::Replication {
                 count,
                 opening: token(rest, 0),
@@ -340,8 +344,8 @@ fn value_range(alloc: Global, depth: u32, tree: &Tree) -> Result<ValueRange, All
     match row(tree) {
         rows::VALUE_ITEM => Ok(ValueRange::Value(expr(alloc, depth, kid(tree, 0))?)),
         _ => {
-            let low = expr(alloc, depth, kid(tree, 1))?;
-            let high = expr(alloc, depth, kid(tree, 3))?;
+            let low = expr(alloc, depth, kid(tree, 1));
+            let (low, high) = both(low, expr(alloc, depth, kid(tree, 3)))?;
             Ok(ValueRange::Range {
                 opening: token(tree, 0),
                 low,
@@ -358,13 +362,29 @@ fn value_range(alloc: Global, depth: u32, tree: &Tree) -> Result<ValueRange, All
 fn value_ranges(alloc: Global, depth: u32, trees: &[Tree]) -> Result<ValueRanges, AllocError>
     ensures { IfOk result (λ vs. vs ≡ means.value_ranges_from (means.expr_within depth) trees.now) }
 {
-    let mut ranges = Items::new(alloc);
-    let [first, rest @ ..] = trees else {
-        return Ok(ranges);
-    };
-    ranges.push(value_range(alloc, depth, first)?)?;
+    match trees {
+        [] => Ok(Items::new(alloc)),
+        [first, rest @ ..] => {
+            let first = value_range(alloc, depth, first)?;
+            value_ranges_behind(alloc, depth, first, rest)
+        }
+    }
+}
+
+/// A first item behind `inside` and those behind commas.
+#[cycle(expression)]
+fn value_ranges_behind(
+    alloc: Global,
+    depth: u32,
+    first: ValueRange,
+    rest: &[Tree],
+) -> Result<ValueRanges, AllocError>
+    ensures { IfOk result (λ vs. vs ≡ first ∷ behind_marks (means.value_range_of (means.expr_within depth)) rest.now) }
+{
+    let mut ranges = with_last(Items::new(alloc), first)?;
     for next in rest {
-        ranges.push(value_range(alloc, depth, kid(next, 1))?)?;
+        let (before, last) = both(Ok(ranges), value_range(alloc, depth, kid(next, 1)))?;
+        ranges = with_last(before, last)?;
     }
     Ok(ranges)
 }
@@ -395,8 +415,8 @@ fn stream(alloc: Global, depth: u32, opening: u32, tree: &Tree) -> Result<Expr, 
     ensures { IfOk result (λ e. e ≡ means.stream_of (means.expr_within depth) opening tree.now) }
 {
     let operator = kid(tree, 0);
-    let size = slice_size(alloc, depth, kid(tree, 1))?;
-    let items = exprs(alloc, depth, kid(tree, 3))?;
+    let size = slice_size(alloc, depth, kid(tree, 1));
+    let (size, items) = both(size, exprs(alloc, depth, kid(tree, 3)))?;
     Ok(Expr::Stream {
         opening,
         operator: stream_operator(row(operator)),
@@ -420,8 +440,8 @@ fn replication(
 ) -> Result<Expr, AllocError>
     ensures { IfOk result (λ e. e ≡ means.replication_of (means.expr_within depth) opening first.now rest.now) }
 {
-    let count = boxed(alloc, depth, first)?;
-    let items = exprs(alloc, depth, kid(rest, 1))?;
+    let count = boxed(alloc, depth, first);
+    let (count, items) = both(count, exprs(alloc, depth, kid(rest, 1)))?;
     Ok(Expr::Replication {
         opening,
         count,
@@ -479,8 +499,8 @@ fn call(
 ) -> Result<Expr, AllocError>
     ensures { IfOk result (λ e. e ≡ means.call_of (means.expr_within depth) of tree.now behind.now) }
 {
-    let arguments = exprs(alloc, depth, kid(tree, 1))?;
-    let cast = optional_cast(alloc, depth, behind)?;
+    let arguments = exprs(alloc, depth, kid(tree, 1));
+    let (arguments, cast) = both(arguments, optional_cast(alloc, depth, behind))?;
     Ok(Expr::Call {
         of,
         opening: token(tree, 0),
@@ -501,8 +521,8 @@ fn named(
 ) -> Result<Expr, AllocError>
     ensures { IfOk result (λ e. e ≡ means.named_of (means.expr_within depth) of tree.now behind.now) }
 {
-    let selects = selects(alloc, depth, kids(tree))?;
-    let cast = optional_cast(alloc, depth, behind)?;
+    let selects = selects(alloc, depth, kids(tree));
+    let (selects, cast) = both(selects, optional_cast(alloc, depth, behind))?;
     Ok(Expr::Name { of, selects, cast })
 }
 
@@ -511,8 +531,8 @@ fn named(
 fn parenthesized(alloc: Global, depth: u32, tree: &Tree) -> Result<Expr, AllocError>
     ensures { IfOk result (λ e. e ≡ means.parenthesized_of (means.expr_within depth) tree.now) }
 {
-    let value = boxed(alloc, depth, kid(tree, 1))?;
-    let cast = optional_cast(alloc, depth, kid(tree, 3))?;
+    let value = boxed(alloc, depth, kid(tree, 1));
+    let (value, cast) = both(value, optional_cast(alloc, depth, kid(tree, 3)))?;
     Ok(Expr::Parenthesized {
         opening: token(tree, 0),
         value,
@@ -540,8 +560,8 @@ fn braced_pattern(alloc: Global, depth: u32, tree: &Tree) -> Result<Expr, AllocE
 fn type_primary(alloc: Global, depth: u32, tree: &Tree) -> Result<Expr, AllocError>
     ensures { IfOk result (λ e. e ≡ means.type_primary_of (means.expr_within depth) tree.now) }
 {
-    let packed = dimensions(alloc, depth, kids(kid(tree, 1)))?;
-    let cast = optional_cast(alloc, depth, kid(tree, 2))?;
+    let packed = dimensions(alloc, depth, kids(kid(tree, 1)));
+    let (packed, cast) = both(packed, optional_cast(alloc, depth, kid(tree, 2)))?;
     Ok(Expr::Type {
         of: keyword_type(kid(tree, 0)),
         packed,
@@ -667,7 +687,8 @@ fn joined(
 fn inside(alloc: Global, depth: u32, value: Boxed<Expr>, tree: &Tree) -> Result<Expr, AllocError>
     ensures { IfOk result (λ e. e ≡ means.inside_of (means.expr_within depth) value tree.now) }
 {
-    let ranges = value_ranges(alloc, depth, kids(kid(tree, 2)))?;
+    let ranges = value_ranges(alloc, depth, kids(kid(tree, 2)));
+    let (value, ranges) = both(Ok(value), ranges)?;
     Ok(Expr::Inside {
         value,
         keyword: token(tree, 0),
@@ -689,7 +710,8 @@ fn binary(
     requires { levels ≤ 11 }
     ensures { IfOk result (λ e. e ≡ means.binary_of (means.level_of (means.expr_within depth) levels) left tree.now) }
 {
-    let right = operand(alloc, depth, levels, kid(tree, 1))?;
+    let right = operand(alloc, depth, levels, kid(tree, 1));
+    let (left, right) = both(Ok(left), right)?;
     Ok(Expr::Binary {
         left,
         operator: binary_operator(operator_row(tree)),
@@ -760,28 +782,15 @@ fn conditional(
 ) -> Result<Expr, AllocError>
     ensures { IfOk result (λ e. e ≡ means.conditional_of (means.expr_within depth) test tree.now) }
 {
-    let first = boxed(alloc, depth, kid(tree, 1))?;
-    choice(alloc, depth, test, first, tree)
-}
-
-/// A condition and its first value, with the second one behind them.
-#[cycle(expression)]
-fn choice(
-    alloc: Global,
-    depth: u32,
-    test: Boxed<Expr>,
-    first: Boxed<Expr>,
-    tree: &Tree,
-) -> Result<Expr, AllocError>
-    ensures { IfOk result (λ e. e ≡ means.choice_of (means.expr_within depth) test first tree.now) }
-{
-    let second = boxed(alloc, depth, kid(tree, 3))?;
+    let first = boxed(alloc, depth, kid(tree, 1));
+    let values = both(first, boxed(alloc, depth, kid(tree, 3)));
+    let (test, values) = both(Ok(test), values)?;
     Ok(Expr::Conditional {
         test,
         question: token(tree, 0),
-        first,
+        first: values.0,
         colon: token(tree, 2),
-        second,
+        second: values.1,
     })
 }
 

@@ -2,6 +2,7 @@
 #![tactic(auto)]
 
 mod expressions;
+mod lists;
 mod nodes;
 mod rows;
 mod types;
@@ -10,6 +11,7 @@ mod words;
 pub use expressions::{
     NESTING_LIMIT, expression, expression_list, selects_alone, slice_size_alone,
 };
+pub use lists::{Piece, behind, each, pieces, with_last};
 pub use nodes::{is_blank, kid, kids, kids_from, leaf, mark, row, token};
 pub use types::{
     aggregate_text, alone, bare_text, declarator, declarators, declarators_behind,

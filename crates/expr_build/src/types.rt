@@ -6,10 +6,12 @@ ghost use Rattle.expr_build.specs.Expressions.{dimension_of, expr_of};
 ghost use Rattle.expr_build.specs.Types as means;
 
 use crate::expressions::{NESTING_LIMIT, dimension_alone, dimensions_alone, expression};
+use crate::lists::{Piece, behind, pieces, with_last};
 use crate::nodes::{is_blank, kid, kids, row, token};
 use crate::rows;
 use crate::words::{aggregate, keyword_type, optional_signing, qualified, signing};
 use ll_engine::Tree;
+use pairs::both;
 use std::alloc::{AllocError, Global};
 use sv_source::Items;
 use sv_tree::{
@@ -28,10 +30,10 @@ pub fn dims(alloc: Global, tree: &Tree) -> Result<Dimensions, AllocError>
 fn dims_behind(alloc: Global, first: &Tree, rest: &[Tree]) -> Result<Dimensions, AllocError>
     ensures { IfOk result (λ ds. ds ≡ dimension_of expr_of first.now ∷ map (dimension_of expr_of) rest.now) }
 {
-    let mut dimensions = Items::new(alloc);
-    dimensions.push(dimension_alone(alloc, first)?)?;
+    let mut dimensions = with_last(Items::new(alloc), dimension_alone(alloc, first)?)?;
     for tree in rest {
-        dimensions.push(dimension_alone(alloc, tree)?)?;
+        let (before, last) = both(Ok(dimensions), dimension_alone(alloc, tree))?;
+        dimensions = with_last(before, last)?;
     }
     Ok(dimensions)
 }
@@ -54,13 +56,28 @@ pub fn initializer(alloc: Global, tree: &Tree) -> Result<Option<Initializer>, Al
 pub fn declarator(alloc: Global, tree: &Tree) -> Result<Declarator, AllocError>
     ensures { IfOk result (λ d. d ≡ means.declarator_of tree.now) }
 {
-    let unpacked = dims(alloc, kid(tree, 1))?;
-    let initial = initializer(alloc, kid(tree, 2))?;
+    let unpacked = dims(alloc, kid(tree, 1));
+    let (unpacked, initial) = both(unpacked, initializer(alloc, kid(tree, 2)))?;
     Ok(Declarator {
         name: token(tree, 0),
         unpacked,
         initial,
     })
+}
+
+/// Declared names.
+struct DeclaratorPiece;
+
+impl Piece for DeclaratorPiece {
+    ghost use Rattle.expr_build.specs.Types.{declarator_of};
+
+    type Value = Declarator;
+
+    ghost value = { declarator_of };
+
+    fn piece(alloc: Global, tree: &Tree) -> Result<Declarator, AllocError> {
+        declarator(alloc, tree)
+    }
 }
 
 /// A first declared name and those behind commas.
@@ -71,25 +88,14 @@ pub fn declarators_behind(
 ) -> Result<Declarators, AllocError>
     ensures { IfOk result (λ ds. ds ≡ first ∷ means.declarators_behind rest.now) }
 {
-    let mut declarators = Items::new(alloc);
-    declarators.push(first)?;
-    for next in rest {
-        declarators.push(declarator(alloc, kid(next, 1))?)?;
-    }
-    Ok(declarators)
+    behind::<DeclaratorPiece>(alloc, first, rest)
 }
 
 /// Declared names.
 pub fn declarators(alloc: Global, tree: &Tree) -> Result<Declarators, AllocError>
     ensures { IfOk result (λ ds. ds ≡ means.declarators_of tree.now) }
 {
-    match kids(tree) {
-        [] => Ok(Items::new(alloc)),
-        [first, rest @ ..] => {
-            let first = declarator(alloc, first)?;
-            declarators_behind(alloc, first, rest)
-        }
-    }
+    pieces::<DeclaratorPiece>(alloc, kids(tree))
 }
 
 /// `packed` with its sign, where it is written.
@@ -137,56 +143,56 @@ fn optional_enum_base(alloc: Global, tree: &Tree) -> Result<Option<EnumBase>, Al
     Ok(Some(enum_base(alloc, tree)?))
 }
 
-/// A name of an enumeration.
-fn enum_name(alloc: Global, tree: &Tree) -> Result<EnumName, AllocError>
-    ensures { IfOk result (λ n. n ≡ means.enum_name_of tree.now) }
-{
-    let value = initializer(alloc, kid(tree, 1))?;
-    Ok(EnumName {
-        name: token(tree, 0),
-        value,
-    })
+/// Names of an enumeration.
+struct EnumNamePiece;
+
+impl Piece for EnumNamePiece {
+    ghost use Rattle.expr_build.specs.Types.{enum_name_of};
+
+    type Value = EnumName;
+
+    ghost value = { enum_name_of };
+
+    fn piece(alloc: Global, tree: &Tree) -> Result<EnumName, AllocError> {
+        let value = initializer(alloc, kid(tree, 1))?;
+        Ok(EnumName {
+            name: token(tree, 0),
+            value,
+        })
+    }
 }
 
 /// The names of an enumeration.
 fn enum_names(alloc: Global, trees: &[Tree]) -> Result<EnumNames, AllocError>
     ensures { IfOk result (λ ns. ns ≡ separated means.enum_name_of trees.now) }
 {
-    let mut names = Items::new(alloc);
-    let [first, rest @ ..] = trees else {
-        return Ok(names);
-    };
-    names.push(enum_name(alloc, first)?)?;
-    for next in rest {
-        names.push(enum_name(alloc, kid(next, 1))?)?;
-    }
-    Ok(names)
+    pieces::<EnumNamePiece>(alloc, trees)
 }
 
-/// A name with dimensions.
-fn dimensioned_name(alloc: Global, tree: &Tree) -> Result<DimensionedName, AllocError>
-    ensures { IfOk result (λ n. n ≡ means.dimensioned_name_of tree.now) }
-{
-    let unpacked = dims(alloc, kid(tree, 1))?;
-    Ok(DimensionedName {
-        name: token(tree, 0),
-        unpacked,
-    })
+/// Names with dimensions.
+struct DimensionedNamePiece;
+
+impl Piece for DimensionedNamePiece {
+    ghost use Rattle.expr_build.specs.Types.{dimensioned_name_of};
+
+    type Value = DimensionedName;
+
+    ghost value = { dimensioned_name_of };
+
+    fn piece(alloc: Global, tree: &Tree) -> Result<DimensionedName, AllocError> {
+        let unpacked = dims(alloc, kid(tree, 1))?;
+        Ok(DimensionedName {
+            name: token(tree, 0),
+            unpacked,
+        })
+    }
 }
 
 /// Names with dimensions.
 fn dimensioned_names(alloc: Global, trees: &[Tree]) -> Result<DimensionedNames, AllocError>
     ensures { IfOk result (λ ns. ns ≡ separated means.dimensioned_name_of trees.now) }
 {
-    let mut names = Items::new(alloc);
-    let [first, rest @ ..] = trees else {
-        return Ok(names);
-    };
-    names.push(dimensioned_name(alloc, first)?)?;
-    for next in rest {
-        names.push(dimensioned_name(alloc, kid(next, 1))?)?;
-    }
-    Ok(names)
+    pieces::<DimensionedNamePiece>(alloc, trees)
 }
 
 /// A word with dimensions.
@@ -289,8 +295,8 @@ pub fn scoped(package: u32, colons: u32, name: u32) -> QualifiedName
 fn member(alloc: Global, depth: u32, tree: &Tree) -> Result<Member, AllocError>
     ensures { IfOk result (λ m. m ≡ means.member_of (means.type_within depth) tree.now) }
 {
-    let of = type_inside(alloc, depth, kid(tree, 0))?;
-    let names = dimensioned_names(alloc, kids(kid(tree, 1)))?;
+    let of = type_inside(alloc, depth, kid(tree, 0));
+    let (of, names) = both(of, dimensioned_names(alloc, kids(kid(tree, 1))))?;
     Ok(Member {
         of,
         names,
@@ -305,7 +311,8 @@ fn members(alloc: Global, depth: u32, trees: &[Tree]) -> Result<Members, AllocEr
 {
     let mut members = Items::new(alloc);
     for tree in trees {
-        members.push(member(alloc, depth, tree)?)?;
+        let (before, last) = both(Ok(members), member(alloc, depth, tree))?;
+        members = with_last(before, last)?;
     }
     Ok(members)
 }
@@ -320,8 +327,8 @@ fn structure(
 ) -> Result<TypeText, AllocError>
     ensures { IfOk result (λ t. t ≡ means.structure_of (means.type_within depth) tree.now dimensions.now) }
 {
-    let members = members(alloc, depth, kids(kid(tree, 3)))?;
-    let packed = dims(alloc, dimensions)?;
+    let members = members(alloc, depth, kids(kid(tree, 3)));
+    let (members, packed) = both(members, dims(alloc, dimensions))?;
     Ok(TypeText::Structure {
         aggregate: aggregate(kid(tree, 0)),
         packing: packing(kid(tree, 1)),
@@ -336,9 +343,10 @@ fn structure(
 fn enumeration(alloc: Global, tree: &Tree, dimensions: &Tree) -> Result<TypeText, AllocError>
     ensures { IfOk result (λ t. t ≡ means.enumeration_of tree.now dimensions.now) }
 {
-    let base = optional_enum_base(alloc, kid(tree, 1))?;
-    let names = enum_names(alloc, kids(kid(tree, 3)))?;
-    let packed = dims(alloc, dimensions)?;
+    let base = optional_enum_base(alloc, kid(tree, 1));
+    let names = enum_names(alloc, kids(kid(tree, 3)));
+    let (base, names) = both(base, both(names, dims(alloc, dimensions)))?;
+    let (names, packed) = names;
     Ok(TypeText::Enumeration {
         keyword: token(tree, 0),
         base,

@@ -21,7 +21,7 @@ use Rattle.eval_parts.specs.Targets.{marks_of_parts, marks_of_formals}
 use Rattle.eval_forms.specs.Asked.{Asked, alone_asked, assigned_asked, choice_asked, form_asked}
 use Rattle.eval_forms.proofs.Alternatives as I
 use Rattle.eval_forms.proofs.Strict as K
-use Rattle.expr_lower.specs.Leaves.{Leaf, Signals, Locals, Calls, Unlowered, together, leaves, Each, choice_step, form_step, expr_step}
+use Rattle.expr_lower.specs.Leaves.{Leaf, Signals, Locals, Calls, Valued, Joined, Unlowered, together, onto, leaves, Each, choice_step, form_step, expr_step}
 
 abbrev pub form_leaves : Form → Layout → List Leaf
 form_leaves = fold-Form (List Leaf) (Layout → List Leaf) (List Leaf) choice_step form_step expr_step
@@ -35,10 +35,10 @@ leaves-form e = search (rules, the_lemmas)
 leaves-at : (e : Expr) (f : Form) (y : Layout → List Leaf) → e.form ≡ f → form_leaves f ≡ y → leaves e ≡ y (layout e.of)
 leaves-at e f y is level = leaves-form e ∙ ap (λ g. form_leaves g (layout e.of)) is ∙ ap (λ (g : Layout → List Leaf). g (layout e.of)) level
 
-leaves-value : (e : Expr) → choice_leaves (C.Value e) ≡ leaves e
+pub leaves-value : (e : Expr) → choice_leaves (C.Value e) ≡ leaves e
 leaves-value e = search (rules, the_lemmas)
 
-leaves-range : (a b : Expr) → choice_leaves (C.Range a b) ≡ leaves a ++ leaves b
+pub leaves-range : (a b : Expr) → choice_leaves (C.Range a b) ≡ leaves a ++ leaves b
 leaves-range a b = search (rules, the_lemmas)
 
 -- what is asked has leaves with a property
@@ -62,6 +62,22 @@ assigned-each : (P : Leaf → Type 0) (places : List (List Bool)) (es : List Exp
 assigned-each P [] es h = tt
 assigned-each P (p ∷ ps) [] h = tt
 assigned-each P (p ∷ ps) (e ∷ es) h = (each-left P (leaves e) (together (map leaves es)) h, assigned-each P ps es (each-right P (leaves e) (together (map leaves es)) h))
+
+-- what a select stands on has the leaves that it has alone
+pub off : (P : Leaf → Type 0) (ls : List Leaf) → Each P (onto ls) → Each P ls
+off P [] h = tt
+off P (Signals n of ∷ ls) h = h
+off P (Locals n of ∷ ls) h = h
+off P (Calls f of n ∷ ls) h = h
+off P (Valued ∷ ls) h = h
+off P (Joined ∷ ls) h = h.1
+off P (Unlowered ∷ ls) h = h
+
+pub off-left : (P : Leaf → Type 0) (x y : Expr) → Each P (onto (leaves x) ++ leaves y) → Each P (leaves x)
+off-left P x y h = off P (leaves x) (each-left P (onto (leaves x)) (leaves y) h)
+
+pub off-right : (P : Leaf → Type 0) (x y : Expr) → Each P (onto (leaves x) ++ leaves y) → Each P (leaves y)
+off-right P x y h = each-right P (onto (leaves x)) (leaves y) h
 
 two-each : (P : Leaf → Type 0) (x y : Expr) → Each P (leaves x ++ leaves y) → Each P (leaves x) × (Each P (leaves y) × Unit {0})
 two-each P x y h = (each-left P (leaves x) (leaves y) h, (each-right P (leaves x) (leaves y) h, tt))
@@ -104,16 +120,16 @@ out-Signal n = search (rules, the_lemmas)
 out-Local : (n : ℕ) → out-Form (V.Local n) ≡ Form-F.Local n
 out-Local n = search (rules, the_lemmas)
 
-out-Member : (x : Expr) (k : ℕ) → out-Form (V.Member x k) ≡ Form-F.Member x k
+pub out-Member : (x : Expr) (k : ℕ) → out-Form (V.Member x k) ≡ Form-F.Member x k
 out-Member x k = search (rules, the_lemmas)
 
-out-Index : (x : Expr) (y : Expr) → out-Form (V.Index x y) ≡ Form-F.Index x y
+pub out-Index : (x : Expr) (y : Expr) → out-Form (V.Index x y) ≡ Form-F.Index x y
 out-Index x y = search (rules, the_lemmas)
 
-out-Part : (x : Expr) (left : ℤ) (right : ℤ) → out-Form (V.Part x left right) ≡ Form-F.Part x left right
+pub out-Part : (x : Expr) (left : ℤ) (right : ℤ) → out-Form (V.Part x left right) ≡ Form-F.Part x left right
 out-Part x left right = search (rules, the_lemmas)
 
-out-Slide : (x : Expr) (y : Expr) (n : ℕ) (up : Bool) → out-Form (V.Slide x y n up) ≡ Form-F.Slide x y n up
+pub out-Slide : (x : Expr) (y : Expr) (n : ℕ) (up : Bool) → out-Form (V.Slide x y n up) ≡ Form-F.Slide x y n up
 out-Slide x y n up = search (rules, the_lemmas)
 
 out-Unary : (op : UnOp) (x : Expr) → out-Form (V.Unary op x) ≡ Form-F.Unary op x
@@ -183,30 +199,30 @@ AskedExpr P e = (fs : ℕ → List Parameter) (w : ℕ) (s : Bool) → Each P (l
 abbrev AnyChoice : Choice → Type 0
 AnyChoice c = Unit {0}
 
-form-Literal : (v : List Bit4) (goes_on : Bool) → form_leaves (V.Literal v goes_on) ≡ (λ (of : Layout). [])
+form-Literal : (v : List Bit4) (goes_on : Bool) → form_leaves (V.Literal v goes_on) ≡ (λ (of : Layout). Valued ∷ [])
 form-Literal v goes_on = search (rules, the_lemmas)
 
-pub leaves-Literal : (e : Expr) (v : List Bit4) (goes_on : Bool) → e.form ≡ V.Literal v goes_on → leaves e ≡ []
+pub leaves-Literal : (e : Expr) (v : List Bit4) (goes_on : Bool) → e.form ≡ V.Literal v goes_on → leaves e ≡ Valued ∷ []
 leaves-Literal e v goes_on is = leaves-at e (V.Literal v goes_on) _ is (form-Literal v goes_on)
 
 of-Literal : (P : Leaf → Type 0) (v : List Bit4) (goes_on : Bool) → AskedForm P (V.Literal v goes_on)
 of-Literal P v goes_on e is fs w s all =
     subst (EachAsked P) (K.asked-by e (V.Literal v goes_on) (Form-F.Literal v goes_on) fs w s is (out-Literal v goes_on)) tt
 
-form-Fill : (b : Bit4) → form_leaves (V.Fill b) ≡ (λ (of : Layout). [])
+form-Fill : (b : Bit4) → form_leaves (V.Fill b) ≡ (λ (of : Layout). Valued ∷ [])
 form-Fill b = search (rules, the_lemmas)
 
-pub leaves-Fill : (e : Expr) (b : Bit4) → e.form ≡ V.Fill b → leaves e ≡ []
+pub leaves-Fill : (e : Expr) (b : Bit4) → e.form ≡ V.Fill b → leaves e ≡ Valued ∷ []
 leaves-Fill e b is = leaves-at e (V.Fill b) _ is (form-Fill b)
 
 of-Fill : (P : Leaf → Type 0) (b : Bit4) → AskedForm P (V.Fill b)
 of-Fill P b e is fs w s all =
     subst (EachAsked P) (K.asked-by e (V.Fill b) (Form-F.Fill b) fs w s is (out-Fill b)) tt
 
-form-Constant : (v : Value) → form_leaves (V.Constant v) ≡ (λ (of : Layout). [])
+form-Constant : (v : Value) → form_leaves (V.Constant v) ≡ (λ (of : Layout). Valued ∷ [])
 form-Constant v = search (rules, the_lemmas)
 
-pub leaves-Constant : (e : Expr) (v : Value) → e.form ≡ V.Constant v → leaves e ≡ []
+pub leaves-Constant : (e : Expr) (v : Value) → e.form ≡ V.Constant v → leaves e ≡ Valued ∷ []
 leaves-Constant e v is = leaves-at e (V.Constant v) _ is (form-Constant v)
 
 of-Constant : (P : Leaf → Type 0) (v : Value) → AskedForm P (V.Constant v)
@@ -233,215 +249,215 @@ of-Local : (P : Leaf → Type 0) (n : ℕ) → AskedForm P (V.Local n)
 of-Local P n e is fs w s all =
     subst (EachAsked P) (K.asked-by e (V.Local n) (Form-F.Local n) fs w s is (out-Local n)) tt
 
-form-Member : (x : Expr) (k : ℕ) → form_leaves (V.Member x k) ≡ (λ (of : Layout). Unlowered ∷ leaves x)
+form-Member : (x : Expr) (k : ℕ) → form_leaves (V.Member x k) ≡ (λ (of : Layout). onto (leaves x))
 form-Member x k = search (rules, the_lemmas)
 
-pub leaves-Member : (e : Expr) (x : Expr) (k : ℕ) → e.form ≡ V.Member x k → leaves e ≡ Unlowered ∷ leaves x
+pub leaves-Member : (e : Expr) (x : Expr) (k : ℕ) → e.form ≡ V.Member x k → leaves e ≡ onto (leaves x)
 leaves-Member e x k is = leaves-at e (V.Member x k) _ is (form-Member x k)
 
 of-Member : (P : Leaf → Type 0) (x : Expr) (k : ℕ) → AskedForm P (V.Member x k)
 of-Member P x k e is fs w s all =
-    subst (EachAsked P) (K.asked-by e (V.Member x k) (Form-F.Member x k) fs w s is (out-Member x k)) (let h = (subst (Each P) (leaves-Member e x k is) all).1 in (h, tt))
+    subst (EachAsked P) (K.asked-by e (V.Member x k) (Form-F.Member x k) fs w s is (out-Member x k)) (let h = off P (leaves x) (subst (Each P) (leaves-Member e x k is) all) in (h, tt))
 
-form-Index : (x : Expr) (y : Expr) → form_leaves (V.Index x y) ≡ (λ (of : Layout). Unlowered ∷ (leaves x ++ leaves y))
+form-Index : (x : Expr) (y : Expr) → form_leaves (V.Index x y) ≡ (λ (of : Layout). onto (leaves x) ++ leaves y)
 form-Index x y = search (rules, the_lemmas)
 
-pub leaves-Index : (e : Expr) (x : Expr) (y : Expr) → e.form ≡ V.Index x y → leaves e ≡ Unlowered ∷ (leaves x ++ leaves y)
+pub leaves-Index : (e : Expr) (x : Expr) (y : Expr) → e.form ≡ V.Index x y → leaves e ≡ onto (leaves x) ++ leaves y
 leaves-Index e x y is = leaves-at e (V.Index x y) _ is (form-Index x y)
 
 of-Index : (P : Leaf → Type 0) (x : Expr) (y : Expr) → AskedForm P (V.Index x y)
 of-Index P x y e is fs w s all =
-    subst (EachAsked P) (K.asked-by e (V.Index x y) (Form-F.Index x y) fs w s is (out-Index x y)) (let h = (subst (Each P) (leaves-Index e x y is) all).1 in two-each P x y h)
+    subst (EachAsked P) (K.asked-by e (V.Index x y) (Form-F.Index x y) fs w s is (out-Index x y)) (let h = subst (Each P) (leaves-Index e x y is) all in (off-left P x y h, (off-right P x y h, tt)))
 
-form-Part : (x : Expr) (left : ℤ) (right : ℤ) → form_leaves (V.Part x left right) ≡ (λ (of : Layout). Unlowered ∷ leaves x)
+form-Part : (x : Expr) (left : ℤ) (right : ℤ) → form_leaves (V.Part x left right) ≡ (λ (of : Layout). onto (leaves x))
 form-Part x left right = search (rules, the_lemmas)
 
-pub leaves-Part : (e : Expr) (x : Expr) (left : ℤ) (right : ℤ) → e.form ≡ V.Part x left right → leaves e ≡ Unlowered ∷ leaves x
+pub leaves-Part : (e : Expr) (x : Expr) (left : ℤ) (right : ℤ) → e.form ≡ V.Part x left right → leaves e ≡ onto (leaves x)
 leaves-Part e x left right is = leaves-at e (V.Part x left right) _ is (form-Part x left right)
 
 of-Part : (P : Leaf → Type 0) (x : Expr) (left : ℤ) (right : ℤ) → AskedForm P (V.Part x left right)
 of-Part P x left right e is fs w s all =
-    subst (EachAsked P) (K.asked-by e (V.Part x left right) (Form-F.Part x left right) fs w s is (out-Part x left right)) (let h = (subst (Each P) (leaves-Part e x left right is) all).1 in (h, tt))
+    subst (EachAsked P) (K.asked-by e (V.Part x left right) (Form-F.Part x left right) fs w s is (out-Part x left right)) (let h = off P (leaves x) (subst (Each P) (leaves-Part e x left right is) all) in (h, tt))
 
-form-Slide : (x : Expr) (y : Expr) (n : ℕ) (up : Bool) → form_leaves (V.Slide x y n up) ≡ (λ (of : Layout). Unlowered ∷ (leaves x ++ leaves y))
+form-Slide : (x : Expr) (y : Expr) (n : ℕ) (up : Bool) → form_leaves (V.Slide x y n up) ≡ (λ (of : Layout). onto (leaves x) ++ leaves y)
 form-Slide x y n up = search (rules, the_lemmas)
 
-pub leaves-Slide : (e : Expr) (x : Expr) (y : Expr) (n : ℕ) (up : Bool) → e.form ≡ V.Slide x y n up → leaves e ≡ Unlowered ∷ (leaves x ++ leaves y)
+pub leaves-Slide : (e : Expr) (x : Expr) (y : Expr) (n : ℕ) (up : Bool) → e.form ≡ V.Slide x y n up → leaves e ≡ onto (leaves x) ++ leaves y
 leaves-Slide e x y n up is = leaves-at e (V.Slide x y n up) _ is (form-Slide x y n up)
 
 of-Slide : (P : Leaf → Type 0) (x : Expr) (y : Expr) (n : ℕ) (up : Bool) → AskedForm P (V.Slide x y n up)
 of-Slide P x y n up e is fs w s all =
-    subst (EachAsked P) (K.asked-by e (V.Slide x y n up) (Form-F.Slide x y n up) fs w s is (out-Slide x y n up)) (let h = (subst (Each P) (leaves-Slide e x y n up is) all).1 in two-each P x y h)
+    subst (EachAsked P) (K.asked-by e (V.Slide x y n up) (Form-F.Slide x y n up) fs w s is (out-Slide x y n up)) (let h = subst (Each P) (leaves-Slide e x y n up is) all in (off-left P x y h, (off-right P x y h, tt)))
 
-form-Unary : (op : UnOp) (x : Expr) → form_leaves (V.Unary op x) ≡ (λ (of : Layout). leaves x)
+form-Unary : (op : UnOp) (x : Expr) → form_leaves (V.Unary op x) ≡ (λ (of : Layout). Valued ∷ leaves x)
 form-Unary op x = search (rules, the_lemmas)
 
-pub leaves-Unary : (e : Expr) (op : UnOp) (x : Expr) → e.form ≡ V.Unary op x → leaves e ≡ leaves x
+pub leaves-Unary : (e : Expr) (op : UnOp) (x : Expr) → e.form ≡ V.Unary op x → leaves e ≡ Valued ∷ leaves x
 leaves-Unary e op x is = leaves-at e (V.Unary op x) _ is (form-Unary op x)
 
 of-Unary : (P : Leaf → Type 0) (op : UnOp) (x : Expr) → AskedForm P (V.Unary op x)
 of-Unary P op x e is fs w s all =
-    subst (EachAsked P) (K.asked-by e (V.Unary op x) (Form-F.Unary op x) fs w s is (out-Unary op x)) (let h = subst (Each P) (leaves-Unary e op x is) all in (h, tt))
+    subst (EachAsked P) (K.asked-by e (V.Unary op x) (Form-F.Unary op x) fs w s is (out-Unary op x)) (let h = (subst (Each P) (leaves-Unary e op x is) all).1 in (h, tt))
 
-form-Reduce : (op : RedOp) (x : Expr) → form_leaves (V.Reduce op x) ≡ (λ (of : Layout). leaves x)
+form-Reduce : (op : RedOp) (x : Expr) → form_leaves (V.Reduce op x) ≡ (λ (of : Layout). Valued ∷ leaves x)
 form-Reduce op x = search (rules, the_lemmas)
 
-pub leaves-Reduce : (e : Expr) (op : RedOp) (x : Expr) → e.form ≡ V.Reduce op x → leaves e ≡ leaves x
+pub leaves-Reduce : (e : Expr) (op : RedOp) (x : Expr) → e.form ≡ V.Reduce op x → leaves e ≡ Valued ∷ leaves x
 leaves-Reduce e op x is = leaves-at e (V.Reduce op x) _ is (form-Reduce op x)
 
 of-Reduce : (P : Leaf → Type 0) (op : RedOp) (x : Expr) → AskedForm P (V.Reduce op x)
 of-Reduce P op x e is fs w s all =
-    subst (EachAsked P) (K.asked-by e (V.Reduce op x) (Form-F.Reduce op x) fs w s is (out-Reduce op x)) (let h = subst (Each P) (leaves-Reduce e op x is) all in (h, tt))
+    subst (EachAsked P) (K.asked-by e (V.Reduce op x) (Form-F.Reduce op x) fs w s is (out-Reduce op x)) (let h = (subst (Each P) (leaves-Reduce e op x is) all).1 in (h, tt))
 
-form-Negate : (x : Expr) → form_leaves (V.Negate x) ≡ (λ (of : Layout). leaves x)
+form-Negate : (x : Expr) → form_leaves (V.Negate x) ≡ (λ (of : Layout). Valued ∷ leaves x)
 form-Negate x = search (rules, the_lemmas)
 
-pub leaves-Negate : (e : Expr) (x : Expr) → e.form ≡ V.Negate x → leaves e ≡ leaves x
+pub leaves-Negate : (e : Expr) (x : Expr) → e.form ≡ V.Negate x → leaves e ≡ Valued ∷ leaves x
 leaves-Negate e x is = leaves-at e (V.Negate x) _ is (form-Negate x)
 
 of-Negate : (P : Leaf → Type 0) (x : Expr) → AskedForm P (V.Negate x)
 of-Negate P x e is fs w s all =
-    subst (EachAsked P) (K.asked-by e (V.Negate x) (Form-F.Negate x) fs w s is (out-Negate x)) (let h = subst (Each P) (leaves-Negate e x is) all in (h, tt))
+    subst (EachAsked P) (K.asked-by e (V.Negate x) (Form-F.Negate x) fs w s is (out-Negate x)) (let h = (subst (Each P) (leaves-Negate e x is) all).1 in (h, tt))
 
-form-Binary : (op : BinOp) (x : Expr) (y : Expr) → form_leaves (V.Binary op x y) ≡ (λ (of : Layout). leaves x ++ leaves y)
+form-Binary : (op : BinOp) (x : Expr) (y : Expr) → form_leaves (V.Binary op x y) ≡ (λ (of : Layout). Valued ∷ (leaves x ++ leaves y))
 form-Binary op x y = search (rules, the_lemmas)
 
-pub leaves-Binary : (e : Expr) (op : BinOp) (x : Expr) (y : Expr) → e.form ≡ V.Binary op x y → leaves e ≡ leaves x ++ leaves y
+pub leaves-Binary : (e : Expr) (op : BinOp) (x : Expr) (y : Expr) → e.form ≡ V.Binary op x y → leaves e ≡ Valued ∷ (leaves x ++ leaves y)
 leaves-Binary e op x y is = leaves-at e (V.Binary op x y) _ is (form-Binary op x y)
 
 of-Binary : (P : Leaf → Type 0) (op : BinOp) (x : Expr) (y : Expr) → AskedForm P (V.Binary op x y)
 of-Binary P op x y e is fs w s all =
-    subst (EachAsked P) (K.asked-by e (V.Binary op x y) (Form-F.Binary op x y) fs w s is (out-Binary op x y)) (let h = subst (Each P) (leaves-Binary e op x y is) all in two-each P x y h)
+    subst (EachAsked P) (K.asked-by e (V.Binary op x y) (Form-F.Binary op x y) fs w s is (out-Binary op x y)) (let h = (subst (Each P) (leaves-Binary e op x y is) all).1 in two-each P x y h)
 
-form-Shift : (op : ShiftOp) (x : Expr) (y : Expr) → form_leaves (V.Shift op x y) ≡ (λ (of : Layout). leaves x ++ leaves y)
+form-Shift : (op : ShiftOp) (x : Expr) (y : Expr) → form_leaves (V.Shift op x y) ≡ (λ (of : Layout). Valued ∷ (leaves x ++ leaves y))
 form-Shift op x y = search (rules, the_lemmas)
 
-pub leaves-Shift : (e : Expr) (op : ShiftOp) (x : Expr) (y : Expr) → e.form ≡ V.Shift op x y → leaves e ≡ leaves x ++ leaves y
+pub leaves-Shift : (e : Expr) (op : ShiftOp) (x : Expr) (y : Expr) → e.form ≡ V.Shift op x y → leaves e ≡ Valued ∷ (leaves x ++ leaves y)
 leaves-Shift e op x y is = leaves-at e (V.Shift op x y) _ is (form-Shift op x y)
 
 of-Shift : (P : Leaf → Type 0) (op : ShiftOp) (x : Expr) (y : Expr) → AskedForm P (V.Shift op x y)
 of-Shift P op x y e is fs w s all =
-    subst (EachAsked P) (K.asked-by e (V.Shift op x y) (Form-F.Shift op x y) fs w s is (out-Shift op x y)) (let h = subst (Each P) (leaves-Shift e op x y is) all in two-each P x y h)
+    subst (EachAsked P) (K.asked-by e (V.Shift op x y) (Form-F.Shift op x y) fs w s is (out-Shift op x y)) (let h = (subst (Each P) (leaves-Shift e op x y is) all).1 in two-each P x y h)
 
-form-Power : (x : Expr) (y : Expr) → form_leaves (V.Power x y) ≡ (λ (of : Layout). leaves x ++ leaves y)
+form-Power : (x : Expr) (y : Expr) → form_leaves (V.Power x y) ≡ (λ (of : Layout). Valued ∷ (leaves x ++ leaves y))
 form-Power x y = search (rules, the_lemmas)
 
-pub leaves-Power : (e : Expr) (x : Expr) (y : Expr) → e.form ≡ V.Power x y → leaves e ≡ leaves x ++ leaves y
+pub leaves-Power : (e : Expr) (x : Expr) (y : Expr) → e.form ≡ V.Power x y → leaves e ≡ Valued ∷ (leaves x ++ leaves y)
 leaves-Power e x y is = leaves-at e (V.Power x y) _ is (form-Power x y)
 
 of-Power : (P : Leaf → Type 0) (x : Expr) (y : Expr) → AskedForm P (V.Power x y)
 of-Power P x y e is fs w s all =
-    subst (EachAsked P) (K.asked-by e (V.Power x y) (Form-F.Power x y) fs w s is (out-Power x y)) (let h = subst (Each P) (leaves-Power e x y is) all in two-each P x y h)
+    subst (EachAsked P) (K.asked-by e (V.Power x y) (Form-F.Power x y) fs w s is (out-Power x y)) (let h = (subst (Each P) (leaves-Power e x y is) all).1 in two-each P x y h)
 
-form-Order : (op : OrdOp) (x : Expr) (y : Expr) → form_leaves (V.Order op x y) ≡ (λ (of : Layout). leaves x ++ leaves y)
+form-Order : (op : OrdOp) (x : Expr) (y : Expr) → form_leaves (V.Order op x y) ≡ (λ (of : Layout). Valued ∷ (leaves x ++ leaves y))
 form-Order op x y = search (rules, the_lemmas)
 
-pub leaves-Order : (e : Expr) (op : OrdOp) (x : Expr) (y : Expr) → e.form ≡ V.Order op x y → leaves e ≡ leaves x ++ leaves y
+pub leaves-Order : (e : Expr) (op : OrdOp) (x : Expr) (y : Expr) → e.form ≡ V.Order op x y → leaves e ≡ Valued ∷ (leaves x ++ leaves y)
 leaves-Order e op x y is = leaves-at e (V.Order op x y) _ is (form-Order op x y)
 
 of-Order : (P : Leaf → Type 0) (op : OrdOp) (x : Expr) (y : Expr) → AskedForm P (V.Order op x y)
 of-Order P op x y e is fs w s all =
-    subst (EachAsked P) (K.asked-by e (V.Order op x y) (Form-F.Order op x y) fs w s is (out-Order op x y)) (let h = subst (Each P) (leaves-Order e op x y is) all in two-each P x y h)
+    subst (EachAsked P) (K.asked-by e (V.Order op x y) (Form-F.Order op x y) fs w s is (out-Order op x y)) (let h = (subst (Each P) (leaves-Order e op x y is) all).1 in two-each P x y h)
 
-form-Equal : (op : EqOp) (negated : Bool) (x : Expr) (y : Expr) → form_leaves (V.Equal op negated x y) ≡ (λ (of : Layout). leaves x ++ leaves y)
+form-Equal : (op : EqOp) (negated : Bool) (x : Expr) (y : Expr) → form_leaves (V.Equal op negated x y) ≡ (λ (of : Layout). Valued ∷ (leaves x ++ leaves y))
 form-Equal op negated x y = search (rules, the_lemmas)
 
-pub leaves-Equal : (e : Expr) (op : EqOp) (negated : Bool) (x : Expr) (y : Expr) → e.form ≡ V.Equal op negated x y → leaves e ≡ leaves x ++ leaves y
+pub leaves-Equal : (e : Expr) (op : EqOp) (negated : Bool) (x : Expr) (y : Expr) → e.form ≡ V.Equal op negated x y → leaves e ≡ Valued ∷ (leaves x ++ leaves y)
 leaves-Equal e op negated x y is = leaves-at e (V.Equal op negated x y) _ is (form-Equal op negated x y)
 
 of-Equal : (P : Leaf → Type 0) (op : EqOp) (negated : Bool) (x : Expr) (y : Expr) → AskedForm P (V.Equal op negated x y)
 of-Equal P op negated x y e is fs w s all =
-    subst (EachAsked P) (K.asked-by e (V.Equal op negated x y) (Form-F.Equal op negated x y) fs w s is (out-Equal op negated x y)) (let h = subst (Each P) (leaves-Equal e op negated x y is) all in two-each P x y h)
+    subst (EachAsked P) (K.asked-by e (V.Equal op negated x y) (Form-F.Equal op negated x y) fs w s is (out-Equal op negated x y)) (let h = (subst (Each P) (leaves-Equal e op negated x y is) all).1 in two-each P x y h)
 
-form-Both : (x : Expr) (y : Expr) → form_leaves (V.Both x y) ≡ (λ (of : Layout). leaves x ++ leaves y)
+form-Both : (x : Expr) (y : Expr) → form_leaves (V.Both x y) ≡ (λ (of : Layout). Valued ∷ (leaves x ++ leaves y))
 form-Both x y = search (rules, the_lemmas)
 
-pub leaves-Both : (e : Expr) (x : Expr) (y : Expr) → e.form ≡ V.Both x y → leaves e ≡ leaves x ++ leaves y
+pub leaves-Both : (e : Expr) (x : Expr) (y : Expr) → e.form ≡ V.Both x y → leaves e ≡ Valued ∷ (leaves x ++ leaves y)
 leaves-Both e x y is = leaves-at e (V.Both x y) _ is (form-Both x y)
 
 of-Both : (P : Leaf → Type 0) (x : Expr) (y : Expr) → AskedForm P (V.Both x y)
 of-Both P x y e is fs w s all =
-    subst (EachAsked P) (K.asked-by e (V.Both x y) (Form-F.Both x y) fs w s is (out-Both x y)) (let h = subst (Each P) (leaves-Both e x y is) all in two-each P x y h)
+    subst (EachAsked P) (K.asked-by e (V.Both x y) (Form-F.Both x y) fs w s is (out-Both x y)) (let h = (subst (Each P) (leaves-Both e x y is) all).1 in two-each P x y h)
 
-form-Either : (x : Expr) (y : Expr) → form_leaves (V.Either x y) ≡ (λ (of : Layout). leaves x ++ leaves y)
+form-Either : (x : Expr) (y : Expr) → form_leaves (V.Either x y) ≡ (λ (of : Layout). Valued ∷ (leaves x ++ leaves y))
 form-Either x y = search (rules, the_lemmas)
 
-pub leaves-Either : (e : Expr) (x : Expr) (y : Expr) → e.form ≡ V.Either x y → leaves e ≡ leaves x ++ leaves y
+pub leaves-Either : (e : Expr) (x : Expr) (y : Expr) → e.form ≡ V.Either x y → leaves e ≡ Valued ∷ (leaves x ++ leaves y)
 leaves-Either e x y is = leaves-at e (V.Either x y) _ is (form-Either x y)
 
 of-Either : (P : Leaf → Type 0) (x : Expr) (y : Expr) → AskedForm P (V.Either x y)
 of-Either P x y e is fs w s all =
-    subst (EachAsked P) (K.asked-by e (V.Either x y) (Form-F.Either x y) fs w s is (out-Either x y)) (let h = subst (Each P) (leaves-Either e x y is) all in two-each P x y h)
+    subst (EachAsked P) (K.asked-by e (V.Either x y) (Form-F.Either x y) fs w s is (out-Either x y)) (let h = (subst (Each P) (leaves-Either e x y is) all).1 in two-each P x y h)
 
-form-Choose : (z : Expr) (x : Expr) (y : Expr) → form_leaves (V.Choose z x y) ≡ (λ (of : Layout). leaves z ++ (leaves x ++ leaves y))
+form-Choose : (z : Expr) (x : Expr) (y : Expr) → form_leaves (V.Choose z x y) ≡ (λ (of : Layout). Valued ∷ (leaves z ++ (leaves x ++ leaves y)))
 form-Choose z x y = search (rules, the_lemmas)
 
-pub leaves-Choose : (e : Expr) (z : Expr) (x : Expr) (y : Expr) → e.form ≡ V.Choose z x y → leaves e ≡ leaves z ++ (leaves x ++ leaves y)
+pub leaves-Choose : (e : Expr) (z : Expr) (x : Expr) (y : Expr) → e.form ≡ V.Choose z x y → leaves e ≡ Valued ∷ (leaves z ++ (leaves x ++ leaves y))
 leaves-Choose e z x y is = leaves-at e (V.Choose z x y) _ is (form-Choose z x y)
 
 of-Choose : (P : Leaf → Type 0) (z : Expr) (x : Expr) (y : Expr) → AskedForm P (V.Choose z x y)
 of-Choose P z x y e is fs w s all =
-    subst (EachAsked P) (K.asked-by e (V.Choose z x y) (Form-F.Choose z x y) fs w s is (out-Choose z x y)) (let h = subst (Each P) (leaves-Choose e z x y is) all in three-each P z x y h)
+    subst (EachAsked P) (K.asked-by e (V.Choose z x y) (Form-F.Choose z x y) fs w s is (out-Choose z x y)) (let h = (subst (Each P) (leaves-Choose e z x y is) all).1 in three-each P z x y h)
 
-form-Concat : (es : List Expr) → form_leaves (V.Concat es) ≡ (λ (of : Layout). together (map leaves es))
+form-Concat : (es : List Expr) → form_leaves (V.Concat es) ≡ (λ (of : Layout). Joined ∷ together (map leaves es))
 form-Concat es = search (rules, the_lemmas)
 
-pub leaves-Concat : (e : Expr) (es : List Expr) → e.form ≡ V.Concat es → leaves e ≡ together (map leaves es)
+pub leaves-Concat : (e : Expr) (es : List Expr) → e.form ≡ V.Concat es → leaves e ≡ Joined ∷ together (map leaves es)
 leaves-Concat e es is = leaves-at e (V.Concat es) _ is (form-Concat es)
 
 of-Concat : (P : Leaf → Type 0) (es : List Expr) → AskedForm P (V.Concat es)
 of-Concat P es e is fs w s all =
-    subst (EachAsked P) (K.asked-by e (V.Concat es) (Form-F.Concat es) fs w s is (out-Concat es)) (let h = subst (Each P) (leaves-Concat e es is) all in alone-each P es h)
+    subst (EachAsked P) (K.asked-by e (V.Concat es) (Form-F.Concat es) fs w s is (out-Concat es)) (let h = (subst (Each P) (leaves-Concat e es is) all).1 in alone-each P es h)
 
-form-Repeat : (n : ℕ) (es : List Expr) → form_leaves (V.Repeat n es) ≡ (λ (of : Layout). together (map leaves es))
+form-Repeat : (n : ℕ) (es : List Expr) → form_leaves (V.Repeat n es) ≡ (λ (of : Layout). Valued ∷ together (map leaves es))
 form-Repeat n es = search (rules, the_lemmas)
 
-pub leaves-Repeat : (e : Expr) (n : ℕ) (es : List Expr) → e.form ≡ V.Repeat n es → leaves e ≡ together (map leaves es)
+pub leaves-Repeat : (e : Expr) (n : ℕ) (es : List Expr) → e.form ≡ V.Repeat n es → leaves e ≡ Valued ∷ together (map leaves es)
 leaves-Repeat e n es is = leaves-at e (V.Repeat n es) _ is (form-Repeat n es)
 
 of-Repeat : (P : Leaf → Type 0) (n : ℕ) (es : List Expr) → AskedForm P (V.Repeat n es)
 of-Repeat P n es e is fs w s all =
-    subst (EachAsked P) (K.asked-by e (V.Repeat n es) (Form-F.Repeat n es) fs w s is (out-Repeat n es)) (let h = subst (Each P) (leaves-Repeat e n es is) all in alone-each P es h)
+    subst (EachAsked P) (K.asked-by e (V.Repeat n es) (Form-F.Repeat n es) fs w s is (out-Repeat n es)) (let h = (subst (Each P) (leaves-Repeat e n es is) all).1 in alone-each P es h)
 
-form-Inside : (x : Expr) (cs : List Choice) → form_leaves (V.Inside x cs) ≡ (λ (of : Layout). leaves x ++ together (map choice_leaves cs))
+form-Inside : (x : Expr) (cs : List Choice) → form_leaves (V.Inside x cs) ≡ (λ (of : Layout). Valued ∷ (leaves x ++ together (map choice_leaves cs)))
 form-Inside x cs = search (rules, the_lemmas)
 
-pub leaves-Inside : (e : Expr) (x : Expr) (cs : List Choice) → e.form ≡ V.Inside x cs → leaves e ≡ leaves x ++ together (map choice_leaves cs)
+pub leaves-Inside : (e : Expr) (x : Expr) (cs : List Choice) → e.form ≡ V.Inside x cs → leaves e ≡ Valued ∷ (leaves x ++ together (map choice_leaves cs))
 leaves-Inside e x cs is = leaves-at e (V.Inside x cs) _ is (form-Inside x cs)
 
 of-Inside : (P : Leaf → Type 0) (x : Expr) (cs : List Choice) → AskedForm P (V.Inside x cs)
 of-Inside P x cs e is fs w s all =
-    subst (EachAsked P) (K.asked-by e (V.Inside x cs) (Form-F.Inside x cs) fs w s is (out-Inside x cs)) (let h = subst (Each P) (leaves-Inside e x cs is) all in (each-left P (leaves x) (together (map choice_leaves cs)) h, choices-each P x cs (each-left P (leaves x) (together (map choice_leaves cs)) h) (each-right P (leaves x) (together (map choice_leaves cs)) h)))
+    subst (EachAsked P) (K.asked-by e (V.Inside x cs) (Form-F.Inside x cs) fs w s is (out-Inside x cs)) (let h = (subst (Each P) (leaves-Inside e x cs is) all).1 in (each-left P (leaves x) (together (map choice_leaves cs)) h, choices-each P x cs (each-left P (leaves x) (together (map choice_leaves cs)) h) (each-right P (leaves x) (together (map choice_leaves cs)) h)))
 
-form-Cast : (x : Expr) → form_leaves (V.Cast x) ≡ (λ (of : Layout). leaves x)
+form-Cast : (x : Expr) → form_leaves (V.Cast x) ≡ (λ (of : Layout). Valued ∷ leaves x)
 form-Cast x = search (rules, the_lemmas)
 
-pub leaves-Cast : (e : Expr) (x : Expr) → e.form ≡ V.Cast x → leaves e ≡ leaves x
+pub leaves-Cast : (e : Expr) (x : Expr) → e.form ≡ V.Cast x → leaves e ≡ Valued ∷ leaves x
 leaves-Cast e x is = leaves-at e (V.Cast x) _ is (form-Cast x)
 
 of-Cast : (P : Leaf → Type 0) (x : Expr) → AskedForm P (V.Cast x)
 of-Cast P x e is fs w s all =
-    subst (EachAsked P) (K.asked-by e (V.Cast x) (Form-F.Cast x) fs w s is (out-Cast x)) (let h = subst (Each P) (leaves-Cast e x is) all in (h, tt))
+    subst (EachAsked P) (K.asked-by e (V.Cast x) (Form-F.Cast x) fs w s is (out-Cast x)) (let h = (subst (Each P) (leaves-Cast e x is) all).1 in (h, tt))
 
-form-Clog2 : (x : Expr) → form_leaves (V.Clog2 x) ≡ (λ (of : Layout). leaves x)
+form-Clog2 : (x : Expr) → form_leaves (V.Clog2 x) ≡ (λ (of : Layout). Valued ∷ leaves x)
 form-Clog2 x = search (rules, the_lemmas)
 
-pub leaves-Clog2 : (e : Expr) (x : Expr) → e.form ≡ V.Clog2 x → leaves e ≡ leaves x
+pub leaves-Clog2 : (e : Expr) (x : Expr) → e.form ≡ V.Clog2 x → leaves e ≡ Valued ∷ leaves x
 leaves-Clog2 e x is = leaves-at e (V.Clog2 x) _ is (form-Clog2 x)
 
 of-Clog2 : (P : Leaf → Type 0) (x : Expr) → AskedForm P (V.Clog2 x)
 of-Clog2 P x e is fs w s all =
-    subst (EachAsked P) (K.asked-by e (V.Clog2 x) (Form-F.Clog2 x) fs w s is (out-Clog2 x)) (let h = subst (Each P) (leaves-Clog2 e x is) all in (h, tt))
+    subst (EachAsked P) (K.asked-by e (V.Clog2 x) (Form-F.Clog2 x) fs w s is (out-Clog2 x)) (let h = (subst (Each P) (leaves-Clog2 e x is) all).1 in (h, tt))
 
-form-Pattern : (es : List Expr) → form_leaves (V.Pattern es) ≡ (λ (of : Layout). together (map leaves es))
+form-Pattern : (es : List Expr) → form_leaves (V.Pattern es) ≡ (λ (of : Layout). Valued ∷ together (map leaves es))
 form-Pattern es = search (rules, the_lemmas)
 
-pub leaves-Pattern : (e : Expr) (es : List Expr) → e.form ≡ V.Pattern es → leaves e ≡ together (map leaves es)
+pub leaves-Pattern : (e : Expr) (es : List Expr) → e.form ≡ V.Pattern es → leaves e ≡ Valued ∷ together (map leaves es)
 leaves-Pattern e es is = leaves-at e (V.Pattern es) _ is (form-Pattern es)
 
 of-Pattern : (P : Leaf → Type 0) (es : List Expr) → AskedForm P (V.Pattern es)
 of-Pattern P es e is fs w s all =
-    subst (EachAsked P) (K.asked-by e (V.Pattern es) (Form-F.Pattern es) fs w s is (out-Pattern es)) (let h = subst (Each P) (leaves-Pattern e es is) all in assigned-each P (marks_of_parts (parts_of (layout e.of))) es h)
+    subst (EachAsked P) (K.asked-by e (V.Pattern es) (Form-F.Pattern es) fs w s is (out-Pattern es)) (let h = (subst (Each P) (leaves-Pattern e es is) all).1 in assigned-each P (marks_of_parts (parts_of (layout e.of))) es h)
 
 form-Call : (f : ℕ) (es : List Expr) → form_leaves (V.Call f es) ≡ (λ (of : Layout). Calls f of (length (map leaves es)) ∷ together (map leaves es))
 form-Call f es = search (rules, the_lemmas)

@@ -65,18 +65,6 @@ count-Either e x y w s n is h = h.1 ∙ ap length (sym (K.asked-by e (V.Either x
 pub count-Choose : (e : Expr) (z : Expr) (x : Expr) (y : Expr) (w : ℕ) (s : Bool) (n : ℕ) → e.form ≡ V.Choose z x y → AreParts e w s n → n ≡ 3
 count-Choose e z x y w s n is h = h.1 ∙ ap length (sym (K.asked-by e (V.Choose z x y) (Form-F.Choose z x y) h.0 w s is (K.out-Choose z x y)))
 
-pub unbuilt-Member : (e : Expr) (x : Expr) (k : ℕ) → e.form ≡ V.Member x k → Each IsLowered (leaves e) → ⊥
-unbuilt-Member e x k is h = (subst (Each IsLowered) (A.leaves-Member e x k is) h).0
-
-pub unbuilt-Index : (e : Expr) (x : Expr) (y : Expr) → e.form ≡ V.Index x y → Each IsLowered (leaves e) → ⊥
-unbuilt-Index e x y is h = (subst (Each IsLowered) (A.leaves-Index e x y is) h).0
-
-pub unbuilt-Part : (e : Expr) (x : Expr) (left : ℤ) (right : ℤ) → e.form ≡ V.Part x left right → Each IsLowered (leaves e) → ⊥
-unbuilt-Part e x left right is h = (subst (Each IsLowered) (A.leaves-Part e x left right is) h).0
-
-pub unbuilt-Slide : (e : Expr) (x : Expr) (y : Expr) (n : ℕ) (up : Bool) → e.form ≡ V.Slide x y n up → Each IsLowered (leaves e) → ⊥
-unbuilt-Slide e x y n up is h = (subst (Each IsLowered) (A.leaves-Slide e x y n up is) h).0
-
 pub unbuilt-Stream : (e : Expr) (reversed : Bool) (n : ℕ) (es : List Expr) → e.form ≡ V.Stream reversed n es → Each IsLowered (leaves e) → ⊥
 unbuilt-Stream e reversed n es is h = (subst (Each IsLowered) (A.leaves-Stream e reversed n es is) h).0
 
@@ -97,6 +85,18 @@ path-Signal e n is kind = path-clash e (V.Signal n) (Form-F.Signal n) is (out-Si
 
 pub path-Local : (e : Expr) (n : ℕ) → e.form ≡ V.Local n → is_path (out-Form e.form) ≡ false → ⊥
 path-Local e n is kind = path-clash e (V.Local n) (Form-F.Local n) is (out-Local n) refl kind
+
+pub path-Member : (e x : Expr) (k : ℕ) → e.form ≡ V.Member x k → is_path (out-Form e.form) ≡ false → ⊥
+path-Member e x k is kind = path-clash e (V.Member x k) (Form-F.Member x k) is (A.out-Member x k) refl kind
+
+pub path-Index : (e x y : Expr) → e.form ≡ V.Index x y → is_path (out-Form e.form) ≡ false → ⊥
+path-Index e x y is kind = path-clash e (V.Index x y) (Form-F.Index x y) is (A.out-Index x y) refl kind
+
+pub path-Part : (e x : Expr) (left right : ℤ) → e.form ≡ V.Part x left right → is_path (out-Form e.form) ≡ false → ⊥
+path-Part e x left right is kind = path-clash e (V.Part x left right) (Form-F.Part x left right) is (A.out-Part x left right) refl kind
+
+pub path-Slide : (e x y : Expr) (n : ℕ) (up : Bool) → e.form ≡ V.Slide x y n up → is_path (out-Form e.form) ≡ false → ⊥
+path-Slide e x y n up is kind = path-clash e (V.Slide x y n up) (Form-F.Slide x y n up) is (A.out-Slide x y n up) refl kind
 
 -- a form with an operator of the target isn't one without
 special-clash : (e : Expr) (f : Form) (y : Form-F Choice Form Expr) → e.form ≡ f → out-Form f ≡ y → is_special y ≡ true → is_special (out-Form e.form) ≡ false → ⊥

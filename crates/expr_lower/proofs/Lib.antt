@@ -9,3 +9,6 @@ pub mod Given
 pub mod Standing
 pub mod Alternating
 pub mod Comparisons
+pub mod Rooted
+pub mod Stepwise
+pub mod Following

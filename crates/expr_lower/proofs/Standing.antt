@@ -153,7 +153,7 @@ combines-Pattern e es w s hs parts m is patterns names fs =
           let b = record a { now = now } in
           let g = asked-is e (formals_in fs) w s _ b parts parts sc v asked refl h in
           let P = LeafStands names fs im a sc in
-          let give = all-give P (λ h. h) (marks_of_parts (parts_of (layout e.of))) es b parts sc v (subst (Each P) (leaves-Pattern e es is) all) g in
+          let give = all-give P (λ h. h) (marks_of_parts (parts_of (layout e.of))) es b parts sc v (subst (Each P) (leaves-Pattern e es is) all).1 g in
           subst (λ (k : M.Meaning). Same k w s b m sc v) (sym level) (patterns.same e.spot.at (map meaning es) b sc v helps give);
       named = λ h.
           let g = names-are im.number e (formals_in fs) w s _ parts parts sc asked refl h in

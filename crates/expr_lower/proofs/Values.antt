@@ -271,7 +271,7 @@ stored-already im now v (m ∷ ms) n k agree fits marks =
     let rest = stored-already im now v ms n (suc k) agree (omega arith) (λ j. ap (im.two_state n) (omega arith) ∙ marks (suc j)) in
     λ i. one i ∷ rest i
 
-length-from : (v : Valuation) (n k r : ℕ) → length (bits_from v n k r) ≡ r
+pub length-from : (v : Valuation) (n k r : ℕ) → length (bits_from v n k r) ≡ r
 length-from v n k zero = refl
 length-from v n k (suc r) = ap suc (length-from v n (suc k) r)
 
@@ -303,6 +303,13 @@ name-bits name c sc v vector holds long =
     ∙ (λ i. seen (holds i) (no-window n sc v vector i) (no-width n vector i)) ∙ seen-whole c n.width long in
     record { width = no-width n vector ∙ sym long; unsigned = refl; value = λ x s. ap (ext x s) value }
 
+-- a name that is shown holds what is held under the number
+pub shown-holds : (of : Layout) (n : ℕ) (name : Name) (im : Images) (sc : Scope) (now v : Valuation) → IsShown name im sc n of → Agree im now v
+    → vector_at v (named sc.names name).number (length of.two_state) ≡ vector_at now n (length of.two_state)
+shown-holds of n name im sc now v shown agree =
+    let image = shown.image in
+    (λ i. vector_at v (shown.number i) (length of.two_state)) ∙ image-bits im now v n 0 (length of.two_state) agree (omega arith)
+
 root-same : (of : Layout) (at n w : ℕ) (s : Bool) (name : Name) (im : Images) (a : Around) (sc : Scope) (now v : Valuation) (b : Bool) → IsShown name im sc n of → Agree im now v → b ≡ of.signed
     → Same (M.selected of at (P.root_path n of)) w s (record a { now = now }) (signed_as b (T.reference name [])) sc v
 root-same of at n w s name im a sc now v b shown agree is =
@@ -312,7 +319,7 @@ root-same of at n w s name im a sc now v b shown agree is =
     let image = shown.image in
     let width = shown.width in
     let target : vector_at v (named sc.names name).number (named sc.names name).width ≡ c =
-    (λ i. vector_at v (shown.number i) (shown.width i)) ∙ image-bits im now v n 0 size agree (omega arith) in
+    ap (vector_at v (named sc.names name).number) shown.width ∙ shown-holds of n name im sc now v shown agree in
     let source : stored of.two_state (seen c (whole size) size) ≡ c = ap (stored of.two_state) (seen-whole c size long) ∙ stored-already im now v of.two_state n 0 agree (omega arith) (λ j. (let same : 0 + j ≡ j = omega arith in ap (im.two_state n) same ∙ shown.marks j)) in
     signed-as-same (M.selected of at (P.root_path n of)) c w s (record a { now = now }) (T.reference name []) sc v
     (name-bits name c sc v shown.vector target (omega arith)) (omega arith) (omega arith) (sym (ap (ext w s) source)) b is
@@ -339,7 +346,7 @@ reference-names : (name : Name) (sc : Scope) → (T.reference name []).names sc 
 unfolding T.reference
 reference-names name sc = refl
 
-one-image : (image : ℕ → ℕ) (n q : ℕ) (of : Layout) → q ≡ image n → AreImages image (record { number = n; of = of } ∷ []) (q ∷ [])
+pub one-image : (image : ℕ → ℕ) (n q : ℕ) (of : Layout) → q ≡ image n → AreImages image (record { number = n; of = of } ∷ []) (q ∷ [])
 one-image image n q of is = record {
   all = λ k h. elim h [ inl e ↦ inl (ap image e ∙ sym is) | inr none ↦ absurd none ];
   only = λ k h. (n, inl refl, elim h [ inl e ↦ e ∙ is | inr none ↦ absurd none ]);

@@ -5,3 +5,4 @@ pub mod Lowering
 pub mod Specials
 pub mod Insides
 pub mod Logarithms
+pub mod Paths

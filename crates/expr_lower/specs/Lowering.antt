@@ -22,7 +22,7 @@ use Rattle.lowering_laws.specs.Helpers.{StandsFor}
 use Rattle.lowering_laws.specs.NamedImages.{SameNames}
 use Rattle.lowering_laws.specs.Same.{Same}
 use Rattle.path_flatten.specs.Helping.{EachHelps}
-use Rattle.expr_lower.specs.Leaves.{Leaf, Signals, Locals, Calls, Unlowered, leaves, Each}
+use Rattle.expr_lower.specs.Leaves.{Leaf, Signals, Locals, Calls, Valued, Joined, Unlowered, leaves, Each}
 use Rattle.expr_lower.specs.Named.{signal_name, local_name, function_name}
 
 -- A name stands for the image of a signal or local of a type: it is a vector with the type's bits, and the images are told so.
@@ -44,6 +44,8 @@ abbrev pub LeafStands : NameMap → List Function → Images → Around → Scop
 LeafStands names fs im a sc (Signals n of) = IsShown (signal_name names.signals n) im sc n of
 LeafStands names fs im a sc (Locals n of) = IsShown (local_name names.locals n) im sc (local_number n) of
 LeafStands names fs im a sc (Calls f of n) = IsCalled (function_name names.functions f) (formals_in fs f) a sc f of n
+LeafStands names fs im a sc Valued = Unit {0}
+LeafStands names fs im a sc Joined = Unit {0}
 LeafStands names fs im a sc Unlowered = ⊥
 
 -- A target expression stands for an expression on all valuations that agree, and names the images of what that names, all of

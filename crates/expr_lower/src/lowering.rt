@@ -2,25 +2,34 @@
 
 ghost use Rattle.std.specs.Prelude.{◌≡◌, ◌≤◌, false, length, IfOk, OnOk};
 ghost use Rattle.sv_types.specs.declared.expression.Form.{out-Form};
+ghost use Rattle.sv_types.specs.declared.expression.Form.TheVariants as forms;
 ghost use Rattle.sv_types.specs.Layouts.{layout};
+ghost use Rattle.sv_types.specs.Meanings.{wide};
 ghost use Rattle.sv_types.specs.Expressions.{meaning};
 ghost use Rattle.v_meaning.specs.Values as means;
 ghost use Rattle.v_build.specs.Trees.{meanings};
-ghost use Rattle.eval_parts.specs.Limits.{Fits};
-ghost use Rattle.eval_parts.specs.Steps.{is_path};
+ghost use Rattle.eval_parts.specs.Limits.{Fits, FitsAlone};
+ghost use Rattle.eval_parts.specs.Steps.{IsStep, is_path};
 ghost use Rattle.eval_forms.specs.Asked.{asked, form_asked, width_asked, sign_asked};
 ghost use Rattle.eval_forms.specs.Callees.{formals_in, AllFunctionsFit};
 ghost use Rattle.path_flatten.specs.Helping.{Grows};
-ghost use Rattle.expr_lower.specs.Leaves.{leaves, Each, IsLowered};
+ghost use Rattle.path_flatten.specs.Stepping.{IsSound};
+ghost use Rattle.expr_lower.specs.Leaves.{leaves, onto, Each, IsLowered};
 ghost use Rattle.expr_lower.specs.Lowering.{Lowers, LowersEach};
 ghost use Rattle.expr_lower.specs.Numbers.{IsWhole};
+ghost use Rattle.expr_lower.specs.Paths.{Finds, Indexes, LowersAnywhere};
 
 use crate::formed::formed;
 use crate::named::{local_text, signal_text};
 use crate::numbers::with_sign;
 use eval_forms::{Ask, Operand, operands};
 use eval_parts::{Step, own_sign, own_width, step_of};
-use path_flatten::Helpers;
+use path_flatten::{
+    Helpers, Index, PartSelect, Reading, between_step, element_step, index_step, member_step,
+    slide_step, whole_name, whole_value,
+};
+use path_reads::read;
+use path_steps::known_index;
 use std::alloc::{AllocError, Global};
 use sv_source::{Items, Text};
 use sv_types::{Expr, Function};
@@ -64,16 +73,206 @@ pub fn lower(
             let local = whole(alloc, text, own_sign(e))?;
             Ok(local)
         }
-        Some(Step::Member(_, _)) => unreachable!(),
-        Some(Step::Index(_, _)) => unreachable!(),
-        Some(Step::Part { .. }) => unreachable!(),
-        Some(Step::Slide { .. }) => unreachable!(),
+        Some(step) => {
+            let found = path(alloc, names, functions, e, step, helpers)?;
+            Ok(found)
+        }
         None => {
             let lowered = parts(alloc, names, functions, e, width, signed, helpers)?;
             let form = formed(alloc, names, functions, e, width, signed, lowered, helpers)?;
             Ok(form)
         }
     }
+}
+
+/// What a select path reads, in every context.
+#[cycle(lower)]
+fn path(
+    alloc: Global,
+    names: &NameMap,
+    functions: &[Function],
+    e: &Expr,
+    step: Step<'_>,
+    helpers: &mut Helpers,
+) -> Result<VExpr, AllocError>
+    requires functions { AllFunctionsFit functions.now }
+    requires step { IsStep step e.now }
+    requires built { Each IsLowered (leaves e.now) }
+    requires fits { FitsAlone (meaning e.now) (formals_in functions.now) }
+    ensures grows { OnOk result (Grows helpers.old helpers.new) }
+    ensures lowers { IfOk result (λ m. LowersAnywhere names.now functions.now helpers.new e.now (means.meaning m)) }
+{
+    let reading = follow(alloc, names, functions, e, step, helpers)?;
+    let made = read(alloc, reading, &e.of, helpers)?;
+    Ok(made)
+}
+
+/// What reads the bits of an expression that a step selects from.
+#[cycle(lower)]
+fn find(
+    alloc: Global,
+    names: &NameMap,
+    functions: &[Function],
+    e: &Expr,
+    helpers: &mut Helpers,
+) -> Result<Reading, AllocError>
+    requires functions { AllFunctionsFit functions.now }
+    requires built { Each IsLowered (onto (leaves e.now)) }
+    requires fits { FitsAlone (meaning e.now) (formals_in functions.now) }
+    ensures grows { OnOk result (Grows helpers.old helpers.new) }
+    ensures sound { IfOk result IsSound }
+    ensures finds { IfOk result (Finds names.now functions.now helpers.new e.now) }
+{
+    match step_of(e) {
+        Some(step) => {
+            let found = follow(alloc, names, functions, e, step, helpers)?;
+            Ok(found)
+        }
+        None => {
+            let (width, signed) = (own_width(e), own_sign(e));
+            let value = lower(alloc, names, functions, e, width, signed, helpers)?;
+            let found = whole_value(alloc, value, width)?;
+            Ok(found)
+        }
+    }
+}
+
+/// What reads the bits of a select path, by its last step.
+#[cycle(lower)]
+fn follow(
+    alloc: Global,
+    names: &NameMap,
+    functions: &[Function],
+    e: &Expr,
+    step: Step<'_>,
+    helpers: &mut Helpers,
+) -> Result<Reading, AllocError>
+    requires functions { AllFunctionsFit functions.now }
+    requires step { IsStep step e.now }
+    requires built { Each IsLowered (leaves e.now) }
+    requires fits { FitsAlone (meaning e.now) (formals_in functions.now) }
+    ensures grows { OnOk result (Grows helpers.old helpers.new) }
+    ensures sound { IfOk result IsSound }
+    ensures finds { IfOk result (Finds names.now functions.now helpers.new e.now) }
+{
+    match step {
+        Step::Signal(n) => {
+            let name = signal_text(alloc, names.signals.as_slice(), n)?;
+            Ok(whole_name(name, own_width(e)))
+        }
+        Step::Local(n) => {
+            let name = local_text(alloc, names.locals.as_slice(), n)?;
+            Ok(whole_name(name, own_width(e)))
+        }
+        Step::Member(from, k) => {
+            let found = find(alloc, names, functions, from, helpers)?;
+            Ok(member_step(found, &from.of, k))
+        }
+        Step::Part { from, left, right } => {
+            let found = find(alloc, names, functions, from, helpers)?;
+            Ok(between_step(found, &from.of, left, right))
+        }
+        Step::Index(from, i) => {
+            let found = element(alloc, names, functions, e, from, i, helpers)?;
+            Ok(found)
+        }
+        Step::Slide {
+            from,
+            base,
+            width,
+            up,
+        } => {
+            let part = PartSelect {
+                up,
+                count: width,
+                bits: own_width(e),
+            };
+            let found = slid(alloc, names, functions, e, from, base, part, helpers)?;
+            Ok(found)
+        }
+    }
+}
+
+/// What reads an element by an index.
+#[cycle(lower)]
+fn element(
+    alloc: Global,
+    names: &NameMap,
+    functions: &[Function],
+    e: &Expr,
+    from: &Expr,
+    i: &Expr,
+    helpers: &mut Helpers,
+) -> Result<Reading, AllocError>
+    requires functions { AllFunctionsFit functions.now }
+    requires form { e.now.form ≡ forms.Index from.now i.now }
+    requires built { Each IsLowered (leaves e.now) }
+    requires fits { FitsAlone (meaning e.now) (formals_in functions.now) }
+    ensures grows { OnOk result (Grows helpers.old helpers.new) }
+    ensures sound { IfOk result IsSound }
+    ensures finds { IfOk result (Finds names.now functions.now helpers.new e.now) }
+{
+    if let Some(known) = known_index(alloc, i)? {
+        let found = find(alloc, names, functions, from, helpers)?;
+        return Ok(element_step(found, &from.of, known.number));
+    }
+    let found = find(alloc, names, functions, from, helpers);
+    let at = index(alloc, names, functions, i, helpers);
+    let (found, at) = pairs::both(found, at)?;
+    let made = index_step(alloc, found, &from.of, at, helpers)?;
+    Ok(made)
+}
+
+/// What reads so many elements from an index on.
+#[cycle(lower)]
+fn slid(
+    alloc: Global,
+    names: &NameMap,
+    functions: &[Function],
+    e: &Expr,
+    from: &Expr,
+    base: &Expr,
+    part: PartSelect,
+    helpers: &mut Helpers,
+) -> Result<Reading, AllocError>
+    requires functions { AllFunctionsFit functions.now }
+    requires form { e.now.form ≡ forms.Slide from.now base.now part.count part.up }
+    requires bits { part.bits ≡ wide (meaning e.now) }
+    requires built { Each IsLowered (leaves e.now) }
+    requires fits { FitsAlone (meaning e.now) (formals_in functions.now) }
+    ensures grows { OnOk result (Grows helpers.old helpers.new) }
+    ensures sound { IfOk result IsSound }
+    ensures finds { IfOk result (Finds names.now functions.now helpers.new e.now) }
+{
+    let found = find(alloc, names, functions, from, helpers);
+    let at = index(alloc, names, functions, base, helpers);
+    let (found, at) = pairs::both(found, at)?;
+    let made = slide_step(alloc, found, &from.of, part, at, helpers)?;
+    Ok(made)
+}
+
+/// An index, valued alone.
+#[cycle(lower)]
+fn index(
+    alloc: Global,
+    names: &NameMap,
+    functions: &[Function],
+    i: &Expr,
+    helpers: &mut Helpers,
+) -> Result<Index, AllocError>
+    requires functions { AllFunctionsFit functions.now }
+    requires built { Each IsLowered (leaves i.now) }
+    requires fits { FitsAlone (meaning i.now) (formals_in functions.now) }
+    ensures grows { OnOk result (Grows helpers.old helpers.new) }
+    ensures indexes { IfOk result (Indexes names.now functions.now helpers.new i.now) }
+{
+    let (width, signed) = (own_width(i), own_sign(i));
+    let expr = lower(alloc, names, functions, i, width, signed, helpers)?;
+    Ok(Index {
+        expr,
+        width,
+        signed,
+    })
 }
 
 /// What an expression asks of its operands, in order.

@@ -3,7 +3,7 @@ use Rattle.std.specs.Prelude.{ℕ, Bool, true, false, ◌&&◌, ◌||◌, ◌==�
 use Rattle.std.specs.List.{list_all}
 use Rattle.sv_types.specs.declared.types.SvType.{SvType, SvType-F, out-SvType, fold-SvType}
 use Rattle.sv_types.specs.declared.types.SvType.TheVariants.{Scalar, PackedArray}
-use Rattle.sv_types.specs.declared.types.Member.{Member}
+use Rattle.sv_types.specs.declared.types.Member.{Member, Member-F}
 use Rattle.sv_types.specs.Layouts.{layout, count_of}
 use Rattle.pattern_fit.specs.Same.{same_step, same_member, same_type}
 
@@ -93,22 +93,27 @@ is_assignable t u = cond (is_unpacked t) (matches t u) (not (is_unpacked u))
 abbrev pub is_plain_to_enum : SvType → SvType → Bool
 is_plain_to_enum t u = is_enum t && not (is_same_enum t u)
 
--- an element of what can be indexed: a packed struct, a union and an enum as the vector of their bits
+-- an element of what can be indexed: a packed struct and a union as the vector of their bits, an enum as its base
 abbrev pub bit_of_type : SvType → SvType
 bit_of_type t = Scalar (not (list_all (λ b. b) (layout t).two_state)) false
 
-abbrev pub element_of_enum : SvType → SvType → SvType
-element_of_enum t base = elim (out-SvType base) [ SvType-F.PackedArray l r s item ↦ item | other ↦ bit_of_type t ]
+abbrev pub base_of : SvType → SvType
+base_of t = elim (out-SvType t) [ SvType-F.Enum id base names ↦ base | other ↦ t ]
 
+abbrev pub element_step : SvType-F (SvType → SvType) (SvType → SvType) → SvType → SvType
+element_step (SvType-F.Scalar four s) t = Scalar four false
+element_step (SvType-F.PackedArray l r s item) t = elim (out-SvType t) [ SvType-F.PackedArray a b c of ↦ of | other ↦ t ]
+element_step (SvType-F.Struct id packed s ms) t = bit_of_type t
+element_step (SvType-F.Union id s ms) t = bit_of_type t
+element_step (SvType-F.Enum id base names) t = base (base_of t)
+element_step (SvType-F.UnpackedArray l r item) t = elim (out-SvType t) [ SvType-F.UnpackedArray a b of ↦ of | other ↦ t ]
+
+abbrev pub element_of_member : Member-F (SvType → SvType) (SvType → SvType) → SvType → SvType
+element_of_member m = m.of
+
+-- an enum has the elements of its base
 abbrev pub element_of : SvType → SvType
-element_of t = elim (out-SvType t) [
-  | SvType-F.Scalar four s ↦ Scalar four false
-  | SvType-F.PackedArray l r s item ↦ item
-  | SvType-F.Struct id packed s ms ↦ bit_of_type t
-  | SvType-F.Union id s ms ↦ bit_of_type t
-  | SvType-F.Enum id base names ↦ element_of_enum t base
-  | SvType-F.UnpackedArray l r item ↦ item
-]
+element_of t = fold-SvType (SvType → SvType) (SvType → SvType) element_step element_of_member t t
 
 abbrev pub is_array : SvType → Bool
 is_array t = elim (out-SvType t) [ SvType-F.UnpackedArray l r item ↦ true | other ↦ false ]

@@ -31,21 +31,22 @@ same_members [] (m ∷ ms) = false
 same_members (f ∷ fs) [] = false
 same_members (f ∷ fs) (m ∷ ms) = f m.of && same_members fs ms
 
-abbrev pub of_struct : ℕ → List (SvType → Bool) → SvType-F SvType Member → Bool
-of_struct n same (SvType-F.Scalar f t) = false
-of_struct n same (SvType-F.PackedArray l r t item) = false
-of_struct n same (SvType-F.Struct id packed t ms) = (n == id) && same_members same ms
-of_struct n same (SvType-F.Union id t ms) = false
-of_struct n same (SvType-F.Enum id base names) = false
-of_struct n same (SvType-F.UnpackedArray l r item) = false
+abbrev pub of_struct : ℕ → Bool → Bool → List (SvType → Bool) → SvType-F SvType Member → Bool
+of_struct n is_packed s same (SvType-F.Scalar f t) = false
+of_struct n is_packed s same (SvType-F.PackedArray l r t item) = false
+of_struct n is_packed s same (SvType-F.Struct id packed t ms) =
+    (n == id) && (same_bool is_packed packed && (same_bool s t && same_members same ms))
+of_struct n is_packed s same (SvType-F.Union id t ms) = false
+of_struct n is_packed s same (SvType-F.Enum id base names) = false
+of_struct n is_packed s same (SvType-F.UnpackedArray l r item) = false
 
-abbrev pub of_union : ℕ → List (SvType → Bool) → SvType-F SvType Member → Bool
-of_union n same (SvType-F.Scalar f t) = false
-of_union n same (SvType-F.PackedArray l r t item) = false
-of_union n same (SvType-F.Struct id packed t ms) = false
-of_union n same (SvType-F.Union id t ms) = (n == id) && same_members same ms
-of_union n same (SvType-F.Enum id base names) = false
-of_union n same (SvType-F.UnpackedArray l r item) = false
+abbrev pub of_union : ℕ → Bool → List (SvType → Bool) → SvType-F SvType Member → Bool
+of_union n s same (SvType-F.Scalar f t) = false
+of_union n s same (SvType-F.PackedArray l r t item) = false
+of_union n s same (SvType-F.Struct id packed t ms) = false
+of_union n s same (SvType-F.Union id t ms) = (n == id) && (same_bool s t && same_members same ms)
+of_union n s same (SvType-F.Enum id base names) = false
+of_union n s same (SvType-F.UnpackedArray l r item) = false
 
 abbrev pub of_enum : ℕ → (SvType → Bool) → SvType-F SvType Member → Bool
 of_enum n same (SvType-F.Scalar f t) = false
@@ -66,8 +67,8 @@ is_unpacked_array left right same (SvType-F.UnpackedArray l r item) = int_eq lef
 abbrev pub same_step : SvType-F (SvType → Bool) (SvType → Bool) → SvType → Bool
 same_step (SvType-F.Scalar four s) u = of_scalar four s (out-SvType u)
 same_step (SvType-F.PackedArray l r s item) u = is_packed_array l r s item (out-SvType u)
-same_step (SvType-F.Struct id packed s ms) u = of_struct id ms (out-SvType u)
-same_step (SvType-F.Union id s ms) u = of_union id ms (out-SvType u)
+same_step (SvType-F.Struct id packed s ms) u = of_struct id packed s ms (out-SvType u)
+same_step (SvType-F.Union id s ms) u = of_union id s ms (out-SvType u)
 same_step (SvType-F.Enum id base names) u = of_enum id base (out-SvType u)
 same_step (SvType-F.UnpackedArray l r item) u = is_unpacked_array l r item (out-SvType u)
 

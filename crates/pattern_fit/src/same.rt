@@ -7,8 +7,8 @@ ghost use Rattle.sv_types.specs.declared.types.SvType.{out-SvType};
 
 use sv_types::{Member, SvType};
 
-/// Whether two types are one (IEEE 1800-2017 clause 6.22.1): structs, unions and enums by their declarations and the types in them,
-/// others by their form.
+/// Whether two types are one (IEEE 1800-2017 clause 6.22.1): structs, unions and enums by their declarations, by being packed and
+/// signed alike, and by the types in them, others by their form.
 #[cycle(same)]
 pub fn is_same(a: &SvType, b: &SvType) -> bool
     ensures { result ≡ same_type a.now b.now }
@@ -33,24 +33,41 @@ pub fn is_same(a: &SvType, b: &SvType) -> bool
             SvType::Enum { .. } => false,
             SvType::UnpackedArray { .. } => false,
         },
-        SvType::Struct { id, members, .. } => match b {
+        SvType::Struct {
+            id,
+            packed,
+            signed,
+            members,
+        } => match b {
             SvType::Struct {
                 id: i,
+                packed: p,
+                signed: s,
                 members: others,
-                ..
-            } => *id == *i && same_members(members.as_slice(), others.as_slice()),
+            } => {
+                *id == *i
+                    && *packed == *p
+                    && *signed == *s
+                    && same_members(members.as_slice(), others.as_slice())
+            }
             SvType::Scalar { .. } => false,
             SvType::PackedArray { .. } => false,
             SvType::Union { .. } => false,
             SvType::Enum { .. } => false,
             SvType::UnpackedArray { .. } => false,
         },
-        SvType::Union { id, members, .. } => match b {
+        SvType::Union {
+            id,
+            signed,
+            members,
+        } => match b {
             SvType::Union {
                 id: i,
+                signed: s,
                 members: others,
-                ..
-            } => *id == *i && same_members(members.as_slice(), others.as_slice()),
+            } => {
+                *id == *i && *signed == *s && same_members(members.as_slice(), others.as_slice())
+            }
             SvType::Scalar { .. } => false,
             SvType::PackedArray { .. } => false,
             SvType::Struct { .. } => false,

@@ -2,3 +2,4 @@ pub mod Powers
 pub mod Stands
 pub mod Ranking
 pub mod Writing
+pub mod Naming

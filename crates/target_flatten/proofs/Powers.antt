@@ -16,7 +16,7 @@ pow-grows (suc k) n =
     let g : 2 ^ n ≤ 2 ^ suc (k + n) = omega arith in
     subst (λ m. 2 ^ n ≤ 2 ^ m) f g
 
-pub pow-small : (n : ℕ) → n ≤ 64 → 2 ^ n ≤ 2 ^ 64
-pow-small n h = let e : (64 - n) + n ≡ 64 = omega arith in subst (λ m. 2 ^ n ≤ 2 ^ m) e (pow-grows (64 - n) n)
+pub pow-small : (n : ℕ) → n ≤ 100 → 2 ^ n ≤ 2 ^ 100
+pow-small n h = let e : (100 - n) + n ≡ 100 = omega arith in subst (λ m. 2 ^ n ≤ 2 ^ m) e (pow-grows (100 - n) n)
 
 pub ruleset powers = (pow-more, pow-small)

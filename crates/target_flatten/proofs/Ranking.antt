@@ -5,8 +5,7 @@ use Rattle.std.proofs.lemmas.Int.{ints}
 use Rattle.b4_core.specs.declared.bit.Bit4.TheVariants.{Zero}
 use Rattle.row_machine.specs.Valuation.{Valuation}
 use Rattle.sv_types.specs.declared.types.SvType.{SvType}
-use Rattle.sv_types.specs.Layouts.{Layout, layout, count_of}
-use Rattle.sv_types.specs.Windows.{falls}
+use Rattle.sv_types.specs.Layouts.{layout, count_of}
 use Rattle.sv_types.specs.Surroundings.{Around}
 use Rattle.sv_types.specs.Meanings as S
 use Rattle.sv_types.specs.Paths as P
@@ -15,7 +14,6 @@ use Rattle.v_meaning.specs.Values as T
 use Rattle.v_meaning.specs.Values.{meaning}
 use Rattle.lowering_laws.specs.Placed.{IsRank}
 use Rattle.lowering_laws.specs.Signed.{IsIndex, FitsSigned}
-use Rattle.lowering_laws.specs.Steps.{CountsDown}
 use Rattle.lowering_laws.specs.Terms as terms
 use Rattle.lowering_laws.proofs.AnyRank.{le-yes, le-no}
 use Rattle.lowering_laws.proofs.Indices.{signed-index, unsigned-index}
@@ -24,11 +22,11 @@ use Rattle.path_flatten.specs.declared.offsets.Index.{Index}
 use Rattle.path_flatten.specs.declared.ranks.Rank.{Rank}
 use Rattle.path_flatten.specs.Distances.{distance_term}
 use Rattle.path_flatten.specs.Guards.{guard_meaning}
-use Rattle.path_flatten.specs.Placing.{IsRankOf, IsPlainIndex, RanksFree, RanksGuarded, RanksSigned}
+use Rattle.path_flatten.specs.Placing.{IsRankOf, IsPlainIndex, RanksFree, RanksGuarded}
 use Rattle.path_flatten.specs.Sliding.{IsIndexOf, IsSignedIndex}
 use Rattle.path_flatten.proofs.Placing.{falling-index, rising-index}
 use Rattle.target_laws.specs.Distances.{moved_by}
-use Rattle.target_flatten.specs.Spots.{RanksNumber, RanksBetween, RanksMoved, RanksShort, IsLast, HasRoom}
+use Rattle.target_flatten.specs.Spots.{RanksNumber, RanksBetween, RanksMoved, RanksShort, IsLast}
 
 -- an index as a signed number of more bits
 wider : (i : Option ℤ) (m : T.Meaning) (w z : ℕ) (sc : Scope) (v : Valuation) → w ≤ z → IsIndex i m w sc v → IsIndex i m z sc v

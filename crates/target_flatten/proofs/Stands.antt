@@ -1,13 +1,12 @@
 -- Steps of paths that are written.
-use Rattle.std.proofs.Common.{◌≡◌, ◌⊎◌, inl, inr, ℕ, zero, suc, ◌+◌, ◌-◌, ◌*◌, ◌<◌, ◌≤◌, ◌^◌, min, Bool, true, false, ℤ, pos, ◌+ℤ◌, ◌-ℤ◌, length, Option, Some, None, refl, arith, ap, sym, ◌∙◌, subst}
-use Rattle.std.specs.Prelude.{slice_get, unsigned_abs, int_le}
-use Rattle.std.proofs.lemmas.Int.{ints}
+use Rattle.std.proofs.Common.{◌≡◌, inl, inr, ℕ, ◌+◌, ◌-◌, ◌*◌, ◌<◌, ◌≤◌, ◌^◌, min, ℤ, length, Option, Some, None, arith, ap, sym, ◌∙◌, subst}
+use Rattle.std.specs.Prelude.{slice_get}
 use Rattle.std.proofs.lemmas.Nat.{mul-le}
 use Rattle.row_machine.specs.Valuation.{Valuation}
 use Rattle.picks.specs.Windows.{Window, whole}
 use Rattle.sv_types.specs.declared.types.SvType.{SvType}
 use Rattle.sv_types.specs.Layouts.{Layout, Part, layout, width_of, count_of}
-use Rattle.sv_types.specs.Windows.{falls, member_of, element_of}
+use Rattle.sv_types.specs.Windows.{member_of, element_of}
 use Rattle.sv_types.specs.Surroundings.{Around}
 use Rattle.sv_types.specs.Meanings as S
 use Rattle.sv_types.specs.Paths as P
@@ -16,10 +15,8 @@ use Rattle.v_meaning.specs.Values as T
 use Rattle.v_meaning.specs.Values.{meaning}
 use Rattle.eval_parts.specs.Places.{window_of}
 use Rattle.eval_parts.specs.declared.paths.Window.{Window as Span}
-use Rattle.lowering_laws.specs.Images.{Names, NamesNone}
-use Rattle.lowering_laws.specs.Placed.{IsRank, IsPlaced}
+use Rattle.lowering_laws.specs.Placed.{IsPlaced}
 use Rattle.lowering_laws.specs.Terms.{number_of_bits, advanced, moved, and_guard}
-use Rattle.lowering_laws.specs.Steps.{IsElement}
 use Rattle.lowering_laws.proofs.Offsets.{index-placed}
 use Rattle.lowering_laws.proofs.PathSteps.{step-from-none}
 use Rattle.lowering_laws.proofs.Wholes.{IsWhole, type-whole}
@@ -37,7 +34,7 @@ use Rattle.target_flatten.specs.declared.spots.Spot.TheVariants as V
 use Rattle.target_laws.specs.Distances.{moved_by}
 use Rattle.target_laws.specs.Seeing.{IsSeen, IsFull}
 use Rattle.target_laws.specs.Standing.{IsKnown, IsInside, IsMoved}
-use Rattle.target_flatten.specs.Spots.{IsSpot, StandsWhole, StandsInside, Narrows, SpotsMember, SpotsElement, IsPlaceIn, SpotsIndex, SpotsPlaced, PlacedAt, RanksMoved, HasRoom}
+use Rattle.target_flatten.specs.Spots.{IsSpot, StandsWhole, StandsInside, Narrows, SpotsMember, SpotsElement, IsPlaceIn, SpotsIndex, SpotsPlaced, PlacedAt, RanksMoved}
 use Rattle.target_laws.proofs.Filling.{full-inside, member-full, member-end, member-tight, element-full, element-end, element-stays}
 use Rattle.target_laws.proofs.Seeing.{nothing-seen, seen-itself, seen-member, seen-element}
 use Rattle.target_laws.proofs.Standing.{inside-none, inside-known, inside-moved, known-placed, moved-placed, first-placed, placed-moved}
@@ -152,13 +149,6 @@ place-moved place below w p narrow guard offset e a bits sc v some small spot = 
 )
 
 -- an element
-moved-none : (z : Option ℤ) → moved_by z (pos 0) ≡ z
-moved-none None = refl
-moved-none (Some k) = ap Some (nothing_more k)
-  where
-    nothing_more : (x : ℤ) → x +ℤ pos 0 ≡ x
-    nothing_more x = omega (arith, ints)
-
 element-few : (of : Layout) (n : ℕ) → count_of of.left of.right * length of.element.two_state ≡ n → length of.element.two_state ≤ n
 element-few of n all = (let k = mul-le 1 (length of.element.two_state) (count_of of.left of.right) (length of.element.two_state) (omega arith) (omega arith) in omega arith)
 
@@ -171,25 +161,24 @@ placed-spot p r item w (V.Moved q below) (none, guard, offset) e a bits sc v few
     (placed-moved e a (guard_meaning q.guard) (meaning q.offset) w bits sc v few
     (place-by e a (guard_meaning q.guard) (and_guard (guard_meaning p.guard) (guard_meaning r.guard)) (meaning q.offset) (moved (meaning p.offset) (meaning r.rank) item w) w bits sc v guard offset placed))
 
-pub index-spots : (old : Spot) (x : Index) (t : SvType) (w item : ℕ) (place : Option Place) (r : Rank) (s : Spot) → w ≤ 128 → item ≡ length (layout t).element.two_state
-    → IsPlaceIn old w place → RanksMoved x t (pos 0) w r → SpotsPlaced place r item w s → SpotsIndex old x t w s
-index-spots old x t w item None r s narrow size there ranks is e from i a bits sc v small room of step wide some index spot =
+pub index-spots : (old : Spot) (x : Index) (t : SvType) (d : ℤ) (w item : ℕ) (place : Option Place) (r : Rank) (s : Spot) → w ≤ 128 → item ≡ length (layout t).element.two_state
+    → IsPlaceIn old w place → RanksMoved x t d w r → SpotsPlaced place r item w s → SpotsIndex old x t d w s
+index-spots old x t d w item None r s narrow size there ranks is e from i a bits sc v small room of step wide some index spot =
     let from_wide : S.wide from ≡ width_of t = ap (λ (l : Layout). length l.two_state) of in
     let all = subst IsWhole (sym of) (type-whole t (omega arith)) in
     subst (λ (y : Spot). IsSpot y e a w bits sc v) (sym is)
-    (step-from-none e from a (P.index_of i a) (record { window = step.window; wide = wide; all = all.elements }) (there from a bits sc v spot))
-index-spots old x t w item (Some p) r s narrow size there ranks is e from i a bits sc v small room of step wide some index spot =
+    (step-from-none e from a (moved_by (P.index_of i a) d) (record { window = step.window; wide = wide; all = all.elements }) (there from a bits sc v spot))
+index-spots old x t d w item (Some p) r s narrow size there ranks is e from i a bits sc v small room of step wide some index spot =
     let from_wide : S.wide from ≡ width_of t = ap (λ (l : Layout). length l.two_state) of in
     let all = subst IsWhole (sym of) (type-whole t (omega arith)) in
-    let z = P.index_of i a in
+    let z = moved_by (P.index_of i a) d in
     let one : 1 ≤ w = (let more = room.index in omega arith) in
     let placed = there from a bits sc v one small spot in
-    let ranked : IsRankOf r from.of (P.index_of i a) w sc v =
-    subst (λ l. IsRankOf r l (P.index_of i a) w sc v) (sym of) (subst (λ y. IsRankOf r (layout t) y w sc v) (moved-none (P.index_of i a)) (ranks i a sc v index room)) in
+    let ranked : IsRankOf r from.of (moved_by (P.index_of i a) d) w sc v = subst (λ l. IsRankOf r l (moved_by (P.index_of i a) d) w sc v) (sym of) (ranks i a sc v index room) in
     let same : item ≡ length from.of.element.two_state = size ∙ sym (ap (λ (l : Layout). length l.element.two_state) of) in
     let few = element-few from.of (S.wide from) all.elements in
     let less = placed.1 in
     placed-spot p r item w s is e a bits sc v (omega arith)
     (subst (λ k. IsPlaced e a (and_guard (guard_meaning p.guard) (guard_meaning r.guard)) (moved (meaning p.offset) (meaning r.rank) k w) w bits sc v) (sym same)
-    (index-placed e from a (P.index_of i a) (guard_meaning p.guard) (guard_meaning r.guard) (meaning p.offset) (meaning r.rank) w bits sc v one narrow small
+    (index-placed e from a (moved_by (P.index_of i a) d) (guard_meaning p.guard) (guard_meaning r.guard) (meaning p.offset) (meaning r.rank) w bits sc v one narrow small
     (record { window = step.window; wide = wide; all = all.elements }) ranked.1 placed.0 ranked.0))

@@ -29,10 +29,9 @@ use Rattle.eval_parts.specs.Places.{window_of}
 use Rattle.eval_parts.specs.declared.paths.Window.{Window as Span}
 use Rattle.lowering_laws.specs.Images.{NamesNone}
 use Rattle.lowering_laws.specs.Placed.{holds, IsPlaced, IsSure}
-use Rattle.lowering_laws.specs.Reached.{Piece, IsWritten}
+use Rattle.lowering_laws.specs.Reached.{IsWritten}
 use Rattle.lowering_laws.specs.Terms as terms
 use Rattle.lowering_laws.specs.Terms.{and_guard, at_most}
-use Rattle.lowering_laws.proofs.Changes.{raised}
 use Rattle.lowering_laws.proofs.Extensions.{ext-at}
 use Rattle.lowering_laws.proofs.Numbers.{num-digits, known-digits, length-digits}
 use Rattle.lowering_laws.proofs.Offsets.{truth-one, and-cases, and-false, holds-both}
@@ -45,9 +44,9 @@ use Rattle.target_flatten.specs.declared.aims.Aim.{Aim}
 use Rattle.target_flatten.specs.declared.spots.Spot.{Spot}
 use Rattle.target_flatten.specs.declared.spots.Spot.TheVariants as V
 use Rattle.target_flatten.specs.declared.writes.Write.{Write}
-use Rattle.target_laws.specs.Seeing.{IsSeen, IsCut, IsFull}
+use Rattle.target_laws.specs.Seeing.{IsSeen, IsCut}
 use Rattle.target_flatten.specs.Spots.{IsSpot, IsPlaceIn, StandsInside}
-use Rattle.target_laws.specs.Standing.{IsKnown, IsInside, IsVectorOf}
+use Rattle.target_laws.specs.Standing.{IsInside, IsVectorOf}
 use Rattle.target_flatten.specs.Writing.{aimed, pieces, WritesPath, IsAimed, AimsKnown, AimsPlaced, AimsAt, WritesInner, WritesWhole, WritesBetween, MakesWrites, select_at}
 use Rattle.target_laws.proofs.Clipping.{clipped, none-clipped}
 use Rattle.target_laws.proofs.Naming.{whole-written, bit-written, range-written, offset-written, bit-offset-written, only-written}

@@ -1,7 +1,6 @@
 -- Where a path that is written stands, and what its steps make of that (IEEE 1800-2017 clauses 7.2.1, 7.4.5 and 11.5.1).
 use Rattle.std.specs.Prelude.{◌≡◌, ⊤, ℕ, ◌+◌, ◌-◌, ◌≤◌, ◌<◌, ◌^◌, ℤ, pos, ◌-ℤ◌, length, Option, Some, None, slice_get}
 use Rattle.row_machine.specs.Valuation.{Valuation}
-use Rattle.picks.specs.Windows.{Window}
 use Rattle.sv_types.specs.declared.types.SvType.{SvType}
 use Rattle.sv_types.specs.Layouts.{Layout, layout, count_of}
 use Rattle.sv_types.specs.Windows.{member_of, element_of}
@@ -91,10 +90,10 @@ IsPlaceIn s w None = (e : S.Meaning) (a : Around) (bits : ℕ) (sc : Scope) (v :
 IsPlaceIn s w (Some p) = (e : S.Meaning) (a : Around) (bits : ℕ) (sc : Scope) (v : Valuation) → 1 ≤ w → bits < 2 ^ w → IsSpot s e a w bits sc v
     → IsPlaceOf p e a w bits sc v × (S.wide e ≤ bits)
 
--- an element by a lowered index
-abbrev pub SpotsIndex : Spot → Index → SvType → ℕ → Spot → Type 0
-SpotsIndex old x t w s = (e from i : S.Meaning) (a : Around) (bits : ℕ) (sc : Scope) (v : Valuation) → bits < 2 ^ w → HasRoom w x (layout t) (pos 0) → from.of ≡ layout t
-    → IsStep e from a (element_of from.of (P.index_of i a)) → S.wide e ≡ length from.of.element.two_state → 1 ≤ S.wide from
+-- an element by a lowered index that is moved by d
+abbrev pub SpotsIndex : Spot → Index → SvType → ℤ → ℕ → Spot → Type 0
+SpotsIndex old x t d w s = (e from i : S.Meaning) (a : Around) (bits : ℕ) (sc : Scope) (v : Valuation) → bits < 2 ^ w → HasRoom w x (layout t) d → from.of ≡ layout t
+    → IsStep e from a (element_of from.of (moved_by (P.index_of i a) d)) → S.wide e ≡ length from.of.element.two_state → 1 ≤ S.wide from
     → IsIndexOf x i a sc v → IsSpot old from a w bits sc v → IsSpot s e a w bits sc v
 
 -- the rank of an unsigned index of an array `[last:0]`

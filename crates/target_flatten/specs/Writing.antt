@@ -1,13 +1,11 @@
 -- What targets of the target language write of a path (IEEE 1800-2017 clauses 10.4 and 11.5.1).
-use Rattle.std.specs.Prelude.{◌≡◌, ⊤, ℕ, ◌+◌, ◌-◌, ◌*◌, ◌≤◌, ◌<◌, ◌^◌, ◌==◌, cond, Bool, ℤ, pos, List, [], ◌∷◌, map, length, Option, Some, None}
+use Rattle.std.specs.Prelude.{◌≡◌, ℕ, ◌*◌, ◌≤◌, ◌<◌, ◌^◌, ◌==◌, cond, ℤ, List, [], ◌∷◌, map, length, Option, Some, None}
 use Rattle.row_machine.specs.Valuation.{Valuation}
-use Rattle.picks.specs.Windows.{Window}
 use Rattle.sv_types.specs.declared.types.SvType.{SvType}
 use Rattle.sv_types.specs.Layouts.{layout, count_of}
-use Rattle.sv_types.specs.Windows.{falls, between, slide}
+use Rattle.sv_types.specs.Windows.{between}
 use Rattle.sv_types.specs.Surroundings.{Around}
 use Rattle.sv_types.specs.Meanings as S
-use Rattle.sv_types.specs.Paths as P
 use Rattle.v_tree.specs.Names.{Name}
 use Rattle.v_tree.specs.declared.statements.VLval.{VLval}
 use Rattle.v_meaning.specs.Scopes.{Scope, named}
@@ -19,12 +17,10 @@ use Rattle.eval_parts.specs.declared.paths.Window.{Window as Span}
 use Rattle.lowering_laws.specs.Images.{NamesNone}
 use Rattle.lowering_laws.specs.Reached.{Piece, IsWritten}
 use Rattle.lowering_laws.specs.Terms as terms
-use Rattle.path_flatten.specs.declared.offsets.Index.{Index}
 use Rattle.path_flatten.specs.declared.places.Place.{Place}
 use Rattle.path_flatten.specs.Guards.{guard_meaning}
 use Rattle.path_flatten.specs.Placing.{IsPlaceOf}
 use Rattle.path_flatten.specs.Reading.{StaysIn}
-use Rattle.path_flatten.specs.Sliding.{IsIndexOf}
 use Rattle.path_flatten.specs.Stepping.{IsStep}
 use Rattle.target_flatten.specs.declared.spots.Spot.{Spot}
 use Rattle.target_flatten.specs.declared.aims.Aim.{Aim}

@@ -7,6 +7,7 @@ ghost use Rattle.v_build.specs.Trees.{sel_meanings};
 ghost use Rattle.lowering_laws.specs.Terms as terms;
 ghost use Rattle.path_flatten.specs.Guards.{guard_meaning};
 ghost use Rattle.target_flatten.specs.Writing.{select_at, AimsKnown, AimsPlaced, AimsAt};
+ghost use Rattle.target_flatten.specs.Naming.{NamesNoOther, NamesAim, NamesAimAt};
 
 use crate::places::{joined, place_in};
 use crate::spots::Spot;
@@ -20,8 +21,10 @@ use v_tree::{VExpr, VLval, VSel, VSels};
 
 /// A target for all bits of a value, which is written where its guard is 1.
 #[derive(Drop)]
-pub(crate) struct Aim {
+pub struct Aim {
+    /// The condition, if there is one.
     pub guard: Option<VExpr>,
+    /// What is assigned to.
     pub to: VLval,
 }
 
@@ -53,15 +56,16 @@ fn selected(alloc: Global, name: &Text, sel: VSel) -> Result<VLval, AllocError>
     Ok(VLval::Name { name, sels })
 }
 
-/// So many bits of a name of so many bits, from a known one on.
-fn known_target(
+/// So many bits of a name of so many bits, from a known one on. Or want of memory.
+pub fn known_target(
     alloc: Global,
     name: &Text,
     bits: u32,
     low: u32,
     n: u32,
 ) -> Result<VLval, AllocError>
-    ensures { IfOk result (AimsKnown name.now bits low n) }
+    ensures aims { IfOk result (AimsKnown name.now bits low n) }
+    ensures names { IfOk result NamesNoOther }
 {
     if n == bits {
         let made = bare(alloc, name)?;
@@ -136,7 +140,8 @@ pub(crate) fn aim_at_place(
     place: Place,
     n: u32,
 ) -> Result<Aim, AllocError>
-    ensures { IfOk result (AimsPlaced image.now.name image.now.bits place n image.now.room) }
+    ensures aims { IfOk result (AimsPlaced image.now.name image.now.bits place n image.now.room) }
+    ensures names { IfOk result (NamesAim place) }
 {
     if image.bits == 1 {
         let made = only_bit(alloc, &image.name, place, image.room)?;
@@ -147,15 +152,11 @@ pub(crate) fn aim_at_place(
     }
 }
 
-/// So many bits of an image, from where a path stands on.
-pub(crate) fn aim_at(
-    alloc: Global,
-    image: &Image,
-    spot: Spot,
-    n: u32,
-) -> Result<Option<Aim>, AllocError>
+/// So many bits of an image, from where a path stands on, or none where it stands nowhere. Or want of memory.
+pub fn aim_at(alloc: Global, image: &Image, spot: Spot, n: u32) -> Result<Option<Aim>, AllocError>
     requires room { image.now.room ≤ 128 }
-    ensures { IfOk result (AimsAt image.now.name image.now.bits spot n image.now.room) }
+    ensures aims { IfOk result (AimsAt image.now.name image.now.bits spot n image.now.room) }
+    ensures names { IfOk result (NamesAimAt spot) }
 {
     if let Spot::Known(below) = spot {
         let to = known_target(alloc, &image.name, image.bits, below, n)?;

@@ -9,7 +9,9 @@ ghost use Rattle.lowering_laws.specs.Terms as terms;
 ghost use Rattle.path_flatten.specs.Guards.{guard_meaning};
 ghost use Rattle.path_flatten.specs.Distances.{distance_term};
 ghost use Rattle.path_flatten.specs.Sliding.{IsSignedIndex};
+ghost use Rattle.path_flatten.specs.Naming.{NamesLike};
 ghost use Rattle.target_flatten.specs.Spots.{RanksBetween, RanksNumber, RanksMoved, RanksShort, IsLast, SpotsIndex, SpotsPlaced};
+ghost use Rattle.target_flatten.specs.Naming.{NamesRank, NamesRankOf, NamesAdded};
 
 use crate::places::{element_place, place_in};
 use crate::spots::Spot;
@@ -42,7 +44,8 @@ fn zero_above(alloc: Global, e: &VExpr) -> Result<VExpr, AllocError>
 
 /// An index as a signed number, which has one bit more at most.
 fn number_of(alloc: Global, index: &Index) -> Result<VExpr, AllocError>
-    ensures { IfOk result (λ m. IsSignedIndex index.now (meaning m) (index.now.width + 1)) }
+    ensures number { IfOk result (λ m. IsSignedIndex index.now (meaning m) (index.now.width + 1)) }
+    ensures names { IfOk result (λ m. NamesLike (meaning index.now.expr) (meaning m)) }
 {
     if index.signed {
         let copy = copy_expr(alloc, &index.expr)?;
@@ -170,7 +173,8 @@ fn rank_between(
     right: i128,
 ) -> Result<Rank, AllocError>
     requires { width ≤ 128 }
-    ensures { IfOk result (RanksNumber (meaning number.now) width left right) }
+    ensures ranked { IfOk result (RanksNumber (meaning number.now) width left right) }
+    ensures names { IfOk result (NamesRank (meaning number.now)) }
 {
     if right <= left {
         let made = falling_rank(alloc, number, width, left, right)?;
@@ -190,19 +194,20 @@ fn bounded_rank(
     right: i128,
 ) -> Result<Rank, AllocError>
     requires { width ≤ 128 }
-    ensures { IfOk result (RanksBetween index.now width left right) }
+    ensures ranked { IfOk result (RanksBetween index.now width left right) }
+    ensures names { IfOk result (NamesRankOf index.now) }
 {
     let number = number_of(alloc, index)?;
     let made = rank_between(alloc, &number, width, left, right)?;
     Ok(made)
 }
 
-/// 2 to a power of at most 64.
+/// 2 to a power of at most 100.
 #[tactic(auto, using(crate::proofs::Powers::powers))]
 fn power_of_two(n: u32) -> u128
-    requires { n ≤ 64 }
+    requires { n ≤ 100 }
     ensures value { result ≡ 2 ^ n }
-    ensures small { result ≤ 2 ^ 64 }
+    ensures small { result ≤ 2 ^ 100 }
 {
     let mut power: u128 = 1;
     for _i in 0..n {
@@ -213,9 +218,10 @@ fn power_of_two(n: u32) -> u128
 
 /// The rank of an unsigned index of an array `[last:0]`.
 fn short_rank(alloc: Global, index: &Index, last: u32) -> Result<Rank, AllocError>
-    requires narrow { index.now.width ≤ 64 }
+    requires narrow { index.now.width ≤ 100 }
     requires unsigned { index.now.signed ≡ false }
-    ensures { IfOk result (RanksShort index.now last) }
+    ensures ranked { IfOk result (RanksShort index.now last) }
+    ensures names { IfOk result (NamesRankOf index.now) }
 {
     if power_of_two(index.width) <= u128::from(last) + 1 {
         let made = free_rank(alloc, &index.expr)?;
@@ -243,7 +249,7 @@ fn last_of(bounds: &Bounds) -> Option<u32>
 }
 
 /// The rank of an index of a type that is moved so far, by numbers of so many bits.
-pub(crate) fn rank_of(
+fn rank_of(
     alloc: Global,
     index: &Index,
     of: &SvType,
@@ -251,10 +257,11 @@ pub(crate) fn rank_of(
     width: u32,
 ) -> Result<Rank, AllocError>
     requires narrow { width_of of.now ≤ 4194304 }
-    requires index { index.now.width ≤ 64 }
+    requires index { index.now.width ≤ 100 }
     requires width { width ≤ 128 }
     requires by { unsigned_abs by ≤ 2 ^ 40 }
-    ensures { IfOk result (RanksMoved index.now of.now by width) }
+    ensures ranked { IfOk result (RanksMoved index.now of.now by width) }
+    ensures names { IfOk result (NamesRankOf index.now) }
 {
     let bounds = bounds_of(of);
     if by == 0 && !index.signed {
@@ -288,22 +295,25 @@ fn indexed(
     }
 }
 
-/// The element with a lowered index, of what has this type, by numbers of so many bits.
+/// The element with a lowered index that is moved so far, of what has this type, by numbers of so many bits. Or want of memory.
 pub fn index_spot(
     alloc: Global,
     spot: Spot,
     of: &SvType,
     index: &Index,
+    by: i128,
     width: u32,
 ) -> Result<Spot, AllocError>
     requires narrow { width_of of.now ≤ 4194304 }
-    requires index { index.now.width ≤ 64 }
+    requires index { index.now.width ≤ 100 }
     requires width { width ≤ 128 }
-    ensures { IfOk result (SpotsIndex spot index.now of.now width) }
+    requires by { unsigned_abs by ≤ 2 ^ 40 }
+    ensures stands { IfOk result (SpotsIndex spot index.now of.now by width) }
+    ensures names { IfOk result (NamesAdded spot index.now) }
 {
     let item = bounds_of(of).element;
     let place = place_in(alloc, spot, width);
-    let (place, rank) = pairs::both(place, rank_of(alloc, index, of, 0, width))?;
+    let (place, rank) = pairs::both(place, rank_of(alloc, index, of, by, width))?;
     let made = indexed(alloc, place, rank, item, width)?;
     Ok(made)
 }

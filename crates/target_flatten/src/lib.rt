@@ -7,6 +7,7 @@ mod places;
 mod spots;
 mod writes;
 
+pub use aims::{Aim, aim_at, known_target};
 pub use indices::index_spot;
 pub use spots::{Spot, element_spot, member_spot, whole_spot};
 pub use writes::{Image, Write, Writes, between_writes, whole_writes};

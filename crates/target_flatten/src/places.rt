@@ -7,10 +7,11 @@ ghost use Rattle.v_meaning.specs.Values.{meaning};
 ghost use Rattle.lowering_laws.specs.Terms as terms;
 ghost use Rattle.path_flatten.specs.Guards.{guard_meaning};
 ghost use Rattle.target_flatten.specs.Spots.{IsPlaceIn};
+ghost use Rattle.target_flatten.specs.Naming.{NamesPlaceIn};
 
 use crate::spots::Spot;
 use b4_core::BinOp;
-use path_flatten::{Place, Rank, copy_expr, number};
+use path_flatten::{Place, Rank, number};
 use std::alloc::{AllocError, Global};
 use v_build::{binary, both};
 use v_tree::VExpr;
@@ -96,7 +97,8 @@ fn advanced_place(alloc: Global, place: Place, below: u32, width: u32) -> Result
 /// The place of a path that stands somewhere, by numbers of so many bits.
 pub(crate) fn place_in(alloc: Global, spot: Spot, width: u32) -> Result<Option<Place>, AllocError>
     requires narrow { width ≤ 128 }
-    ensures { IfOk result (IsPlaceIn spot width) }
+    ensures place { IfOk result (IsPlaceIn spot width) }
+    ensures names { IfOk result (NamesPlaceIn spot) }
 {
     match spot {
         Spot::Nowhere => Ok(None),
@@ -115,23 +117,4 @@ pub(crate) fn place_in(alloc: Global, spot: Spot, width: u32) -> Result<Option<P
             Ok(Some(made))
         }
     }
-}
-
-/// A copy of a guard.
-fn copy_guard(alloc: Global, guard: &Option<VExpr>) -> Result<Option<VExpr>, AllocError>
-    ensures { IfOk result (λ g. g ≡ guard.now) }
-{
-    match guard {
-        None => Ok(None),
-        Some(guard) => Ok(Some(copy_expr(alloc, guard)?)),
-    }
-}
-
-/// A copy of a place.
-pub(crate) fn copy_place(alloc: Global, place: &Place) -> Result<Place, AllocError>
-    ensures { IfOk result (λ p. p ≡ place.now) }
-{
-    let guard = copy_guard(alloc, &place.guard);
-    let (guard, offset) = pairs::both(guard, copy_expr(alloc, &place.offset))?;
-    Ok(Place { guard, offset })
 }

@@ -4,6 +4,7 @@
 ghost use Rattle.std.specs.Prelude.{◌≡◌, ◌≤◌, ◌^◌, unsigned_abs, IfSome};
 ghost use Rattle.sv_types.specs.Layouts.{width_of};
 ghost use Rattle.target_flatten.specs.Spots.{StandsWhole, StandsInside, Narrows, SpotsMember, SpotsElement};
+ghost use Rattle.target_flatten.specs.Naming.{NamesOn, NamesNothing};
 
 use eval_parts::{Window, element_at, entire, member_at};
 use path_flatten::Place;
@@ -27,14 +28,16 @@ pub enum Spot {
 
 /// All of an image.
 pub fn whole_spot() -> Spot
-    ensures { StandsWhole result }
+    ensures stands { StandsWhole result }
+    ensures names { NamesNothing result }
 {
     Spot::Known(0)
 }
 
 /// Some bits of a path, from this one on.
 pub(crate) fn inside(spot: Spot, low: u32) -> Spot
-    ensures { StandsInside spot low result }
+    ensures stands { StandsInside spot low result }
+    ensures names { NamesOn spot result }
 {
     match spot {
         Spot::Nowhere => Spot::Nowhere,
@@ -48,7 +51,8 @@ pub(crate) fn inside(spot: Spot, low: u32) -> Spot
 
 /// The bits of a path that a window of its type names, all of them or none.
 fn narrowed(spot: Spot, inner: Window) -> Spot
-    ensures { Narrows spot inner result }
+    ensures stands { Narrows spot inner result }
+    ensures names { NamesOn spot result }
 {
     if inner.high <= inner.low {
         return Spot::Nowhere;
@@ -59,7 +63,8 @@ fn narrowed(spot: Spot, inner: Window) -> Spot
 /// The member with a number, of what has this type.
 pub fn member_spot(spot: Spot, of: &SvType, k: u32) -> Spot
     requires narrow { width_of of.now ≤ 4194304 }
-    ensures { SpotsMember spot of.now k result }
+    ensures stands { SpotsMember spot of.now k result }
+    ensures names { NamesOn spot result }
 {
     narrowed(spot, member_at(of, k, entire(width(of))))
 }
@@ -68,7 +73,8 @@ pub fn member_spot(spot: Spot, of: &SvType, k: u32) -> Spot
 pub fn element_spot(spot: Spot, of: &SvType, index: Option<i128>) -> Spot
     requires narrow { width_of of.now ≤ 4194304 }
     requires index { IfSome index (λ k. unsigned_abs k ≤ 2 ^ 65) }
-    ensures { SpotsElement spot of.now index result }
+    ensures stands { SpotsElement spot of.now index result }
+    ensures names { NamesOn spot result }
 {
     narrowed(spot, element_at(of, index, entire(width(of))))
 }

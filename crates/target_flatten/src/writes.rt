@@ -6,6 +6,7 @@ ghost use Rattle.picks.specs.Windows.{at_least_0};
 ghost use Rattle.sv_types.specs.Layouts.{width_of};
 ghost use Rattle.eval_parts.specs.Places.{IsNear};
 ghost use Rattle.target_flatten.specs.Writing.{WritesInner, WritesWhole, WritesBetween, MakesWrites};
+ghost use Rattle.target_flatten.specs.Naming.{NamesWrites};
 
 use crate::aims::{Aim, aim_at};
 use crate::spots::{Spot, inside};
@@ -76,7 +77,8 @@ fn inner_writes(
 ) -> Result<Writes, AllocError>
     requires near { IsNear inner.shift }
     requires room { image.now.room ≤ 128 }
-    ensures { IfOk result (WritesInner image.now.name image.now.bits spot inner image.now.room) }
+    ensures writes { IfOk result (WritesInner image.now.name image.now.bits spot inner image.now.room) }
+    ensures names { IfOk result (NamesWrites spot) }
 {
     if inner.high <= inner.low {
         return Ok(Items::from_vec(Vec::new(alloc)));
@@ -90,7 +92,8 @@ fn inner_writes(
 /// What is written of all of a path of so many bits that stands somewhere. Or want of memory.
 pub fn whole_writes(alloc: Global, image: &Image, spot: Spot, n: u32) -> Result<Writes, AllocError>
     requires room { image.now.room ≤ 128 }
-    ensures { IfOk result (WritesWhole image.now.name image.now.bits spot n image.now.room) }
+    ensures writes { IfOk result (WritesWhole image.now.name image.now.bits spot n image.now.room) }
+    ensures names { IfOk result (NamesWrites spot) }
 {
     let made = inner_writes(alloc, image, spot, entire(n))?;
     Ok(made)
@@ -107,7 +110,8 @@ pub fn between_writes(
 ) -> Result<Writes, AllocError>
     requires narrow { width_of of.now ≤ 4194304 }
     requires room { image.now.room ≤ 128 }
-    ensures { IfOk result (WritesBetween image.now.name image.now.bits spot of.now left right image.now.room) }
+    ensures writes { IfOk result (WritesBetween image.now.name image.now.bits spot of.now left right image.now.room) }
+    ensures names { IfOk result (NamesWrites spot) }
 {
     let inner = between_at(of, left, right, entire(width(of)));
     let made = inner_writes(alloc, image, spot, inner)?;

@@ -5,3 +5,5 @@ pub mod Naming
 pub mod Filling
 pub mod Rows
 pub mod Entire
+pub mod Elements
+pub mod Cells

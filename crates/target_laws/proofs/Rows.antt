@@ -48,7 +48,7 @@ none-written of up n z path image sc v = none-clipped (lowest_elements of up n z
 next-row : (r : ℤ) (w : ℕ) → (r +ℤ pos 1) *ℤ pos w ≡ r *ℤ pos w +ℤ pos w
 next-row r w = grind (arith, ints)
 
-rows : (r : ℤ) (w t : ℕ) → r *ℤ pos w +ℤ pos (t * w) ≡ (r +ℤ pos t) *ℤ pos w
+pub rows : (r : ℤ) (w t : ℕ) → r *ℤ pos w +ℤ pos (t * w) ≡ (r +ℤ pos t) *ℤ pos w
 rows r w zero =
     let none : 0 * w ≡ 0 = grind arith in
     let same : r *ℤ pos w +ℤ pos 0 ≡ r *ℤ pos w = nothing_more (r *ℤ pos w) in

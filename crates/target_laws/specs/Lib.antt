@@ -1,3 +1,4 @@
 pub mod Seeing
 pub mod Standing
 pub mod Distances
+pub mod Elements

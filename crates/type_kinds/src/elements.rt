@@ -48,22 +48,8 @@ fn bit_of_type(t: &SvType) -> SvType
     }
 }
 
-// The elements of an enum are those of its base, if that is an array.
-fn element_of_enum(alloc: Global, t: &SvType, base: &SvType) -> Result<SvType, AllocError>
-    ensures { IfOk result (λ e. e ≡ shape.element_of_enum t.now base.now) }
-{
-    match base {
-        SvType::PackedArray { item, .. } => copy_type(alloc, item.get()),
-        SvType::Scalar { .. } => Ok(bit_of_type(t)),
-        SvType::Struct { .. } => Ok(bit_of_type(t)),
-        SvType::Union { .. } => Ok(bit_of_type(t)),
-        SvType::Enum { .. } => Ok(bit_of_type(t)),
-        SvType::UnpackedArray { .. } => Ok(bit_of_type(t)),
-    }
-}
-
-/// The type of an element of what is indexed: a scalar, a packed struct, a union and an enum are indexed as vectors of their bits.
-/// Or want of memory.
+/// The type of an element of what is indexed: a scalar, a packed struct and a union are indexed as vectors of their bits, and an
+/// enum as its base. Or want of memory.
 pub fn element_of(alloc: Global, t: &SvType) -> Result<SvType, AllocError>
     ensures { IfOk result (λ e. e ≡ shape.element_of t.now) }
 {
@@ -75,7 +61,7 @@ pub fn element_of(alloc: Global, t: &SvType) -> Result<SvType, AllocError>
         SvType::PackedArray { item, .. } => copy_type(alloc, item.get()),
         SvType::Struct { .. } => Ok(bit_of_type(t)),
         SvType::Union { .. } => Ok(bit_of_type(t)),
-        SvType::Enum { base, .. } => element_of_enum(alloc, t, base.get()),
+        SvType::Enum { base, .. } => element_of(alloc, base.get()),
         SvType::UnpackedArray { item, .. } => copy_type(alloc, item.get()),
     }
 }

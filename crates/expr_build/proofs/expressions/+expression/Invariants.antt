@@ -1,5 +1,5 @@
 use Rattle.std.proofs.Common.{◌≡◌, ◌+◌, ◌*◌, ◌++◌, ◌∷◌, drop, map}
-use Rattle.expr_build.specs.Nodes.{behind_marks, separated}
+use Rattle.expr_build.specs.Nodes.{behind_marks}
 use Rattle.expr_build.specs.Expressions as means
 use Rattle.expr_build.proofs.expressions.+expression.Given as goal
 
@@ -15,8 +15,8 @@ invariant-exprs_behind-loop-next l = l.exprs ++ behind_marks (means.expr_within 
 abbrev pub invariant-pattern_items-loop-next : goal.invariant-pattern_items-loop-next
 invariant-pattern_items-loop-next l = l.items ++ behind_marks (means.pattern_item_of (means.expr_within l.depth)) (drop l.next-index l.rest) ≡ l.fn.first ∷ behind_marks (means.pattern_item_of (means.expr_within l.depth)) l.rest
 
-abbrev pub invariant-value_ranges-loop-next : goal.invariant-value_ranges-loop-next
-invariant-value_ranges-loop-next l = l.ranges ++ behind_marks (means.value_range_of (means.expr_within l.depth)) (drop l.next-index l.rest) ≡ separated (means.value_range_of (means.expr_within l.depth)) l.fn.trees
+abbrev pub invariant-value_ranges_behind-loop-next : goal.invariant-value_ranges_behind-loop-next
+invariant-value_ranges_behind-loop-next l = l.ranges ++ behind_marks (means.value_range_of (means.expr_within l.depth)) (drop l.next-index l.rest) ≡ l.fn.first ∷ behind_marks (means.value_range_of (means.expr_within l.depth)) l.rest
 
 abbrev pub invariant-chain-loop-tree : goal.invariant-chain-loop-tree
 invariant-chain-loop-tree l = means.chain_of (means.expr_within l.depth) (means.level_of (means.expr_within l.depth) l.levels) l.left (drop l.tree-index l.rest) ≡ means.chain_of (means.expr_within l.depth) (means.level_of (means.expr_within l.depth) l.levels) l.fn.first l.rest
@@ -80,6 +80,9 @@ decreases-value_range l = 1024 * l.depth + 3
 
 abbrev pub decreases-value_ranges : goal.decreases-value_ranges
 decreases-value_ranges l = 1024 * l.depth + 5
+
+abbrev pub decreases-value_ranges_behind : goal.decreases-value_ranges_behind
+decreases-value_ranges_behind l = 1024 * l.depth + 4
 
 abbrev pub decreases-decimal : goal.decreases-decimal
 decreases-decimal l = 1024 * l.depth + 19
@@ -146,9 +149,6 @@ decreases-call l = 1024 * l.depth + 20
 
 abbrev pub decreases-conditional : goal.decreases-conditional
 decreases-conditional l = 1024 * l.depth + 880
-
-abbrev pub decreases-choice : goal.decreases-choice
-decreases-choice l = 1024 * l.depth + 870
 
 abbrev pub decreases-boxed : goal.decreases-boxed
 decreases-boxed l = 1024 * l.depth + 1

@@ -13,13 +13,31 @@ use Rattle.expr_lower.proofs.Asking.{Made}
 use Rattle.expr_lower.proofs.lowering.+lower.Given as goal
 
 abbrev pub decreases-lower : goal.decreases-lower
-decreases-lower l = 3 * nodes l.e.now + 2
+decreases-lower l = 5 * nodes l.e.now + 3
+
+abbrev pub decreases-path : goal.decreases-path
+decreases-path l = 5 * nodes l.e.now + 2
+
+abbrev pub decreases-find : goal.decreases-find
+decreases-find l = 5 * nodes l.e.now + 4
+
+abbrev pub decreases-follow : goal.decreases-follow
+decreases-follow l = 5 * nodes l.e.now + 1
+
+abbrev pub decreases-element : goal.decreases-element
+decreases-element l = 5 * nodes l.e.now
+
+abbrev pub decreases-slid : goal.decreases-slid
+decreases-slid l = 5 * nodes l.e.now
+
+abbrev pub decreases-index : goal.decreases-index
+decreases-index l = 5 * nodes l.i.now + 4
 
 abbrev pub decreases-parts : goal.decreases-parts
-decreases-parts l = 3 * nodes l.e.now + 1
+decreases-parts l = 5 * nodes l.e.now + 2
 
 abbrev pub decreases-answer : goal.decreases-answer
-decreases-answer l = 3 * nodes l.operand.of.now + 3
+decreases-answer l = 5 * nodes l.operand.of.now + 4
 
 abbrev pub invariant-parts-loop-operand : goal.invariant-parts-loop-operand
 invariant-parts-loop-operand l =

@@ -1,11 +1,18 @@
 use Rattle.std.proofs.Common.{arith}
+use Rattle.target_flatten.proofs.Naming.{aim-only, aim-select}
 use Rattle.target_flatten.proofs.Writing.{placed-only, placed-select}
 use Rattle.target_flatten.proofs.aims.aim_at_place.Goals as goal
 
-pub returns-in_ok-made : goal.returns-in_ok-made
-returns-in_ok-made c =
+pub returns-in_ok-made-clause-aims : goal.returns-in_ok-made-clause-aims
+returns-in_ok-made-clause-aims c =
     placed-only c.args.image.now.name c.args.image.now.bits c.args.place c.args.n c.args.image.now.room c.in_ok-made.made (omega arith) c.in_ok-made.ensures.guard c.in_ok-made.ensures.to
 
-pub returns-in_ok-made-2 : goal.returns-in_ok-made-2
-returns-in_ok-made-2 c =
+pub returns-in_ok-made-2-clause-aims : goal.returns-in_ok-made-2-clause-aims
+returns-in_ok-made-2-clause-aims c =
     placed-select c.args.image.now.name c.args.image.now.bits c.args.place c.args.n c.args.image.now.room c.in_ok-made-2.made c.in_ok-made-2.ensures.guard c.in_ok-made-2.ensures.to
+
+pub returns-in_ok-made-clause-names : goal.returns-in_ok-made-clause-names
+returns-in_ok-made-clause-names c = aim-only c.args.image.now.name c.args.place c.args.image.now.room c.in_ok-made.made c.in_ok-made.ensures.guard c.in_ok-made.ensures.to
+
+pub returns-in_ok-made-2-clause-names : goal.returns-in_ok-made-2-clause-names
+returns-in_ok-made-2-clause-names c = aim-select c.args.image.now.name c.args.place c.args.n c.in_ok-made-2.made c.in_ok-made-2.ensures.guard c.in_ok-made-2.ensures.to

@@ -1,7 +1,0 @@
-use Rattle.std.proofs.Common.{◌≡◌, ◌++◌, drop}
-use Rattle.expr_build.specs.Nodes.{behind_marks, separated}
-use Rattle.expr_build.specs.Types as means
-use Rattle.expr_build.proofs.types.enum_names.Given as goal
-
-abbrev pub invariant-loop-next : goal.invariant-loop-next
-invariant-loop-next l = l.names ++ behind_marks means.enum_name_of (drop l.next-index l.rest) ≡ separated means.enum_name_of l.fn.trees

@@ -1,0 +1,4 @@
+pub mod Fixing
+pub mod PathNames
+pub mod PathSteps
+pub mod Alike

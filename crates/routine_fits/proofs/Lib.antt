@@ -1,0 +1,5 @@
+pub mod Statements
+pub mod Functions
+pub mod Targets
+pub mod Rules
+pub mod Loops

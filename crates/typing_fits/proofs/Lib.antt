@@ -1,0 +1,16 @@
+pub mod Contexts
+pub mod Full
+pub mod Vectors
+pub mod Limits
+pub mod Operators
+pub mod Elements
+pub mod PathLimits
+pub mod Selects
+pub mod Lists
+pub mod Joins
+pub mod Given
+pub mod Numbers
+pub mod Names
+pub mod Calls
+pub mod Patterns
+pub mod Same
