@@ -1,0 +1,3 @@
+pub mod Rooted
+pub mod Tokened
+pub mod Lesser
