@@ -1,0 +1,13 @@
+pub mod Keeping
+pub mod Lasting
+pub mod Operands
+pub mod Paths
+pub mod Casts
+pub mod Forms
+pub mod Steps
+pub mod Uses
+pub mod Walk
+pub mod Constants
+pub mod Knowing
+pub mod Types
+pub mod TypeForms

@@ -1,0 +1,3 @@
+pub mod Keeps
+pub mod Written
+pub mod WrittenTypes
