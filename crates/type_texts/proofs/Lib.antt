@@ -1,2 +1,3 @@
 pub mod Elements
 pub mod Turns
+pub mod Uniting

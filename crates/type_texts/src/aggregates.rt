@@ -78,9 +78,13 @@ fn member(alloc: Global, text: Source<'_>, f: Field) -> Result<Member, AllocErro
     }
 }
 
-// Members in the order of the text.
+/// Members in the order of the text.
 #[tactic(auto, using(crate::proofs::Turns::turns))]
-fn members_of(alloc: Global, text: Source<'_>, fields: Items<Field>) -> Result<Members, AllocError>
+pub fn members_of(
+    alloc: Global,
+    text: Source<'_>,
+    fields: Items<Field>,
+) -> Result<Members, AllocError>
     ensures { IfOk result (λ ms. ms ≡ map (types.member (source text.entry)) fields) }
 {
     let mut left = fields;
@@ -92,8 +96,8 @@ fn members_of(alloc: Global, text: Source<'_>, fields: Items<Field>) -> Result<M
     Ok(Members::from_vec(made))
 }
 
-// The sign of a packed struct or union.
-fn sign_by(packing: Option<Packing>) -> bool
+/// The sign of a packed struct or union.
+pub fn sign_by(packing: Option<Packing>) -> bool
     ensures { result ≡ types.sign_by packing }
 {
     match packing {

@@ -4,7 +4,9 @@
 mod aggregates;
 mod dimensions;
 mod keywords;
+mod unions;
 
 pub use aggregates::{Field, field_of, struct_of};
 pub use dimensions::{Dim, named_type, under, unpacked};
 pub use keywords::{implicit_type, keyword_type};
+pub use unions::union_of;
