@@ -1,28 +1,27 @@
 //! Parameters, imports and names of types.
 
 ghost use Rattle.std.specs.Prelude.{◌≡◌, IfOk};
-ghost use Rattle.expr_build.specs.Nodes.{separated};
 ghost use Rattle.sv_build.specs.Declarations as means;
 
 use crate::rows;
 use crate::words::parameter_keyword;
 use expr_build::{
-    alone, bare_text, declarator, dimensioned_text, dims, initializer, keyword_text, kid, kids,
-    named_dims_text, named_text, no_type, row, scoped, signed_text, token, type_text,
+    Piece, alone, bare_text, declarator, dimensioned_text, dims, initializer, keyword_text, kid,
+    kids, named_dims_text, named_text, no_type, pieces, row, scoped, signed_text, token, type_text,
 };
 use ll_engine::Tree;
+use pairs::both;
 use std::alloc::{AllocError, Global};
 use sv_source::Items;
 use sv_tree::{
-    Declarator, Import, ImportItem, ImportItems, ParameterBodies, ParameterBody,
-    ParameterDeclaration, TypeDeclaration, TypeText,
+    Declarator, Import, ImportItem, ParameterBody, ParameterDeclaration, TypeDeclaration, TypeText,
 };
 
 /// A parameter with this type.
 fn value_parameter(alloc: Global, of: TypeText, tree: &Tree) -> Result<ParameterBody, AllocError>
     ensures { IfOk result (λ p. p ≡ means.value_parameter of tree.now) }
 {
-    let declarator = declarator(alloc, tree)?;
+    let (of, declarator) = both(Ok(of), declarator(alloc, tree))?;
     Ok(ParameterBody::Value { of, declarator })
 }
 
@@ -95,19 +94,19 @@ pub fn parameter_body(alloc: Global, tree: &Tree) -> Result<ParameterBody, Alloc
     }
 }
 
-/// Parameters behind one word.
-fn parameter_bodies(alloc: Global, trees: &[Tree]) -> Result<ParameterBodies, AllocError>
-    ensures { IfOk result (λ ps. ps ≡ separated means.parameter_body_of trees.now) }
-{
-    let mut bodies = Items::new(alloc);
-    let [first, rest @ ..] = trees else {
-        return Ok(bodies);
-    };
-    bodies.push(parameter_body(alloc, first)?)?;
-    for next in rest {
-        bodies.push(parameter_body(alloc, kid(next, 1))?)?;
+/// Parameters.
+struct ParameterPiece;
+
+impl Piece for ParameterPiece {
+    ghost use Rattle.sv_build.specs.Declarations.{parameter_body_of};
+
+    type Value = ParameterBody;
+
+    ghost value = { parameter_body_of };
+
+    fn piece(alloc: Global, tree: &Tree) -> Result<ParameterBody, AllocError> {
+        parameter_body(alloc, tree)
     }
-    Ok(bodies)
 }
 
 /// Parameters, with the `;` behind them.
@@ -118,7 +117,7 @@ pub fn parameters(
 ) -> Result<ParameterDeclaration, AllocError>
     ensures { IfOk result (λ p. p ≡ means.parameters_of tree.now semicolon) }
 {
-    let bodies = parameter_bodies(alloc, kids(kid(tree, 1)))?;
+    let bodies = pieces::<ParameterPiece>(alloc, kids(kid(tree, 1)))?;
     Ok(ParameterDeclaration {
         keyword: parameter_keyword(kid(tree, 0)),
         bodies,
@@ -126,47 +125,40 @@ pub fn parameters(
     })
 }
 
-/// A name that is imported, or all.
-fn import_item(tree: &Tree) -> ImportItem
-    ensures { result ≡ means.import_item_of tree.now }
-{
-    let package = token(tree, 0);
-    let colons = token(tree, 1);
-    let imported = kid(tree, 2);
-    match row(imported) {
-        rows::IMPORTED_NAME => ImportItem::Name {
-            package,
-            colons,
-            name: token(imported, 0),
-        },
-        _ => ImportItem::All {
-            package,
-            colons,
-            star: token(imported, 0),
-        },
-    }
-}
+/// Names that are imported, or all.
+struct ImportPiece;
 
-/// What is imported.
-fn import_items(alloc: Global, trees: &[Tree]) -> Result<ImportItems, AllocError>
-    ensures { IfOk result (λ is. is ≡ separated means.import_item_of trees.now) }
-{
-    let mut items = Items::new(alloc);
-    let [first, rest @ ..] = trees else {
-        return Ok(items);
-    };
-    items.push(import_item(first))?;
-    for next in rest {
-        items.push(import_item(kid(next, 1)))?;
+impl Piece for ImportPiece {
+    ghost use Rattle.sv_build.specs.Declarations.{import_item_of};
+
+    type Value = ImportItem;
+
+    ghost value = { import_item_of };
+
+    fn piece(_alloc: Global, tree: &Tree) -> Result<ImportItem, AllocError> {
+        let package = token(tree, 0);
+        let colons = token(tree, 1);
+        let imported = kid(tree, 2);
+        match row(imported) {
+            rows::IMPORTED_NAME => Ok(ImportItem::Name {
+                package,
+                colons,
+                name: token(imported, 0),
+            }),
+            _ => Ok(ImportItem::All {
+                package,
+                colons,
+                star: token(imported, 0),
+            }),
+        }
     }
-    Ok(items)
 }
 
 /// An import.
 pub fn import(alloc: Global, tree: &Tree) -> Result<Import, AllocError>
     ensures { IfOk result (λ i. i ≡ means.import_of tree.now) }
 {
-    let items = import_items(alloc, kids(kid(tree, 1)))?;
+    let items = pieces::<ImportPiece>(alloc, kids(kid(tree, 1)))?;
     Ok(Import {
         keyword: token(tree, 0),
         items,
@@ -178,8 +170,8 @@ pub fn import(alloc: Global, tree: &Tree) -> Result<Import, AllocError>
 pub fn typedef(alloc: Global, tree: &Tree) -> Result<TypeDeclaration, AllocError>
     ensures { IfOk result (λ t. t ≡ means.typedef_of tree.now) }
 {
-    let of = type_text(alloc, kid(tree, 1))?;
-    let unpacked = dims(alloc, kid(tree, 3))?;
+    let of = type_text(alloc, kid(tree, 1));
+    let (of, unpacked) = both(of, dims(alloc, kid(tree, 3)))?;
     Ok(TypeDeclaration {
         keyword: token(tree, 0),
         of,

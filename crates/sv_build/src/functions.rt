@@ -1,7 +1,6 @@
 //! Functions and tasks.
 
 ghost use Rattle.std.specs.Prelude.{◌≡◌, IfOk};
-ghost use Rattle.expr_build.specs.Nodes.{separated};
 ghost use Rattle.sv_build.specs.Items as means;
 
 use crate::ports::port_text;
@@ -9,13 +8,14 @@ use crate::rows;
 use crate::statements::body;
 use crate::words::{formal_direction, label, lifetime};
 use expr_build::{
-    alone, dimensioned_text, dims, is_blank, keyword_text, kid, kids, named_text, no_type, row,
-    scoped, signed_text, token,
+    Piece, alone, dimensioned_text, dims, is_blank, keyword_text, kid, kids, named_text, no_type,
+    pieces, row, scoped, signed_text, token,
 };
 use ll_engine::Tree;
+use pairs::both;
 use std::alloc::{AllocError, Global};
 use sv_source::Items;
-use sv_tree::{Dimensions, Formal, FormalList, Formals, Function, FunctionResult, Task, TypeText};
+use sv_tree::{Dimensions, Formal, FormalList, Function, FunctionResult, Task, TypeText};
 
 /// What a function gives, its name, and the dimensions behind a name without a type.
 #[derive(Drop)]
@@ -28,30 +28,23 @@ pub struct FunctionName {
     pub unpacked: Dimensions,
 }
 
-/// A formal argument.
-fn formal(alloc: Global, tree: &Tree) -> Result<Formal, AllocError>
-    ensures { IfOk result (λ f. f ≡ means.formal_of tree.now) }
-{
-    let text = port_text(alloc, kid(tree, 1))?;
-    Ok(Formal {
-        direction: formal_direction(kid(tree, 0)),
-        text,
-    })
-}
-
 /// Formal arguments.
-fn formals(alloc: Global, trees: &[Tree]) -> Result<Formals, AllocError>
-    ensures { IfOk result (λ fs. fs ≡ separated means.formal_of trees.now) }
-{
-    let mut formals = Items::new(alloc);
-    let [first, rest @ ..] = trees else {
-        return Ok(formals);
-    };
-    formals.push(formal(alloc, first)?)?;
-    for next in rest {
-        formals.push(formal(alloc, kid(next, 1))?)?;
+struct FormalPiece;
+
+impl Piece for FormalPiece {
+    ghost use Rattle.sv_build.specs.Items.{formal_of};
+
+    type Value = Formal;
+
+    ghost value = { formal_of };
+
+    fn piece(alloc: Global, tree: &Tree) -> Result<Formal, AllocError> {
+        let text = port_text(alloc, kid(tree, 1))?;
+        Ok(Formal {
+            direction: formal_direction(kid(tree, 0)),
+            text,
+        })
     }
-    Ok(formals)
 }
 
 /// `(formals)`, where it is written.
@@ -61,7 +54,7 @@ fn formal_list(alloc: Global, tree: &Tree) -> Result<Option<FormalList>, AllocEr
     if is_blank(tree) {
         return Ok(None);
     }
-    let formals = formals(alloc, kids(kid(tree, 1)))?;
+    let formals = pieces::<FormalPiece>(alloc, kids(kid(tree, 1)))?;
     Ok(Some(FormalList {
         opening: token(tree, 0),
         formals,
@@ -143,9 +136,11 @@ fn function_name(alloc: Global, tree: &Tree) -> Result<FunctionName, AllocError>
 fn function_with(alloc: Global, named: FunctionName, tree: &Tree) -> Result<Function, AllocError>
     ensures { IfOk result (λ f. f ≡ means.function_with named tree.now) }
 {
-    let formals = formal_list(alloc, kid(tree, 3))?;
-    let items = body(alloc, kid(tree, 5))?;
+    let formals = formal_list(alloc, kid(tree, 3));
+    let inside = both(formals, body(alloc, kid(tree, 5)));
+    let (named, inside) = both(Ok(named), inside)?;
     let FunctionName { of, name, unpacked } = named;
+    let (formals, items) = inside;
     Ok(Function {
         keyword: token(tree, 0),
         lifetime: lifetime(kid(tree, 1)),
@@ -172,8 +167,8 @@ pub fn function(alloc: Global, tree: &Tree) -> Result<Function, AllocError>
 pub fn task(alloc: Global, tree: &Tree) -> Result<Task, AllocError>
     ensures { IfOk result (λ t. t ≡ means.task_of tree.now) }
 {
-    let formals = formal_list(alloc, kid(tree, 3))?;
-    let items = body(alloc, kid(tree, 5))?;
+    let formals = formal_list(alloc, kid(tree, 3));
+    let (formals, items) = both(formals, body(alloc, kid(tree, 5)))?;
     Ok(Task {
         keyword: token(tree, 0),
         lifetime: lifetime(kid(tree, 1)),

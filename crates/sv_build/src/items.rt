@@ -14,14 +14,15 @@ use crate::variables::{VariableText, data, data_with, declared, variables};
 use crate::words::label;
 use expr_build::{
     NESTING_LIMIT, alone, bare_text, declarators_behind, expression, expression_list, kid, kids,
-    kids_from, named_dims_text, named_text, row, scoped, token,
+    kids_from, named_dims_text, named_text, row, scoped, token, with_last,
 };
 use ll_engine::Tree;
+use pairs::both;
 use std::alloc::{AllocError, Global};
 use sv_source::{Boxed, Items};
 use sv_tree::{
-    CaseGenerateItem, CaseGenerateItems, Expr, GenerateBlock, GenerateElse, GenerateLoop,
-    Instantiation, Item, ModuleItems, TypeText,
+    CaseGenerateItem, CaseGenerateItems, GenerateBlock, GenerateElse, GenerateLoop, Instantiation,
+    Item, ModuleItems, TypeText,
 };
 
 /// Variables of a named type.
@@ -67,11 +68,11 @@ fn two_names_item(alloc: Global, of: u32, name: u32, tree: &Tree) -> Result<Item
 fn bound_instances(alloc: Global, of: u32, tree: &Tree) -> Result<Item, AllocError>
     ensures { IfOk result (λ i. i ≡ means.bound_instances of tree.now) }
 {
-    let parameters = Some(binds(alloc, tree)?);
-    let instances = instances(alloc, kids(kid(tree, 4)))?;
+    let instances = instances(alloc, kids(kid(tree, 4)));
+    let (parameters, instances) = both(binds(alloc, tree), instances)?;
     Ok(Item::Instances(Instantiation {
         of,
-        parameters,
+        parameters: Some(parameters),
         instances,
         semicolon: token(tree, 5),
     }))
@@ -103,7 +104,8 @@ fn items_inside(alloc: Global, depth: u32, trees: &[Tree]) -> Result<ModuleItems
 {
     let mut items = Items::new(alloc);
     for tree in trees {
-        items.push(item(alloc, depth, tree)?)?;
+        let (before, last) = both(Ok(items), item(alloc, depth, tree))?;
+        items = with_last(before, last)?;
     }
     Ok(items)
 }
@@ -157,16 +159,14 @@ fn generate_else(
     Ok(Some(Boxed::new(alloc, GenerateElse { keyword, body })?))
 }
 
-/// What stands between the parentheses of a generate loop, by its first value and its condition.
-fn generate_loop_with(
-    alloc: Global,
-    first: Expr,
-    test: Expr,
-    tree: &Tree,
-) -> Result<GenerateLoop, AllocError>
-    ensures { IfOk result (λ g. g ≡ means.generate_loop_with first test tree.now) }
+/// What stands between the parentheses of a generate loop.
+fn generate_loop(alloc: Global, tree: &Tree) -> Result<GenerateLoop, AllocError>
+    ensures { IfOk result (λ g. g ≡ means.generate_loop_of tree.now) }
 {
-    let step = loop_step(alloc, kid(tree, 9))?;
+    let first = expression(alloc, kid(tree, 5));
+    let test = expression(alloc, kid(tree, 7));
+    let (first, turn) = both(first, both(test, loop_step(alloc, kid(tree, 9))))?;
+    let (test, step) = turn;
     Ok(GenerateLoop {
         genvar: optional_token(kid(tree, 2)),
         name: token(tree, 3),
@@ -179,22 +179,13 @@ fn generate_loop_with(
     })
 }
 
-/// What stands between the parentheses of a generate loop.
-fn generate_loop(alloc: Global, tree: &Tree) -> Result<GenerateLoop, AllocError>
-    ensures { IfOk result (λ g. g ≡ means.generate_loop_of tree.now) }
-{
-    let first = expression(alloc, kid(tree, 5))?;
-    let test = expression(alloc, kid(tree, 7))?;
-    generate_loop_with(alloc, first, test, tree)
-}
-
 /// A generate loop.
 #[cycle(item)]
 fn loop_generate(alloc: Global, depth: u32, tree: &Tree) -> Result<Item, AllocError>
     ensures { IfOk result (λ i. i ≡ means.loop_generate (means.item_within depth) tree.now) }
 {
-    let control = generate_loop(alloc, tree)?;
-    let body = boxed_block(alloc, depth, kid(tree, 11))?;
+    let control = generate_loop(alloc, tree);
+    let (control, body) = both(control, boxed_block(alloc, depth, kid(tree, 11)))?;
     Ok(Item::LoopGenerate {
         keyword: token(tree, 0),
         opening: token(tree, 1),
@@ -204,30 +195,23 @@ fn loop_generate(alloc: Global, depth: u32, tree: &Tree) -> Result<Item, AllocEr
     })
 }
 
-/// A conditional generate, by its condition.
-#[cycle(item)]
-fn if_generate_with(alloc: Global, depth: u32, test: Expr, tree: &Tree) -> Result<Item, AllocError>
-    ensures { IfOk result (λ i. i ≡ means.if_generate_with (means.item_within depth) test tree.now) }
-{
-    let body = boxed_block(alloc, depth, kid(tree, 4))?;
-    let other = generate_else(alloc, depth, kids_from(tree, 5))?;
-    Ok(Item::IfGenerate {
-        keyword: token(tree, 0),
-        opening: token(tree, 1),
-        test,
-        closing: token(tree, 3),
-        body,
-        other,
-    })
-}
-
 /// A conditional generate.
 #[cycle(item)]
 fn if_generate(alloc: Global, depth: u32, tree: &Tree) -> Result<Item, AllocError>
     ensures { IfOk result (λ i. i ≡ means.if_generate (means.item_within depth) tree.now) }
 {
-    let test = expression(alloc, kid(tree, 2))?;
-    if_generate_with(alloc, depth, test, tree)
+    let test = expression(alloc, kid(tree, 2));
+    let body = boxed_block(alloc, depth, kid(tree, 4));
+    let bodies = both(body, generate_else(alloc, depth, kids_from(tree, 5)));
+    let (test, bodies) = both(test, bodies)?;
+    Ok(Item::IfGenerate {
+        keyword: token(tree, 0),
+        opening: token(tree, 1),
+        test,
+        closing: token(tree, 3),
+        body: bodies.0,
+        other: bodies.1,
+    })
 }
 
 /// An item of a generate `case`, by its values.
@@ -235,8 +219,8 @@ fn if_generate(alloc: Global, depth: u32, tree: &Tree) -> Result<Item, AllocErro
 fn values_generate(alloc: Global, depth: u32, tree: &Tree) -> Result<CaseGenerateItem, AllocError>
     ensures { IfOk result (λ i. i ≡ means.values_generate (means.item_within depth) tree.now) }
 {
-    let values = expression_list(alloc, kid(tree, 0))?;
-    let body = generate_block(alloc, depth, kid(tree, 2))?;
+    let values = expression_list(alloc, kid(tree, 0));
+    let (values, body) = both(values, generate_block(alloc, depth, kid(tree, 2)))?;
     Ok(CaseGenerateItem::Values {
         values,
         colon: token(tree, 1),
@@ -269,7 +253,8 @@ fn add_values(
 {
     let mut items = first;
     for tree in trees {
-        items.push(values_generate(alloc, depth, tree)?)?;
+        let (before, last) = both(Ok(items), values_generate(alloc, depth, tree))?;
+        items = with_last(before, last)?;
     }
     Ok(items)
 }
@@ -284,12 +269,11 @@ fn add_default(
 ) -> Result<CaseGenerateItems, AllocError>
     ensures { IfOk result (λ is. is ≡ first ++ means.from_default_generate (means.item_within depth) trees.now) }
 {
-    let mut items = first;
     let [tree, rest @ ..] = trees else {
-        return Ok(items);
+        return Ok(first);
     };
-    items.push(default_generate(alloc, depth, tree)?)?;
-    add_values(alloc, depth, items, rest)
+    let (before, last) = both(Ok(first), default_generate(alloc, depth, tree))?;
+    add_values(alloc, depth, with_last(before, last)?, rest)
 }
 
 /// The items of a generate `case`.
@@ -301,13 +285,13 @@ fn case_generate_items(
 ) -> Result<CaseGenerateItems, AllocError>
     ensures { IfOk result (λ is. is ≡ means.case_generate_items_of (means.item_within depth) tree.now) }
 {
-    let mut items = Items::new(alloc);
     if row(tree) == rows::GENERATE_ITEMS_FIRST {
-        items.push(values_generate(alloc, depth, kid(tree, 0))?)?;
+        let first = values_generate(alloc, depth, kid(tree, 0))?;
+        let items = with_last(Items::new(alloc), first)?;
         let items = add_values(alloc, depth, items, kids(kid(tree, 1)))?;
         return add_default(alloc, depth, items, kids(kid(tree, 2)));
     }
-    add_default(alloc, depth, items, kids(tree))
+    add_default(alloc, depth, Items::new(alloc), kids(tree))
 }
 
 /// A generate `case`.
@@ -315,8 +299,8 @@ fn case_generate_items(
 fn case_generate(alloc: Global, depth: u32, tree: &Tree) -> Result<Item, AllocError>
     ensures { IfOk result (λ i. i ≡ means.case_generate (means.item_within depth) tree.now) }
 {
-    let value = expression(alloc, kid(tree, 2))?;
-    let items = case_generate_items(alloc, depth, kid(tree, 4))?;
+    let value = expression(alloc, kid(tree, 2));
+    let (value, items) = both(value, case_generate_items(alloc, depth, kid(tree, 4)))?;
     Ok(Item::CaseGenerate {
         keyword: token(tree, 0),
         opening: token(tree, 1),

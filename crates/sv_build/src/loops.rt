@@ -9,6 +9,7 @@ use expr_build::{
     expression, expression_list, is_blank, keyword_text, kid, named_text, qualified, row, token,
 };
 use ll_engine::Tree;
+use pairs::both;
 use std::alloc::{AllocError, Global};
 use sv_tree::{Expr, LoopStart, LoopStep, QualifiedName, Stmt, TypeText};
 
@@ -33,7 +34,7 @@ fn loop_start_with(
 ) -> Result<LoopStart, AllocError>
     ensures { IfOk result (λ s. s ≡ means.loop_start of name equals value.now) }
 {
-    let value = expression(alloc, value)?;
+    let (of, value) = both(Ok(of), expression(alloc, value))?;
     Ok(LoopStart {
         of,
         name,
@@ -99,26 +100,15 @@ pub fn loop_step(alloc: Global, tree: &Tree) -> Result<LoopStep, AllocError>
     }
 }
 
-/// What stands between the parentheses of a loop, by its variable and its condition.
-fn loop_control_with(
-    alloc: Global,
-    first: LoopStart,
-    test: Expr,
-    tree: &Tree,
-) -> Result<LoopControl, AllocError>
-    ensures { IfOk result (λ c. c ≡ means.loop_control_with first test tree.now) }
-{
-    let step = loop_step(alloc, kid(tree, 6))?;
-    Ok(LoopControl { first, test, step })
-}
-
 /// What stands between the parentheses of a loop.
 pub fn loop_control(alloc: Global, tree: &Tree) -> Result<LoopControl, AllocError>
     ensures { IfOk result (λ c. c ≡ means.loop_control_of tree.now) }
 {
-    let first = loop_start(alloc, kid(tree, 2))?;
-    let test = expression(alloc, kid(tree, 4))?;
-    loop_control_with(alloc, first, test, tree)
+    let first = loop_start(alloc, kid(tree, 2));
+    let test = expression(alloc, kid(tree, 4));
+    let (first, turn) = both(first, both(test, loop_step(alloc, kid(tree, 6))))?;
+    let (test, step) = turn;
+    Ok(LoopControl { first, test, step })
 }
 
 /// An expression, where it is written.

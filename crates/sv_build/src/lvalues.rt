@@ -1,16 +1,17 @@
 //! What is assigned, and assignments. In each function `depth` is the most nesting of the concatenations inside.
 
-ghost use Rattle.std.specs.Prelude.{◌≡◌, IfOk};
-ghost use Rattle.expr_build.specs.Nodes.{separated};
+ghost use Rattle.std.specs.Prelude.{◌≡◌, ◌∷◌, IfOk};
+ghost use Rattle.expr_build.specs.Nodes.{behind_marks, separated};
 ghost use Rattle.sv_build.specs.Statements as means;
 
 use crate::rows;
 use crate::words::{assignment_operator, step_operator};
 use expr_build::{
     NESTING_LIMIT, expression, kid, kids, row, selects_alone, slice_size_alone, stream_operator,
-    token,
+    token, with_last,
 };
 use ll_engine::Tree;
+use pairs::both;
 use std::alloc::{AllocError, Global};
 use sv_source::Items;
 use sv_tree::{Lvalue, Lvalues, Stmt};
@@ -39,13 +40,29 @@ fn lvalue_inside(alloc: Global, depth: u32, tree: &Tree) -> Result<Lvalue, Alloc
 fn lvalues(alloc: Global, depth: u32, trees: &[Tree]) -> Result<Lvalues, AllocError>
     ensures { IfOk result (λ ls. ls ≡ separated (means.lvalue_with (means.concatenated_within depth)) trees.now) }
 {
-    let mut lvalues = Items::new(alloc);
-    let [first, rest @ ..] = trees else {
-        return Ok(lvalues);
-    };
-    lvalues.push(lvalue_inside(alloc, depth, first)?)?;
+    match trees {
+        [] => Ok(Items::new(alloc)),
+        [first, rest @ ..] => {
+            let first = lvalue_inside(alloc, depth, first)?;
+            lvalues_behind(alloc, depth, first, rest)
+        }
+    }
+}
+
+/// A first target and those behind commas.
+#[cycle(lvalue)]
+fn lvalues_behind(
+    alloc: Global,
+    depth: u32,
+    first: Lvalue,
+    rest: &[Tree],
+) -> Result<Lvalues, AllocError>
+    ensures { IfOk result (λ ls. ls ≡ first ∷ behind_marks (means.lvalue_with (means.concatenated_within depth)) rest.now) }
+{
+    let mut lvalues = with_last(Items::new(alloc), first)?;
     for next in rest {
-        lvalues.push(lvalue_inside(alloc, depth, kid(next, 1))?)?;
+        let (before, last) = both(Ok(lvalues), lvalue_inside(alloc, depth, kid(next, 1)))?;
+        lvalues = with_last(before, last)?;
     }
     Ok(lvalues)
 }
@@ -56,8 +73,8 @@ fn lvalue_stream(alloc: Global, depth: u32, opening: u32, tree: &Tree) -> Result
     ensures { IfOk result (λ l. l ≡ means.lvalue_stream_of (means.concatenated_within depth) opening tree.now) }
 {
     let operator = kid(tree, 0);
-    let size = slice_size_alone(alloc, kid(tree, 1))?;
-    let targets = lvalues(alloc, depth, kids(kid(tree, 3)))?;
+    let size = slice_size_alone(alloc, kid(tree, 1));
+    let (size, targets) = both(size, lvalues(alloc, depth, kids(kid(tree, 3))))?;
     Ok(Lvalue::Stream {
         opening,
         operator: stream_operator(row(operator)),
@@ -124,7 +141,7 @@ fn assigned(
 ) -> Result<Stmt, AllocError>
     ensures { IfOk result (λ s. s ≡ means.assigned target operator.now value.now semicolon) }
 {
-    let value = expression(alloc, value)?;
+    let (target, value) = both(Ok(target), expression(alloc, value))?;
     Ok(Stmt::Assign {
         target,
         operator: assignment_operator(row(operator)),

@@ -1,22 +1,20 @@
 //! Headers of modules and interfaces, and what ports and formal arguments are.
 
-ghost use Rattle.std.specs.Prelude.{◌≡◌, map, IfOk};
-ghost use Rattle.expr_build.specs.Nodes.{separated};
+ghost use Rattle.std.specs.Prelude.{◌≡◌, IfOk};
 ghost use Rattle.sv_build.specs.Declarations as means;
 
 use crate::declarations::{import, parameter_body};
 use crate::rows;
 use crate::words::{direction, lifetime, optional_net, optional_parameter_keyword};
 use expr_build::{
-    alone, dimensioned_text, dims, is_blank, keyword_text, kid, kids, named_text, row, scoped,
-    signed_text, token,
+    Piece, alone, dimensioned_text, dims, each, is_blank, keyword_text, kid, kids, named_text,
+    pieces, row, scoped, signed_text, token,
 };
 use ll_engine::Tree;
+use pairs::both;
 use std::alloc::{AllocError, Global};
-use sv_source::Items;
 use sv_tree::{
-    Header, Imports, ParameterPort, ParameterPortList, ParameterPorts, Port, PortList, PortText,
-    Ports, TypeText,
+    Header, Import, ParameterPort, ParameterPortList, Port, PortList, PortText, TypeText,
 };
 
 /// A port of this type.
@@ -28,7 +26,7 @@ fn typed_port(
 ) -> Result<PortText, AllocError>
     ensures { IfOk result (λ p. p ≡ means.typed_port of name dimensions.now) }
 {
-    let unpacked = dims(alloc, dimensions)?;
+    let (of, unpacked) = both(Ok(of), dims(alloc, dimensions))?;
     Ok(PortText::Typed { of, name, unpacked })
 }
 
@@ -114,19 +112,19 @@ fn port(alloc: Global, tree: &Tree) -> Result<Port, AllocError>
     }
 }
 
-/// The ports of a header.
-fn ports(alloc: Global, trees: &[Tree]) -> Result<Ports, AllocError>
-    ensures { IfOk result (λ ps. ps ≡ separated means.port_of trees.now) }
-{
-    let mut ports = Items::new(alloc);
-    let [first, rest @ ..] = trees else {
-        return Ok(ports);
-    };
-    ports.push(port(alloc, first)?)?;
-    for next in rest {
-        ports.push(port(alloc, kid(next, 1))?)?;
+/// Ports of a header.
+struct PortPiece;
+
+impl Piece for PortPiece {
+    ghost use Rattle.sv_build.specs.Declarations.{port_of};
+
+    type Value = Port;
+
+    ghost value = { port_of };
+
+    fn piece(alloc: Global, tree: &Tree) -> Result<Port, AllocError> {
+        port(alloc, tree)
     }
-    Ok(ports)
 }
 
 /// `(ports)`, where it is written.
@@ -136,7 +134,7 @@ fn port_list(alloc: Global, tree: &Tree) -> Result<Option<PortList>, AllocError>
     if is_blank(tree) {
         return Ok(None);
     }
-    let ports = ports(alloc, kids(kid(tree, 1)))?;
+    let ports = pieces::<PortPiece>(alloc, kids(kid(tree, 1)))?;
     Ok(Some(PortList {
         opening: token(tree, 0),
         ports,
@@ -156,19 +154,19 @@ fn parameter_port(alloc: Global, tree: &Tree) -> Result<ParameterPort, AllocErro
     })
 }
 
-/// The parameters of a header.
-fn parameter_ports(alloc: Global, trees: &[Tree]) -> Result<ParameterPorts, AllocError>
-    ensures { IfOk result (λ ps. ps ≡ separated means.parameter_port_of trees.now) }
-{
-    let mut ports = Items::new(alloc);
-    let [first, rest @ ..] = trees else {
-        return Ok(ports);
-    };
-    ports.push(parameter_port(alloc, first)?)?;
-    for next in rest {
-        ports.push(parameter_port(alloc, kid(next, 1))?)?;
+/// Parameters of a header.
+struct ParameterPortPiece;
+
+impl Piece for ParameterPortPiece {
+    ghost use Rattle.sv_build.specs.Declarations.{parameter_port_of};
+
+    type Value = ParameterPort;
+
+    ghost value = { parameter_port_of };
+
+    fn piece(alloc: Global, tree: &Tree) -> Result<ParameterPort, AllocError> {
+        parameter_port(alloc, tree)
     }
-    Ok(ports)
 }
 
 /// `#(parameters)`, where it is written.
@@ -178,7 +176,7 @@ fn parameter_list(alloc: Global, tree: &Tree) -> Result<Option<ParameterPortList
     if is_blank(tree) {
         return Ok(None);
     }
-    let parameters = parameter_ports(alloc, kids(kid(tree, 2)))?;
+    let parameters = pieces::<ParameterPortPiece>(alloc, kids(kid(tree, 2)))?;
     Ok(Some(ParameterPortList {
         hash: token(tree, 0),
         opening: token(tree, 1),
@@ -187,24 +185,30 @@ fn parameter_list(alloc: Global, tree: &Tree) -> Result<Option<ParameterPortList
     }))
 }
 
-/// The imports of a header.
-fn header_imports(alloc: Global, trees: &[Tree]) -> Result<Imports, AllocError>
-    ensures { IfOk result (λ is. is ≡ map means.import_of trees.now) }
-{
-    let mut imports = Items::new(alloc);
-    for tree in trees {
-        imports.push(import(alloc, tree)?)?;
+/// Imports.
+struct ImportPiece;
+
+impl Piece for ImportPiece {
+    ghost use Rattle.sv_build.specs.Declarations.{import_of};
+
+    type Value = Import;
+
+    ghost value = { import_of };
+
+    fn piece(alloc: Global, tree: &Tree) -> Result<Import, AllocError> {
+        import(alloc, tree)
     }
-    Ok(imports)
 }
 
 /// A header.
 pub fn header(alloc: Global, tree: &Tree) -> Result<Header, AllocError>
     ensures { IfOk result (λ h. h ≡ means.header_of tree.now) }
 {
-    let imports = header_imports(alloc, kids(kid(tree, 2)))?;
-    let parameters = parameter_list(alloc, kid(tree, 3))?;
-    let ports = port_list(alloc, kid(tree, 4))?;
+    let imports = each::<ImportPiece>(alloc, kids(kid(tree, 2)));
+    let parameters = parameter_list(alloc, kid(tree, 3));
+    let lists = both(parameters, port_list(alloc, kid(tree, 4)));
+    let (imports, lists) = both(imports, lists)?;
+    let (parameters, ports) = lists;
     Ok(Header {
         lifetime: lifetime(kid(tree, 0)),
         name: token(tree, 1),

@@ -1,55 +1,44 @@
 //! Continuous assignments and processes.
 
 ghost use Rattle.std.specs.Prelude.{◌≡◌, IfOk};
-ghost use Rattle.expr_build.specs.Nodes.{separated};
 ghost use Rattle.sv_build.specs.Items as means;
 
 use crate::lvalues::lvalue;
 use crate::rows;
 use crate::statements::statement;
 use crate::words::edge_keyword;
-use expr_build::{expression, is_blank, kid, kids, row, token};
+use expr_build::{Piece, expression, is_blank, kid, kids, pieces, row, token};
 use ll_engine::Tree;
+use pairs::both;
 use std::alloc::{AllocError, Global};
-use sv_source::Items;
-use sv_tree::{
-    Always, ContinuousAssign, EventControl, EventEdge, EventEdges, EventMember, NetAssignment,
-    NetAssignments,
-};
+use sv_tree::{Always, ContinuousAssign, EventControl, EventEdge, EventMember, NetAssignment};
 
-/// An assignment of a continuous assignment.
-fn net_assignment(alloc: Global, tree: &Tree) -> Result<NetAssignment, AllocError>
-    ensures { IfOk result (λ a. a ≡ means.net_assignment_of tree.now) }
-{
-    let target = lvalue(alloc, kid(tree, 0))?;
-    let value = expression(alloc, kid(tree, 2))?;
-    Ok(NetAssignment {
-        target,
-        equals: token(tree, 1),
-        value,
-    })
-}
+/// Assignments of a continuous assignment.
+struct NetAssignmentPiece;
 
-/// The assignments behind one `assign`.
-fn net_assignments(alloc: Global, trees: &[Tree]) -> Result<NetAssignments, AllocError>
-    ensures { IfOk result (λ ns. ns ≡ separated means.net_assignment_of trees.now) }
-{
-    let mut assignments = Items::new(alloc);
-    let [first, rest @ ..] = trees else {
-        return Ok(assignments);
-    };
-    assignments.push(net_assignment(alloc, first)?)?;
-    for next in rest {
-        assignments.push(net_assignment(alloc, kid(next, 1))?)?;
+impl Piece for NetAssignmentPiece {
+    ghost use Rattle.sv_build.specs.Items.{net_assignment_of};
+
+    type Value = NetAssignment;
+
+    ghost value = { net_assignment_of };
+
+    fn piece(alloc: Global, tree: &Tree) -> Result<NetAssignment, AllocError> {
+        let target = lvalue(alloc, kid(tree, 0));
+        let (target, value) = both(target, expression(alloc, kid(tree, 2)))?;
+        Ok(NetAssignment {
+            target,
+            equals: token(tree, 1),
+            value,
+        })
     }
-    Ok(assignments)
 }
 
 /// Continuous assignments.
 pub fn assign(alloc: Global, tree: &Tree) -> Result<ContinuousAssign, AllocError>
     ensures { IfOk result (λ a. a ≡ means.assign_of tree.now) }
 {
-    let assignments = net_assignments(alloc, kids(kid(tree, 1)))?;
+    let assignments = pieces::<NetAssignmentPiece>(alloc, kids(kid(tree, 1)))?;
     Ok(ContinuousAssign {
         keyword: token(tree, 0),
         assignments,
@@ -70,30 +59,23 @@ fn event_member(tree: &Tree) -> Option<EventMember>
     })
 }
 
-/// An edge.
-fn edge(tree: &Tree) -> EventEdge
-    ensures { result ≡ means.edge_of tree.now }
-{
-    EventEdge {
-        keyword: edge_keyword(kid(tree, 0)),
-        name: token(tree, 1),
-        member: event_member(kid(tree, 2)),
-    }
-}
-
 /// Edges.
-fn edges(alloc: Global, trees: &[Tree]) -> Result<EventEdges, AllocError>
-    ensures { IfOk result (λ es. es ≡ separated means.edge_of trees.now) }
-{
-    let mut edges = Items::new(alloc);
-    let [first, rest @ ..] = trees else {
-        return Ok(edges);
-    };
-    edges.push(edge(first))?;
-    for next in rest {
-        edges.push(edge(kid(next, 1)))?;
+struct EdgePiece;
+
+impl Piece for EdgePiece {
+    ghost use Rattle.sv_build.specs.Items.{edge_of};
+
+    type Value = EventEdge;
+
+    ghost value = { edge_of };
+
+    fn piece(_alloc: Global, tree: &Tree) -> Result<EventEdge, AllocError> {
+        Ok(EventEdge {
+            keyword: edge_keyword(kid(tree, 0)),
+            name: token(tree, 1),
+            member: event_member(kid(tree, 2)),
+        })
     }
-    Ok(edges)
 }
 
 /// What an `always` waits for, behind its `(`.
@@ -111,7 +93,7 @@ fn parenthesized_event(alloc: Global, opening: u32, tree: &Tree) -> Result<Event
             mark: token(tree, 0),
         }),
         _ => {
-            let edges = edges(alloc, kids(kid(tree, 0)))?;
+            let edges = pieces::<EdgePiece>(alloc, kids(kid(tree, 0)))?;
             Ok(EventControl::Edges {
                 opening,
                 edges,
@@ -144,8 +126,8 @@ fn event(alloc: Global, tree: &Tree) -> Result<EventControl, AllocError>
 fn always_ff(alloc: Global, tree: &Tree) -> Result<Always, AllocError>
     ensures { IfOk result (λ a. a ≡ means.always_ff_of tree.now) }
 {
-    let edges = edges(alloc, kids(kid(tree, 3)))?;
-    let body = statement(alloc, kid(tree, 5))?;
+    let edges = pieces::<EdgePiece>(alloc, kids(kid(tree, 3)));
+    let (edges, body) = both(edges, statement(alloc, kid(tree, 5)))?;
     Ok(Always::Ff {
         keyword: token(tree, 0),
         event: token(tree, 1),
@@ -160,8 +142,8 @@ fn always_ff(alloc: Global, tree: &Tree) -> Result<Always, AllocError>
 fn always_plain(alloc: Global, tree: &Tree) -> Result<Always, AllocError>
     ensures { IfOk result (λ a. a ≡ means.always_plain_of tree.now) }
 {
-    let control = event(alloc, kid(tree, 2))?;
-    let body = statement(alloc, kid(tree, 3))?;
+    let control = event(alloc, kid(tree, 2));
+    let (control, body) = both(control, statement(alloc, kid(tree, 3)))?;
     Ok(Always::Plain {
         keyword: token(tree, 0),
         event: token(tree, 1),

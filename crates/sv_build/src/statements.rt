@@ -1,6 +1,8 @@
 //! Statements and items of blocks. In each function `depth` is the most nesting of those inside.
 
 ghost use Rattle.std.specs.Prelude.{◌≡◌, ◌++◌, map, IfOk};
+ghost use Rattle.expr_build.specs.Nodes.{kid as kid_of};
+ghost use Rattle.expr_build.specs.Expressions.{expr_of};
 ghost use Rattle.sv_build.specs.Statements as means;
 
 use crate::declarations::parameters;
@@ -11,13 +13,14 @@ use crate::variables::{VariableText, variable_text, variables};
 use crate::words::{case_keyword, label, promise};
 use expr_build::{
     NESTING_LIMIT, aggregate_text, alone, declarators, expression, expression_list, is_blank,
-    keyword_text, kid, kids, kids_from, named_text, row, scoped, selects_alone, token,
+    keyword_text, kid, kids, kids_from, named_text, row, scoped, selects_alone, token, with_last,
 };
 use ll_engine::Tree;
+use pairs::both;
 use std::alloc::{AllocError, Global};
 use sv_source::{Boxed, Items};
 use sv_tree::{
-    BlockItem, BlockItems, CaseItem, CaseItems, Else, Expr, QualifiedName, Stmt, UniquePriority,
+    BlockItem, BlockItems, CaseItem, CaseItems, Else, QualifiedName, Stmt, UniquePriority,
 };
 
 /// A statement in its box.
@@ -42,27 +45,28 @@ fn otherwise(alloc: Global, depth: u32, trees: &[Tree]) -> Result<Option<Boxed<E
     Ok(Some(Boxed::new(alloc, Else { keyword, body })?))
 }
 
-/// An `if`, by its condition.
+/// An `if`.
 #[cycle(statement)]
-fn if_with(
+fn if_statement(
     alloc: Global,
     depth: u32,
     promise: Option<UniquePriority>,
-    test: Expr,
     tree: &Tree,
 ) -> Result<Stmt, AllocError>
-    ensures { IfOk result (λ s. s ≡ means.if_with (means.inside depth).stmt promise test tree.now) }
+    ensures { IfOk result (λ s. s ≡ means.if_with (means.inside depth).stmt promise (expr_of (kid_of 2 tree.now)) tree.now) }
 {
-    let body = boxed(alloc, depth, kid(tree, 4))?;
-    let other = otherwise(alloc, depth, kids_from(tree, 5))?;
+    let test = expression(alloc, kid(tree, 2));
+    let body = boxed(alloc, depth, kid(tree, 4));
+    let bodies = both(body, otherwise(alloc, depth, kids_from(tree, 5)));
+    let (test, bodies) = both(test, bodies)?;
     Ok(Stmt::If {
         promise,
         keyword: token(tree, 0),
         opening: token(tree, 1),
         test,
         closing: token(tree, 3),
-        body,
-        other,
+        body: bodies.0,
+        other: bodies.1,
     })
 }
 
@@ -71,8 +75,8 @@ fn if_with(
 fn values_item(alloc: Global, depth: u32, tree: &Tree) -> Result<CaseItem, AllocError>
     ensures { IfOk result (λ i. i ≡ means.values_item (means.inside depth).stmt tree.now) }
 {
-    let values = expression_list(alloc, kid(tree, 0))?;
-    let body = stmt(alloc, depth, kid(tree, 2))?;
+    let values = expression_list(alloc, kid(tree, 0));
+    let (values, body) = both(values, stmt(alloc, depth, kid(tree, 2)))?;
     Ok(CaseItem::Values {
         values,
         colon: token(tree, 1),
@@ -115,7 +119,8 @@ fn add_values(
 {
     let mut items = first;
     for tree in trees {
-        items.push(values_item(alloc, depth, tree)?)?;
+        let (before, last) = both(Ok(items), values_item(alloc, depth, tree))?;
+        items = with_last(before, last)?;
     }
     Ok(items)
 }
@@ -130,12 +135,11 @@ fn add_default(
 ) -> Result<CaseItems, AllocError>
     ensures { IfOk result (λ is. is ≡ first ++ means.from_default (means.inside depth).stmt trees.now) }
 {
-    let mut items = first;
     let [tree, rest @ ..] = trees else {
-        return Ok(items);
+        return Ok(first);
     };
-    items.push(default_item(alloc, depth, tree)?)?;
-    add_values(alloc, depth, items, rest)
+    let (before, last) = both(Ok(first), default_item(alloc, depth, tree))?;
+    add_values(alloc, depth, with_last(before, last)?, rest)
 }
 
 /// The items of a `case`.
@@ -143,27 +147,27 @@ fn add_default(
 fn case_items(alloc: Global, depth: u32, tree: &Tree) -> Result<CaseItems, AllocError>
     ensures { IfOk result (λ is. is ≡ means.case_items_of (means.inside depth).stmt tree.now) }
 {
-    let mut items = Items::new(alloc);
     if row(tree) == rows::ITEMS_FIRST {
-        items.push(values_item(alloc, depth, kid(tree, 0))?)?;
+        let first = values_item(alloc, depth, kid(tree, 0))?;
+        let items = with_last(Items::new(alloc), first)?;
         let items = add_values(alloc, depth, items, kids(kid(tree, 1)))?;
         return add_default(alloc, depth, items, kids(kid(tree, 2)));
     }
-    add_default(alloc, depth, items, kids(tree))
+    add_default(alloc, depth, Items::new(alloc), kids(tree))
 }
 
-/// A `case`, by its value.
+/// A `case`.
 #[cycle(statement)]
-fn case_with(
+fn case_statement(
     alloc: Global,
     depth: u32,
     promise: Option<UniquePriority>,
-    value: Expr,
     tree: &Tree,
 ) -> Result<Stmt, AllocError>
-    ensures { IfOk result (λ s. s ≡ means.case_with (means.inside depth).stmt promise value tree.now) }
+    ensures { IfOk result (λ s. s ≡ means.case_with (means.inside depth).stmt promise (expr_of (kid_of 2 tree.now)) tree.now) }
 {
-    let items = case_items(alloc, depth, kid(tree, 4))?;
+    let value = expression(alloc, kid(tree, 2));
+    let (value, items) = both(value, case_items(alloc, depth, kid(tree, 4)))?;
     Ok(Stmt::Case {
         promise,
         keyword: case_keyword(kid(tree, 0)),
@@ -185,10 +189,9 @@ fn conditional(
 ) -> Result<Stmt, AllocError>
     ensures { IfOk result (λ s. s ≡ means.conditional_of (means.inside depth).stmt promise tree.now) }
 {
-    let test = expression(alloc, kid(tree, 2))?;
     match row(tree) {
-        rows::IF => if_with(alloc, depth, promise, test, tree),
-        _ => case_with(alloc, depth, promise, test, tree),
+        rows::IF => if_statement(alloc, depth, promise, tree),
+        _ => case_statement(alloc, depth, promise, tree),
     }
 }
 
@@ -215,8 +218,8 @@ fn for_with(control: LoopControl, body: Boxed<Stmt>, tree: &Tree) -> Stmt
 fn for_loop(alloc: Global, depth: u32, tree: &Tree) -> Result<Stmt, AllocError>
     ensures { IfOk result (λ s. s ≡ means.for_of (means.inside depth).stmt tree.now) }
 {
-    let control = loop_control(alloc, tree)?;
-    let body = boxed(alloc, depth, kid(tree, 8))?;
+    let control = loop_control(alloc, tree);
+    let (control, body) = both(control, boxed(alloc, depth, kid(tree, 8)))?;
     Ok(for_with(control, body, tree))
 }
 
@@ -227,7 +230,8 @@ fn block_items(alloc: Global, depth: u32, trees: &[Tree]) -> Result<BlockItems, 
 {
     let mut items = Items::new(alloc);
     for tree in trees {
-        items.push(block_item(alloc, depth, tree)?)?;
+        let (before, last) = both(Ok(items), block_item(alloc, depth, tree))?;
+        items = with_last(before, last)?;
     }
     Ok(items)
 }
@@ -386,8 +390,8 @@ fn selected_item(
             Ok(BlockItem::Statement(stmt))
         }
         _ => {
-            let selects = selects_alone(alloc, path)?;
-            let declarators = declarators(alloc, kid(tree, 0))?;
+            let selects = selects_alone(alloc, path);
+            let (selects, declarators) = both(selects, declarators(alloc, kid(tree, 0)))?;
             Ok(BlockItem::NamedVariables {
                 of: name,
                 selects,

@@ -10,6 +10,7 @@ use expr_build::{
     is_blank, keyword_text, kid, kids_from, named_text, no_type, row, scoped, signed_text, token,
 };
 use ll_engine::Tree;
+use pairs::both;
 use std::alloc::{AllocError, Global};
 use sv_tree::{DataDeclaration, Declarator, Declarators, NetOrVariable, TypeText};
 
@@ -26,7 +27,7 @@ pub struct VariableText {
 pub fn variables(alloc: Global, of: TypeText, tree: &Tree) -> Result<VariableText, AllocError>
     ensures { IfOk result (λ v. v ≡ means.variables_of of tree.now) }
 {
-    let declarators = declarators(alloc, tree)?;
+    let (of, declarators) = both(Ok(of), declarators(alloc, tree))?;
     Ok(VariableText { of, declarators })
 }
 
@@ -39,8 +40,8 @@ pub fn declared(
 ) -> Result<Declarator, AllocError>
     ensures { IfOk result (λ d. d ≡ means.declared name dimensions.now initial.now) }
 {
-    let unpacked = dims(alloc, dimensions)?;
-    let initial = initializer(alloc, initial)?;
+    let unpacked = dims(alloc, dimensions);
+    let (unpacked, initial) = both(unpacked, initializer(alloc, initial))?;
     Ok(Declarator {
         name,
         unpacked,
@@ -66,8 +67,9 @@ fn typed_variables(alloc: Global, first: u32, tree: &Tree) -> Result<VariableTex
 {
     let name = kid(tree, 1);
     let declarator = declared(alloc, token(name, 0), kid(name, 1), kid(tree, 2))?;
-    let declarators = declarators_behind(alloc, declarator, kids_from(tree, 3))?;
-    let of = named_text(alloc, alone(first), kid(tree, 0))?;
+    let declarators = declarators_behind(alloc, declarator, kids_from(tree, 3));
+    let of = named_text(alloc, alone(first), kid(tree, 0));
+    let (declarators, of) = both(declarators, of)?;
     Ok(VariableText { of, declarators })
 }
 

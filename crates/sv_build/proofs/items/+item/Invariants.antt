@@ -23,9 +23,6 @@ decreases-generate_else l = 16 * l.depth + 3
 abbrev pub decreases-loop_generate : goal.decreases-loop_generate
 decreases-loop_generate l = 16 * l.depth + 5
 
-abbrev pub decreases-if_generate_with : goal.decreases-if_generate_with
-decreases-if_generate_with l = 16 * l.depth + 5
-
 abbrev pub decreases-if_generate : goal.decreases-if_generate
 decreases-if_generate l = 16 * l.depth + 6
 

@@ -14,8 +14,8 @@ decreases-boxed l = 16 * l.depth + 1
 abbrev pub decreases-otherwise : goal.decreases-otherwise
 decreases-otherwise l = 16 * l.depth + 2
 
-abbrev pub decreases-if_with : goal.decreases-if_with
-decreases-if_with l = 16 * l.depth + 5
+abbrev pub decreases-if_statement : goal.decreases-if_statement
+decreases-if_statement l = 16 * l.depth + 5
 
 abbrev pub decreases-values_item : goal.decreases-values_item
 decreases-values_item l = 16 * l.depth + 1
@@ -32,8 +32,8 @@ decreases-add_default l = 16 * l.depth + 4
 abbrev pub decreases-case_items : goal.decreases-case_items
 decreases-case_items l = 16 * l.depth + 5
 
-abbrev pub decreases-case_with : goal.decreases-case_with
-decreases-case_with l = 16 * l.depth + 6
+abbrev pub decreases-case_statement : goal.decreases-case_statement
+decreases-case_statement l = 16 * l.depth + 6
 
 abbrev pub decreases-conditional : goal.decreases-conditional
 decreases-conditional l = 16 * l.depth + 7

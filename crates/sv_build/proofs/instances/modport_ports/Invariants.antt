@@ -1,7 +1,0 @@
-use Rattle.std.proofs.Common.{◌≡◌, ◌++◌, drop}
-use Rattle.expr_build.specs.Nodes.{behind_marks, separated}
-use Rattle.sv_build.specs.Items as means
-use Rattle.sv_build.proofs.instances.modport_ports.Given as goal
-
-abbrev pub invariant-loop-next : goal.invariant-loop-next
-invariant-loop-next l = l.ports ++ behind_marks means.modport_port_of (drop l.next-index l.rest) ≡ separated means.modport_port_of l.fn.trees
