@@ -1,0 +1,50 @@
+//! The texts that expressions are lowered to.
+
+use crate::forms::{CASTS, OPERATORS};
+use crate::lowered::text_of;
+use crate::paths::{BASES, INDICES, STEPS};
+use std::alloc::{AllocError, Global};
+use std::test::Fail;
+use tree_words::{Word, expression};
+
+/// The place of the first expression that has another text in an unsigned context of so many bits.
+fn first_wrong(alloc: Global, table: &[(&[Word], u32, &str)]) -> Result<Option<usize>, AllocError> {
+    for (i, (words, width, wanted)) in table.iter().enumerate() {
+        let e = expression(alloc, words)?;
+        let text = text_of(alloc, &e, *width, false)?;
+        if text.as_bytes() != wanted.as_bytes() {
+            return Ok(Some(i));
+        }
+    }
+    Ok(None)
+}
+
+#[test]
+fn known_steps(rt: HostRuntime) -> Result<(), Fail> {
+    assert_eq!(rt; first_wrong(rt.alloc(), STEPS)?, None);
+    Ok(())
+}
+
+#[test]
+fn other_indices(rt: HostRuntime) -> Result<(), Fail> {
+    assert_eq!(rt; first_wrong(rt.alloc(), INDICES)?, None);
+    Ok(())
+}
+
+#[test]
+fn other_bases(rt: HostRuntime) -> Result<(), Fail> {
+    assert_eq!(rt; first_wrong(rt.alloc(), BASES)?, None);
+    Ok(())
+}
+
+#[test]
+fn operators(rt: HostRuntime) -> Result<(), Fail> {
+    assert_eq!(rt; first_wrong(rt.alloc(), OPERATORS)?, None);
+    Ok(())
+}
+
+#[test]
+fn casts(rt: HostRuntime) -> Result<(), Fail> {
+    assert_eq!(rt; first_wrong(rt.alloc(), CASTS)?, None);
+    Ok(())
+}
