@@ -49,24 +49,43 @@ fn matches_type(t: &SvType, u: &SvType) -> bool
             SvType::Enum { .. } => false,
             SvType::UnpackedArray { .. } => false,
         },
-        SvType::Struct { id, members, .. } => match u {
+        SvType::Struct {
+            id,
+            packed,
+            signed,
+            members,
+        } => match u {
             SvType::Struct {
                 id: i,
+                packed: p,
+                signed: s,
                 members: others,
-                ..
-            } => *id == *i && matching_members(members.as_slice(), others.as_slice()),
+            } => {
+                *id == *i
+                    && *packed == *p
+                    && *signed == *s
+                    && matching_members(members.as_slice(), others.as_slice())
+            }
             SvType::Scalar { .. } => false,
             SvType::PackedArray { .. } => false,
             SvType::Union { .. } => false,
             SvType::Enum { .. } => false,
             SvType::UnpackedArray { .. } => false,
         },
-        SvType::Union { id, members, .. } => match u {
+        SvType::Union {
+            id,
+            signed,
+            members,
+        } => match u {
             SvType::Union {
                 id: i,
+                signed: s,
                 members: others,
-                ..
-            } => *id == *i && matching_members(members.as_slice(), others.as_slice()),
+            } => {
+                *id == *i
+                    && *signed == *s
+                    && matching_members(members.as_slice(), others.as_slice())
+            }
             SvType::Scalar { .. } => false,
             SvType::PackedArray { .. } => false,
             SvType::Struct { .. } => false,
