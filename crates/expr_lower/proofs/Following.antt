@@ -7,7 +7,7 @@ use Rattle.sv_types.specs.declared.statement.Function.{Function}
 use Rattle.sv_types.specs.declared.expression.Expr.{Expr}
 use Rattle.sv_types.specs.declared.expression.Form.TheVariants as V
 use Rattle.sv_types.specs.Layouts.{Layout, layout, width_of}
-use Rattle.sv_types.specs.Windows.{element_of}
+use Rattle.sv_types.specs.Windows.{element_of, slide}
 use Rattle.sv_types.specs.Surroundings.{Around, local_number}
 use Rattle.sv_types.specs.Meanings as S
 use Rattle.sv_types.specs.Paths as P
@@ -43,6 +43,7 @@ use Rattle.expr_lower.specs.Leaves.{leaves, Each}
 use Rattle.expr_lower.specs.Lowering.{IsShown, LeafStands, Lowers}
 use Rattle.expr_lower.specs.Named.{signal_name, local_name}
 use Rattle.path_steps.specs.Known.{IsKnown}
+use Rattle.path_steps.specs.Sliding.{ReadsKnownSlide}
 use Rattle.path_steps.specs.Stands.{stand_names}
 use Rattle.path_steps.proofs.PathNames.{NamedStep, images-like, images-of, stands-named, step-images, fixed-images}
 use Rattle.path_steps.proofs.PathSteps as W
@@ -119,6 +120,16 @@ module _ (im : Images) (a : Around) (sc : Scope) where
         (let b : Around = record a { now = now } in
         reads (P.index of at from i) from b sc v kind (subst (λ k. F.IsStep (P.index of at from i) from b (element_of from.of k)) (is b) (W.index-step of at from i b)) (W.index-wide of at from i typed) (found.reads now v agree));
     names = fixed-images im.number (P.index of at from i) from (root_names r.root sc) (subst (NamedStep (P.index of at from i) from) none (W.index-named of at from i))
+        (subst (λ (x : Root). AreImages im.number (stand_names from) (root_names x sc)) (sym root) found.names);
+  }
+
+  known-slide-found : (of : Layout) (at : ℕ) (from i : S.Meaning) (n : ℕ) (up : Bool) (z : Option ℤ) (t : SvType) (old r : Reading) → from.of ≡ layout t → (P.sliding of at from i n up).misfits ≡ 0
+      → ((b : Around) → P.index_of i b ≡ z) → i.names ≡ [] → Found im a sc from old → ReadsKnownSlide old t up n z r → r.root ≡ old.root → Found im a sc (P.sliding of at from i n up) r
+  known-slide-found of at from i n up z t old r kind typed is none found reads root = record {
+    reads = λ now v agree.
+        (let b : Around = record a { now = now } in
+        reads (P.sliding of at from i n up) from b sc v kind (subst (λ k. F.IsStep (P.sliding of at from i n up) from b (slide from.of up n k)) (is b) (W.slide-step of at from i n up b)) (W.slide-wide of at from i n up typed) (found.reads now v agree));
+    names = fixed-images im.number (P.sliding of at from i n up) from (root_names r.root sc) (subst (NamedStep (P.sliding of at from i n up) from) none (W.slide-named of at from i n up))
         (subst (λ (x : Root). AreImages im.number (stand_names from) (root_names x sc)) (sym root) found.names);
   }
 
@@ -236,6 +247,15 @@ module _ (names : NameMap) (fs : List Function) (hs : List Helper) where
       at-level e _ r im a sc level
       (slide-found im a sc (layout e.of) e.spot.at (meaning x) (meaning i) n up y x.of hs old r (heads x).kind (typed-at e _ level typed) (some-at e _ level typed) (has-bits x typed_x)
       (index-of names fs hs i y im a sc index (has-bits i typed_i) own helps) (index.lowers im a sc own helps).names helps from reads root)
+
+  pub finds-known-slide : (e x i : Expr) (n : ℕ) (up : Bool) (z : Option ℤ) (old r : Reading) → e.form ≡ V.Slide x i n up → (meaning e).misfits ≡ 0 → IsKnown i z → Finds names fs hs x old
+      → ReadsKnownSlide old x.of up n z r → r.root ≡ old.root → Finds names fs hs e r
+  finds-known-slide e x i n up z old r is typed known found reads root im a sc all helps =
+      let leaf = subst (Each (LeafStands names fs im a sc)) (leaves-Slide e x i n up is) all in
+      let from = found im a sc (off-left (LeafStands names fs im a sc) x i leaf) helps in
+      let level = E.same-Slide e x i n up is in
+      at-level e _ r im a sc level
+      (known-slide-found im a sc (layout e.of) e.spot.at (meaning x) (meaning i) n up z x.of old r (heads x).kind (typed-at e _ level typed) known.number known.none from reads root)
 
   pub finds-by-slide : (one two : List Helper) (e x i : Expr) (n : ℕ) (up : Bool) (y : Index) (old r : Reading) → Grows one two → Grows two hs → e.form ≡ V.Slide x i n up → (meaning e).misfits ≡ 0
       → (meaning x).misfits ≡ 0 → (meaning i).misfits ≡ 0 → Indexes names fs two i y → Finds names fs one x old → ReadsSlide old x.of up n y hs r → RootNamesBoth old.root (T.meaning y.expr) r.root

@@ -29,7 +29,7 @@ use path_flatten::{
     slide_step, whole_name, whole_value,
 };
 use path_reads::read;
-use path_steps::known_index;
+use path_steps::{known_index, sliding_step};
 use std::alloc::{AllocError, Global};
 use sv_source::{Items, Text};
 use sv_types::{Expr, Function};
@@ -212,7 +212,7 @@ fn element(
     ensures sound { IfOk result IsSound }
     ensures finds { IfOk result (Finds names.now functions.now helpers.new e.now) }
 {
-    if let Some(known) = known_index(alloc, i)? {
+    if let Some(known) = known_index(alloc, functions, i)? {
         let found = find(alloc, names, functions, from, helpers)?;
         return Ok(element_step(found, &from.of, known.number));
     }
@@ -244,6 +244,10 @@ fn slid(
     ensures sound { IfOk result IsSound }
     ensures finds { IfOk result (Finds names.now functions.now helpers.new e.now) }
 {
+    if let Some(known) = known_index(alloc, functions, base)? {
+        let found = find(alloc, names, functions, from, helpers)?;
+        return Ok(sliding_step(found, &from.of, part.up, part.count, known.number));
+    }
     let found = find(alloc, names, functions, from, helpers);
     let at = index(alloc, names, functions, base, helpers);
     let (found, at) = pairs::both(found, at)?;

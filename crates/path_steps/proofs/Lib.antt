@@ -1,4 +1,6 @@
 pub mod Fixing
+pub mod Freeing
 pub mod PathNames
 pub mod PathSteps
 pub mod Alike
+pub mod KnownSlides

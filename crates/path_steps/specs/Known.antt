@@ -1,23 +1,18 @@
 -- Indices that are known in the source (IEEE 1800-2017 clause 11.5.1).
-use Rattle.std.specs.Prelude.{◌≡◌, ⊤, ℤ, List, [], length, Option, Some, None}
+use Rattle.std.specs.Prelude.{◌≡◌, ⊤, ℤ, List, [], length, Option, Some, None, Result, Ok, Err}
 use Rattle.b4_core.specs.declared.bit.Bit4.{Bit4}
 use Rattle.sv_types.specs.declared.expression.Expr.{Expr}
-use Rattle.sv_types.specs.declared.expression.Form.TheVariants as V
 use Rattle.sv_types.specs.Surroundings.{Around}
 use Rattle.sv_types.specs.Meanings as S
 use Rattle.sv_types.specs.Paths as P
 use Rattle.sv_types.specs.Expressions.{meaning}
-use Rattle.path_steps.specs.declared.known.Fixed.{Fixed}
-use Rattle.path_steps.specs.declared.known.Fixed.TheVariants as F
+use Rattle.eval_parts.specs.declared.halt.Halt.{Halt}
 
--- the number or the constant that an expression is
-abbrev pub IsFixed : Fixed → Expr → Type 0
-IsFixed (F.Number bits goes_on) e = e.form ≡ V.Literal bits.now goes_on
-IsFixed (F.Constant v) e = e.form ≡ V.Constant v.now
-
-abbrev pub IsFixedOf : Option Fixed → Expr → Type 0
-IsFixedOf None e = ⊤
-IsFixedOf (Some f) e = IsFixed f e
+-- a value that was valued to its end
+abbrev pub ValuedGives : {E : Type 0} → Result (Option (List Bit4)) E → Result (List Bit4) Halt → Type 0
+ValuedGives (Ok (Some v)) r = r ≡ Ok v
+ValuedGives (Ok None) r = ⊤
+ValuedGives (Err x) r = ⊤
 
 -- an expression has these bits alone, whatever is held, and names nothing
 pub record HasFixedBits (e : Expr) (bits : List Bit4) : Type 0 where

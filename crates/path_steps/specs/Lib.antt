@@ -1,2 +1,4 @@
 pub mod Known
 pub mod Stands
+pub mod Free
+pub mod Sliding

@@ -1,97 +1,73 @@
-//! Indices whose bits are known in the source.
+//! Indices whose number is known in the source.
 
-ghost use Rattle.std.specs.Prelude.{◌≡◌, ◌≤◌, ◌^◌, IfOk, IfSome, unsigned_abs};
-ghost use Rattle.sv_types.specs.declared.expression.Form.TheVariants as forms;
+ghost use Rattle.std.specs.Prelude.{◌≡◌, ◌≤◌, ◌^◌, Err, IfOk, IfSome, unsigned_abs};
 ghost use Rattle.sv_types.specs.Meanings.{wide};
 ghost use Rattle.sv_types.specs.Expressions.{meaning};
-ghost use Rattle.path_steps.specs.Known.{IsFixedOf, HasFixedBits, IsKnown};
+ghost use Rattle.eval_parts.specs.Limits.{FitsAlone};
+ghost use Rattle.eval_parts.specs.declared.halt.Halt.TheVariants.{Memory};
+ghost use Rattle.eval_forms.specs.Callees.{formals_in, AllFunctionsFit};
+ghost use Rattle.path_steps.specs.Free.{IsFree};
+ghost use Rattle.path_steps.specs.Known.{ValuedGives, HasFixedBits, IsKnown};
 
+use crate::free::is_free;
 use b4_core::Vec4;
-use eval_parts::{extended, index_of, literal, own_sign, own_width};
+use eval_exprs::{Call, Called, Held, Scope, bits};
+use eval_parts::{Halt, index_of, own_sign, own_width};
 use std::alloc::{AllocError, Global};
-use sv_types::{Expr, Form, Value, bits_of};
+use sv_types::{Expr, Function};
 
-/// An expression whose bits stand in it.
-#[derive(Clone, Copy)]
-pub(crate) enum Fixed<'a> {
-    /// A number, and whether its first digit goes on.
-    Number(&'a Vec4, bool),
-    /// A constant of its type.
-    Constant(&'a Value),
-}
-
-/// The number or the constant that an expression is, if it is one.
-fn fixed_of(e: &Expr) -> Option<Fixed<'_>>
-    ensures { IsFixedOf result e.now }
+/// A value, unless its run stopped.
+fn ended(value: Result<Vec4, Halt>) -> Result<Option<Vec4>, AllocError>
+    ensures { ValuedGives result value }
 {
-    match &e.form {
-        Form::Literal { bits, goes_on } => Some(Fixed::Number(bits, *goes_on)),
-        Form::Constant(v) => Some(Fixed::Constant(v)),
-        Form::Fill(_) => None,
-        Form::Signal(_) => None,
-        Form::Local(_) => None,
-        Form::Member(_, _) => None,
-        Form::Index(_, _) => None,
-        Form::Part { .. } => None,
-        Form::Slide { .. } => None,
-        Form::Unary(_, _) => None,
-        Form::Reduce(_, _) => None,
-        Form::Negate(_) => None,
-        Form::Binary(_, _, _) => None,
-        Form::Shift(_, _, _) => None,
-        Form::Power(_, _) => None,
-        Form::Order(_, _, _) => None,
-        Form::Equal { .. } => None,
-        Form::Both(_, _) => None,
-        Form::Either(_, _) => None,
-        Form::Choose(_, _, _) => None,
-        Form::Concat(_) => None,
-        Form::Repeat(_, _) => None,
-        Form::Inside(_, _) => None,
-        Form::Cast(_) => None,
-        Form::Clog2(_) => None,
-        Form::Pattern(_) => None,
-        Form::Call(_, _) => None,
-        Form::Stream { .. } => None,
+    match value {
+        Ok(v) => Ok(Some(v)),
+        Err(Halt::Memory) => Err(AllocError),
+        Err(Halt::NotHeld(_)) => Ok(None),
+        Err(Halt::Turns) => Ok(None),
     }
 }
 
-/// The bits of a number, valued alone.
-fn number_bits(alloc: Global, e: &Expr, bits: &Vec4, goes_on: bool) -> Result<Vec4, AllocError>
-    requires form { e.now.form ≡ forms.Literal bits.now goes_on }
-    requires narrow { (meaning e.now).widest ≤ 4194304 }
-    ensures { IfOk result (HasFixedBits e.now) }
-{
-    let alone = literal(alloc, bits, goes_on, own_width(e), own_sign(e))?;
-    Ok(alone)
-}
-
-/// The bits of a constant, valued alone.
-fn constant_bits(alloc: Global, e: &Expr, v: &Value) -> Result<Vec4, AllocError>
-    requires form { e.now.form ≡ forms.Constant v.now }
-    requires narrow { (meaning e.now).widest ≤ 4194304 }
-    ensures { IfOk result (HasFixedBits e.now) }
-{
-    let held = bits_of(alloc, &e.of, v)?;
-    let alone = extended(alloc, &held, own_width(e), own_sign(e))?;
-    Ok(alone)
-}
-
-/// The bits of an expression, valued alone, if they stand in it.
-fn fixed_bits(alloc: Global, e: &Expr) -> Result<Option<Vec4>, AllocError>
-    requires narrow { (meaning e.now).widest ≤ 4194304 }
+/// The bits of an expression that reads nothing, valued alone.
+fn free_bits(alloc: Global, functions: &[Function], e: &Expr) -> Result<Option<Vec4>, AllocError>
+    requires functions { AllFunctionsFit functions.now }
+    requires fits { FitsAlone (meaning e.now) (formals_in functions.now) }
+    requires free { IsFree e.now }
     ensures { IfOk result (λ r. IfSome r (HasFixedBits e.now)) }
 {
-    match fixed_of(e) {
-        None => Ok(None),
-        Some(Fixed::Number(bits, goes_on)) => {
-            let number = number_bits(alloc, e, bits, goes_on)?;
-            Ok(Some(number))
-        }
-        Some(Fixed::Constant(v)) => {
-            let constant = constant_bits(alloc, e, v)?;
-            Ok(Some(constant))
-        }
+    let calls = |_call: Call| -> Result<Called, Halt>
+        ensures { result ≡ Err Memory }
+    { Err(Halt::Memory) };
+    let held = Held {
+        signals: &[],
+        locals: &[],
+        scope: Scope {
+            functions,
+            depth: 0,
+        },
+    };
+    let mut budget = None;
+    ended(bits(
+        alloc,
+        &calls,
+        held,
+        e,
+        own_width(e),
+        own_sign(e),
+        &mut budget,
+    ))
+}
+
+/// The bits of an expression, valued alone, if it reads nothing.
+fn fixed_bits(alloc: Global, functions: &[Function], e: &Expr) -> Result<Option<Vec4>, AllocError>
+    requires functions { AllFunctionsFit functions.now }
+    requires fits { FitsAlone (meaning e.now) (formals_in functions.now) }
+    ensures { IfOk result (λ r. IfSome r (HasFixedBits e.now)) }
+{
+    if is_free(e) {
+        free_bits(alloc, functions, e)
+    } else {
+        Ok(None)
     }
 }
 
@@ -102,15 +78,20 @@ pub struct KnownIndex {
     pub number: Option<i128>,
 }
 
-/// The number of an index of at most 64 bits that is a literal or a constant; nothing of any other expression. Or want of
-/// memory.
-pub fn known_index(alloc: Global, e: &Expr) -> Result<Option<KnownIndex>, AllocError>
-    requires narrow { (meaning e.now).widest ≤ 4194304 }
+/// The number of an index of at most 64 bits that is made of numbers and constants alone, by its value; nothing of an expression
+/// with a signal, a local, a call or a stream. Or want of memory.
+pub fn known_index(
+    alloc: Global,
+    functions: &[Function],
+    e: &Expr,
+) -> Result<Option<KnownIndex>, AllocError>
+    requires functions { AllFunctionsFit functions.now }
+    requires fits { FitsAlone (meaning e.now) (formals_in functions.now) }
     requires short { wide (meaning e.now) ≤ 64 }
     ensures known { IfOk result (λ r. IfSome r (λ k. IsKnown e.now k.number)) }
-    ensures small { IfOk result (λ r. IfSome r (λ k. IfSome k.number (λ n. unsigned_abs n ≤ 2 ^ 65))) }
+    ensures small { IfOk result (λ r. IfSome r (λ k. IfSome k.number (λ n. unsigned_abs n ≤ 2 ^ 64))) }
 {
-    match fixed_bits(alloc, e)? {
+    match fixed_bits(alloc, functions, e)? {
         None => Ok(None),
         Some(bits) => {
             let number = index_of(&bits, own_sign(e));

@@ -2,6 +2,10 @@
 //! what it names (IEEE 1800-2017 clauses 7.2.1, 7.4.5 and 11.5.1).
 #![tactic(auto)]
 
+mod free;
+mod inner;
 mod known;
+mod sliding;
 
 pub use known::{KnownIndex, known_index};
+pub use sliding::sliding_step;

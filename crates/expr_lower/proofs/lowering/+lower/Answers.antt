@@ -32,7 +32,7 @@ use Rattle.expr_lower.specs.Paths.{Finds, Indexes}
 use Rattle.expr_lower.proofs.AskedLeaves.{EachAsked}
 use Rattle.expr_lower.proofs.Asking.{Made, made-none, made-more, made-next, each-long, each-more, length-meanings}
 use Rattle.expr_lower.proofs.Built.{operands-of}
-use Rattle.expr_lower.proofs.Following.{lowers-path, finds-Signal, finds-Local, finds-value, finds-Member, finds-Part, finds-known, finds-by-index, finds-by-slide, slide-size}
+use Rattle.expr_lower.proofs.Following.{lowers-path, finds-Signal, finds-Local, finds-value, finds-Member, finds-Part, finds-known, finds-known-slide, finds-by-index, finds-by-slide, slide-size}
 use Rattle.expr_lower.proofs.NameLists.{at-front}
 use Rattle.expr_lower.proofs.Rooted.{alike}
 use Rattle.expr_lower.proofs.Stepwise as W
@@ -221,8 +221,8 @@ follow-returns-in_ok-found-in-Part-clause-finds t c =
     c.in_ok-found-in-Part.ensures.finds reads c.between_step.ensures.root
 
 -- elements
-pub element-known_index-requires-clause-narrow : goal.element-known_index-requires-clause-narrow
-element-known_index-requires-clause-narrow t c = (W.at-Index c.args.e.now c.args.from.now c.args.i.now (formals_in c.args.functions.now) c.requires.form c.requires.built c.requires.fits).fits.narrow
+pub element-known_index-requires-clause-fits : goal.element-known_index-requires-clause-fits
+element-known_index-requires-clause-fits t c = (W.at-Index c.args.e.now c.args.from.now c.args.i.now (formals_in c.args.functions.now) c.requires.form c.requires.built c.requires.fits).fits
 
 pub element-known_index-requires-clause-short : goal.element-known_index-requires-clause-short
 element-known_index-requires-clause-short t c = (W.at-Index c.args.e.now c.args.from.now c.args.i.now (formals_in c.args.functions.now) c.requires.form c.requires.built c.requires.fits).short
@@ -276,6 +276,35 @@ element-returns-clause-finds t c =
     c.requires.fits.typed from.fits.typed at.fits.typed index found c.in_ok-made.ensures.reads c.in_ok-made.ensures.names
 
 -- indexed part-selects
+pub slid-known_index-requires-clause-fits : goal.slid-known_index-requires-clause-fits
+slid-known_index-requires-clause-fits t c =
+    let part = c.args.part in
+    (W.at-Slide c.args.e.now c.args.from.now c.args.base.now part.count part.up (formals_in c.args.functions.now) c.requires.form c.requires.built c.requires.fits).fits
+
+pub slid-known_index-requires-clause-short : goal.slid-known_index-requires-clause-short
+slid-known_index-requires-clause-short t c =
+    let part = c.args.part in
+    (W.at-Slide c.args.e.now c.args.from.now c.args.base.now part.count part.up (formals_in c.args.functions.now) c.requires.form c.requires.built c.requires.fits).short
+
+pub slid-find-requires : goal.slid-find-requires
+slid-find-requires t c =
+    let part = c.args.part in
+    let from = W.from-Slide c.args.e.now c.args.from.now c.args.base.now part.count part.up (formals_in c.args.functions.now) c.requires.form c.requires.built c.requires.fits in
+    (omega (arith, c.decreases, from.fewer), (c.requires.functions, (from.built, from.fits)))
+
+pub slid-sliding_step-requires-clause-narrow : goal.slid-sliding_step-requires-clause-narrow
+slid-sliding_step-requires-clause-narrow t c =
+    let part = c.args.part in
+    (W.from-Slide c.args.e.now c.args.from.now c.args.base.now part.count part.up (formals_in c.args.functions.now) c.requires.form c.requires.built c.requires.fits).narrow
+
+pub slid-returns-in-Some-clause-finds : goal.slid-returns-in-Some-clause-finds
+slid-returns-in-Some-clause-finds t c =
+    let i = c.args.base.now in
+    let part = c.args.part in
+    let known = subst (λ o. IfSome o (λ (k : KnownIndex). IsKnown i k.number)) c.in-Some.is c.in_ok-known.ensures.known in
+    finds-known-slide c.args.names.now c.args.functions.now c.find.new.helpers c.args.e.now c.args.from.now i part.count part.up c.in-Some.known.number c.in_ok-found.found c.sliding_step.result c.requires.form c.requires.fits.typed known
+    c.in_ok-found.ensures.finds c.sliding_step.ensures.reads c.sliding_step.ensures.root
+
 pub slid-find-found-requires : goal.slid-find-found-requires
 slid-find-found-requires t c =
     let part = c.args.part in
@@ -297,7 +326,7 @@ pub slid-slide_step-requires-clause-index : goal.slid-slide_step-requires-clause
 slid-slide_step-requires-clause-index t c =
     let part = c.args.part in
     let at = W.at-Slide c.args.e.now c.args.from.now c.args.base.now part.count part.up (formals_in c.args.functions.now) c.requires.form c.requires.built c.requires.fits in
-    let index = subst (λ r. IfOk r (λ (x : Index). Indexes c.args.names.now c.args.functions.now c.index-at.new.helpers c.args.base.now x)) c.in_ok-found.ensures.1 c.index-at.ensures.indexes in
+    let index = subst (λ r. IfOk r (λ (x : Index). Indexes c.args.names.now c.args.functions.now c.index-at.new.helpers c.args.base.now x)) c.in_ok-found-2.ensures.1 c.index-at.ensures.indexes in
     omega (arith, index.width, at.short)
 
 pub slid-returns-clause-finds : goal.slid-returns-clause-finds
@@ -310,11 +339,11 @@ slid-returns-clause-finds t c =
     let one = c.find-found.new.helpers in
     let two = c.index-at.new.helpers in
     let new = c.slide_step.new.helpers in
-    let found = subst (λ r. IfOk r (λ (x : Reading). Finds names functions one c.args.from.now x)) c.in_ok-found.ensures.0 c.find-found.ensures.finds in
-    let index = subst (λ r. IfOk r (λ (x : Index). Indexes names functions two c.args.base.now x)) c.in_ok-found.ensures.1 c.index-at.ensures.indexes in
-    let grows = subst (λ r. OnOk r (Grows one two)) c.in_ok-found.ensures.1 c.index-at.ensures.grows in
+    let found = subst (λ r. IfOk r (λ (x : Reading). Finds names functions one c.args.from.now x)) c.in_ok-found-2.ensures.0 c.find-found.ensures.finds in
+    let index = subst (λ r. IfOk r (λ (x : Index). Indexes names functions two c.args.base.now x)) c.in_ok-found-2.ensures.1 c.index-at.ensures.indexes in
+    let grows = subst (λ r. OnOk r (Grows one two)) c.in_ok-found-2.ensures.1 c.index-at.ensures.grows in
     let size = c.requires.bits ∙ slide-size names functions new c.args.e.now c.args.from.now c.args.base.now part.count part.up c.requires.form c.requires.fits.typed in
-    finds-by-slide names functions new one two c.args.e.now c.args.from.now c.args.base.now part.count part.up c.in_ok-found.at c.in_ok-found.found c.in_ok-made.made grows c.in_ok-made.ensures.grows c.requires.form
+    finds-by-slide names functions new one two c.args.e.now c.args.from.now c.args.base.now part.count part.up c.in_ok-found-2.at c.in_ok-found-2.found c.in_ok-made.made grows c.in_ok-made.ensures.grows c.requires.form
     c.requires.fits.typed from.fits.typed at.fits.typed index found (c.in_ok-made.ensures.reads size) c.in_ok-made.ensures.names
 
 pub index-returns-clause-indexes : goal.index-returns-clause-indexes

@@ -1,0 +1,84 @@
+-- What writes through a select path change.
+use Rattle.std.proofs.Common.{◌≡◌, ℕ, Bool, ℤ, List, Result, Ok, Err, IfOk, refl, ap, sym, ◌∙◌, subst}
+use Rattle.std.specs.declared.alloc.AllocError.{AllocError}
+use Rattle.b4_core.specs.declared.bit.Bit4.{Bit4}
+use Rattle.row_machine.specs.Valuation.{Valuation}
+use Rattle.sv_types.specs.declared.expression.Expr.{Expr}
+use Rattle.sv_types.specs.Layouts.{Layout, stored}
+use Rattle.sv_types.specs.Surroundings.{Around}
+use Rattle.sv_types.specs.Meanings as S
+use Rattle.sv_types.specs.Meanings.{written_at}
+use Rattle.sv_types.specs.Paths as P
+use Rattle.sv_types.specs.Expressions.{meaning}
+use Rattle.eval_parts.proofs.Selecting.{same-Signal, same-Local, same-Member, same-Index, same-Part, same-Slide}
+use Rattle.v_meaning.specs.Scopes.{Scope}
+use Rattle.lowering_laws.specs.Agreeing.{SameChanges}
+use Rattle.lowering_laws.specs.Reached.{pieces_put, IsWritten}
+use Rattle.lowering_laws.proofs.Changes.{path-changes}
+use Rattle.target_flatten.specs.declared.writes.Image.{Image}
+use Rattle.target_flatten.specs.declared.writes.Write.{Write}
+use Rattle.target_flatten.specs.Writing.{pieces}
+use Rattle.target_walk.specs.declared.given.Given.{Given}
+use Rattle.target_walk.specs.Changing.{ChangesAs}
+use Rattle.target_walk.specs.Naming.{FlattensTo}
+use Rattle.target_walk.specs.Walking.{Indexed, of_signal, of_local, of_member, of_index, of_part, of_slide}
+use Rattle.target_walk.proofs.Taking.{steady}
+
+-- a write through a path changes what it stands on
+abbrev Puts : S.Meaning → Type 0
+Puts m = (a : Around) (bits : List Bit4) → m.puts a bits ≡ written_at m.root (m.window a) (stored m.of.two_state bits)
+
+signal-puts : (of : Layout) (at n : ℕ) → Puts (P.signal of at n)
+unfolding P.signal
+signal-puts of at n a bits = refl
+
+local-puts : (of : Layout) (at n : ℕ) → Puts (P.local of at n)
+unfolding P.local
+local-puts of at n a bits = refl
+
+member-puts : (of : Layout) (at : ℕ) (from : S.Meaning) (k : ℕ) → Puts (P.member of at from k)
+unfolding P.member
+member-puts of at from k a bits = refl
+
+index-puts : (of : Layout) (at : ℕ) (from i : S.Meaning) → Puts (P.index of at from i)
+unfolding P.index
+index-puts of at from i a bits = refl
+
+part-puts : (of : Layout) (at : ℕ) (from : S.Meaning) (left right : ℤ) → Puts (P.part_select of at from left right)
+unfolding P.part_select
+part-puts of at from left right a bits = refl
+
+slide-puts : (of : Layout) (at : ℕ) (from i : S.Meaning) (n : ℕ) (up : Bool) → Puts (P.sliding of at from i n up)
+unfolding P.sliding
+slide-puts of at from i n up a bits = refl
+
+puts-by : (e : Expr) (m : S.Meaning) → meaning e ≡ m → Puts m → Puts (meaning e)
+puts-by e m is h = subst Puts (sym is) h
+
+path-puts : (w bits : ℕ) (a : Around) (sc : Scope) (v : Valuation) (e : Expr) (gs : List Given) (part : Bool) → Indexed w bits a sc v e gs part → Puts (meaning e)
+path-puts w bits a sc v e gs part (of_signal x n is wide) = puts-by x _ (same-Signal x n is) (signal-puts _ _ n)
+path-puts w bits a sc v e gs part (of_local x n is wide) = puts-by x _ (same-Local x n is) (local-puts _ _ n)
+path-puts w bits a sc v e gs part (of_member x from k hs is rest) = puts-by x _ (same-Member x from k is) (member-puts _ _ (meaning from) k)
+path-puts w bits a sc v e gs part (of_index x from i g hs b is number fits rest) = puts-by x _ (same-Index x from i is) (index-puts _ _ (meaning from) (meaning i))
+path-puts w bits a sc v e gs part (of_part x from l r hs b is typed rest) = puts-by x _ (same-Part x from l r is) (part-puts _ _ (meaning from) l r)
+path-puts w bits a sc v e gs part (of_slide x from i n up g hs b is number typed fits rest) = puts-by x _ (same-Slide x from i n up is) (slide-puts _ _ (meaning from) (meaning i) n up)
+
+-- so targets that write the path change its image
+pub changes-as : (im : Image) (e : Expr) (gs : List Given) (xs : List Write) → FlattensTo im e gs xs → ChangesAs im e gs xs
+changes-as im e gs xs flattens ims r a sc v part shown vector small bits one room typed path =
+    let h = (flattens a sc v part vector small bits one room typed path).path in
+    let own = steady im.room im.bits a sc v e gs part path typed in
+    let m = meaning e in
+    let image = subst (λ n. IsWritten ((meaning e).window a) (S.wide (meaning e)) n (pieces xs) sc v) (sym shown.number) h in
+    record {
+      wide = h.wide;
+      below = h.below;
+      changes = λ bs long.
+          subst (λ c. SameChanges ims c (pieces_put (pieces xs) sc v (stored (meaning e).of.two_state bs)))
+          (sym (path-puts im.room im.bits a sc v e gs part path a bs ∙ ap (λ o. written_at o ((meaning e).window a) (stored (meaning e).of.two_state bs)) shown.root))
+          (path-changes ims shown.distinct (meaning e) a r shown.some (pieces xs) sc v own.tight shown.converted image bs long);
+    }
+
+pub changes-all : (im : Image) (e : Expr) (gs : List Given) (q : Result (List Write) AllocError) → IfOk q (FlattensTo im e gs) → IfOk q (ChangesAs im e gs)
+changes-all im e gs (Ok xs) h = changes-as im e gs xs h
+changes-all im e gs (Err x) h = tt

@@ -1,0 +1,12 @@
+pub mod Inverting
+pub mod Telling
+pub mod Taking
+pub mod Arms
+pub mod Stacking
+pub mod Mentions
+pub mod Rooming
+pub mod Doubling
+pub mod Changing
+pub mod Limiting
+pub mod Ways
+pub mod Ending

@@ -1,0 +1,198 @@
+-- What is named where a path is written.
+use Rattle.std.proofs.Math.Seq.{drop-cons}
+use Rattle.std.proofs.Math.Numerals.{add-one}
+use Rattle.v_tree.specs.declared.expressions.VExpr.{VExpr}
+use Rattle.std.proofs.Common.{◌≡◌, ℕ, suc, get_or, IfOk, ◌+◌, ◌<◌, ◌≤◌, ◌^◌, Bool, true, false, ◌&&◌, ◌||◌, cond, ℤ, pos, length, take, drop, List, [], ◌∷◌, ◌++◌, append-nil, Option, Some, None, Result, Ok, Err, refl, arith, ap, sym, ◌∙◌, subst, true≢false}
+use Rattle.std.specs.declared.alloc.AllocError.{AllocError}
+use Rattle.b4_core.specs.declared.bit.Bit4.{Bit4}
+use Rattle.b4_core.specs.declared.bit.Bit4.TheVariants.{Zero}
+use Rattle.b4_core.specs.Bits.{is_one}
+use Rattle.row_machine.specs.Valuation.{Valuation, Place}
+use Rattle.row_machine.specs.Steps.{unchanged, later_or}
+use Rattle.picks.specs.Windows.{whole, part}
+use Rattle.sv_types.specs.declared.expression.Expr.{Expr}
+use Rattle.sv_types.specs.Surroundings.{Around}
+use Rattle.sv_types.specs.Meanings as S
+use Rattle.sv_types.specs.Expressions.{meaning}
+use Rattle.sv_types.proofs.Picks.{picked-part}
+use Rattle.v_meaning.specs.Scopes.{Scope, named}
+use Rattle.v_meaning.specs.Statements.{target}
+use Rattle.v_meaning.specs.Values as T
+use Rattle.lowering_laws.specs.Reached.{Piece, pieces_put, IsWritten}
+use Rattle.lowering_laws.proofs.Offsets.{holds-both}
+use Rattle.lowering_laws.proofs.WriteAt.{part-tight}
+use Rattle.path_flatten.specs.Naming.{SameNumbers}
+use Rattle.path_flatten.proofs.Naming.{same-itself, same-by, same-then, same-joined, same-twice}
+use Rattle.path_flatten.proofs.Sees.{stays-of}
+use Rattle.target_laws.specs.Standing.{IsVectorOf, IsKnown}
+use Rattle.target_flatten.specs.declared.writes.Image.{Image}
+use Rattle.target_flatten.specs.declared.writes.Write.{Write}
+use Rattle.target_flatten.specs.Naming.{piece_names, EachNames}
+use Rattle.target_flatten.specs.Writing.{piece as write_piece, pieces, WritesPath, IsAimed}
+use Rattle.target_flatten.proofs.Naming.{both-guards, same-middle}
+use Rattle.target_walk.specs.declared.given.Given.{Given}
+use Rattle.target_walk.specs.declared.given.Given.TheVariants as G
+use Rattle.target_walk.specs.Giving.{all_names, given_names}
+use Rattle.target_walk.specs.Naming.{NamesAlso, IsNever, is_lowered, has_lowered, AddsNever, Names, NamesFrom, all_piece_names, Flattened, FlattensTo}
+use Rattle.target_walk.specs.Walking.{WritesAll}
+use Rattle.target_walk.proofs.Taking.{Steady, steady}
+
+-- conditions that are never 1
+zero-never : (sc : Scope) (v : Valuation) → is_one (T.truth (T.literal (Zero ∷ [])) sc v) ≡ false
+unfolding T.literal
+zero-never sc v = refl
+
+zero-names : (sc : Scope) → (T.literal (Zero ∷ [])).names sc ≡ []
+unfolding T.literal
+zero-names sc = refl
+
+both-never : (g h : T.Meaning) (sc : Scope) (v : Valuation) → is_one (T.truth g sc v) ≡ false → is_one (T.truth (T.both g h) sc v) ≡ false
+both-never g h sc v never = holds-both (Some g) (Some h) sc v ∙ ap (λ b. b && is_one (T.truth h sc v)) never
+
+pub also-known : (m : T.Meaning) (k : Option ℤ) → NamesAlso m (G.Known k) m
+also-known m k = record { never = λ sc v h. h; names = λ sc. same-by (m.names sc ++ []) (m.names sc) (append-nil (m.names sc)) }
+
+pub also-lowered : (m n : T.Meaning) (g : Given) (e : T.Meaning) → ((sc : Scope) → given_names g sc ≡ e.names sc) → n ≡ T.both m e → NamesAlso m g n
+also-lowered m n g e named is = record {
+  never = λ sc v h. ap (λ (x : T.Meaning). is_one (T.truth x sc v)) is ∙ both-never m e sc v h;
+  names = λ sc.
+      subst (λ (x : T.Meaning). SameNumbers (m.names sc ++ given_names g sc) (x.names sc)) (sym is)
+      (subst (λ (l : List ℕ). SameNumbers (m.names sc ++ l) ((T.both m e).names sc)) (sym (named sc)) (both-guards (Some m) (Some e) sc));
+}
+
+-- what indices name, some of them named already
+pub record Naming (m : T.Meaning) (rest all : List Given) : Type 0 where
+  pub never : (sc : Scope) (v : Valuation) → is_one (T.truth m sc v) ≡ false
+  pub names : (sc : Scope) → SameNumbers (all_names all sc) (all_names rest sc ++ m.names sc)
+
+pub naming-none : (m : T.Meaning) (gs : List Given) → m ≡ T.literal (Zero ∷ []) → Naming m gs gs
+naming-none m gs is = record {
+  never = λ sc v. ap (λ (x : T.Meaning). is_one (T.truth x sc v)) is ∙ zero-never sc v;
+  names = λ sc.
+      same-by (all_names gs sc) (all_names gs sc ++ m.names sc)
+      (sym (append-nil (all_names gs sc)) ∙ ap (λ (l : List ℕ). all_names gs sc ++ l) (sym (ap (λ (x : T.Meaning). x.names sc) is ∙ zero-names sc)));
+}
+
+moved : (as_ bs cs ds : List ℕ) → SameNumbers (cs ++ bs) ds → SameNumbers ((as_ ++ bs) ++ cs) (as_ ++ ds)
+moved as_ bs cs ds h =
+    same-then ((as_ ++ bs) ++ cs) ((as_ ++ []) ++ (bs ++ cs)) (as_ ++ ds)
+    (same-then ((as_ ++ bs) ++ cs) ((as_ ++ bs) ++ ([] ++ cs)) ((as_ ++ []) ++ (bs ++ cs)) (same-itself ((as_ ++ bs) ++ cs)) (same-middle as_ bs [] cs))
+    (same-joined (as_ ++ []) as_ (bs ++ cs) ds (same-by (as_ ++ []) as_ (append-nil as_)) (same-then (bs ++ cs) (cs ++ bs) ds (turned bs cs) h))
+  where
+    turned : (xs ys : List ℕ) → SameNumbers (xs ++ ys) (ys ++ xs)
+    turned xs ys =
+        same-then (xs ++ ys) ((ys ++ []) ++ ([] ++ xs)) (ys ++ xs) (other xs ys)
+        (same-joined (ys ++ []) ys xs xs (same-by (ys ++ []) ys (append-nil ys)) (same-itself xs))
+      where
+        other : (us vs : List ℕ) → SameNumbers (us ++ vs) ((vs ++ []) ++ ([] ++ us))
+        other us vs =
+            same-then (us ++ vs) (([] ++ us) ++ (vs ++ [])) ((vs ++ []) ++ ([] ++ us))
+            (same-joined us us vs (vs ++ []) (same-itself us) (same-by vs (vs ++ []) (sym (append-nil vs))))
+            (same-then (([] ++ us) ++ (vs ++ [])) (([] ++ vs) ++ (us ++ [])) ((vs ++ []) ++ ([] ++ us)) (same-middle [] us vs [])
+            (same-joined vs (vs ++ []) (us ++ []) us (same-by vs (vs ++ []) (sym (append-nil vs))) (same-by (us ++ []) us (append-nil us))))
+
+pub naming-next : (m n : T.Meaning) (g : Given) (rest all : List Given) → NamesAlso m g n → Naming m (g ∷ rest) all → Naming n rest all
+naming-next m n g rest all also h = record {
+  never = λ sc v. also.never sc v (h.never sc v);
+  names = λ sc.
+      same-then (all_names all sc) ((all_names rest sc ++ given_names g sc) ++ m.names sc) (all_names rest sc ++ n.names sc) (h.names sc)
+      (moved (all_names rest sc) (given_names g sc) (m.names sc) (n.names sc) (also.names sc));
+}
+
+pub naming-all : (m : T.Meaning) (rest all : List Given) → rest ≡ [] → Naming m rest all → IsNever all m
+naming-all m rest all none h = record { never = h.never; names = λ sc. subst (λ (l : List Given). SameNumbers (all_names all sc) (all_names l sc ++ m.names sc)) none (h.names sc) }
+
+-- indices that aren't lowered name nothing
+pub none-lowered : (gs : List Given) (sc : Scope) → has_lowered gs ≡ false → all_names gs sc ≡ []
+none-lowered [] sc h = refl
+none-lowered (G.Known k ∷ gs) sc h = append-nil (all_names gs sc) ∙ none-lowered gs sc h
+none-lowered (G.Lowered x d ∷ gs) sc h = absurd (true≢false h)
+
+-- each target names them
+each-all : (ns : List ℕ) (p : Piece) (ps : List Piece) (sc : Scope) → EachNames ns (p ∷ ps) sc → SameNumbers ns (all_piece_names (p ∷ ps) sc)
+each-all ns p [] sc h = same-then ns (piece_names p sc) (piece_names p sc ++ []) h.0 (same-by (piece_names p sc) (piece_names p sc ++ []) (sym (append-nil (piece_names p sc))))
+each-all ns p (q ∷ ps) sc h = same-twice ns (piece_names p sc) (all_piece_names (q ∷ ps) sc) h.0 (each-all ns q ps sc h.1)
+
+-- A target that is never written.
+module _ (im : Image) (gs : List Given) (e : Expr) (xs : List Write) (adds : AddsNever im gs [] xs) (a : Around) (sc : Scope) (v : Valuation) (vector : IsVectorOf im.name im.bits sc) (small : im.bits < 2 ^ 32)
+    (bits : 1 ≤ im.bits) (own : Steady (meaning e) a) where
+  abbrev piece : Piece
+  piece = record { guard = Some adds.guard; to = target adds.to; low = 0; width = 1 }
+
+  abbrev first : S.Meaning
+  first = record (meaning e) { of = record (meaning e).of { two_state = false ∷ [] }; window = λ (b : Around). part (pos 0) 1 (whole im.bits) }
+
+  first-wide : (target adds.to).width sc ≡ 1
+  first-wide =
+      let aim : IsAimed im.name im.bits 1 first a sc = record { wide = refl; some = omega arith; stays = stays-of (part (pos 0) 1 (whole im.bits)) 1 (part-tight (pos 0) 1 (whole im.bits)); vector = vector; small = small } in
+      let known : IsKnown first a 0 im.bits = record { names = λ j less. picked-part 0 1 (whole im.bits) j less; fits = omega arith } in
+      (adds.first first a sc v aim known).wide.0
+
+  never-put : (bs : List Bit4) (q : Place) → pieces_put (piece ∷ []) sc v bs q ≡ pieces_put [] sc v bs q
+  never-put bs q = (λ i. later (cond (adds.never.never sc v i) (piece.to.puts sc v (take 1 (drop 0 bs))) unchanged q))
+    where
+      later : Option Bit4 → Option Bit4
+      later o = later_or None o
+
+  pub never-written : IsWritten ((meaning e).window a) (S.wide (meaning e)) (named sc.names im.name).number [] sc v → IsWritten ((meaning e).window a) (S.wide (meaning e)) (named sc.names im.name).number (piece ∷ []) sc v
+  never-written h = record {
+    wide = (first-wide, tt);
+    below = ((let some = own.some in omega arith), tt);
+    puts = λ bs long q. never-put bs q ∙ h.puts bs long q;
+  }
+
+-- what is written in the end
+flattened-some : (im : Image) (e : Expr) (gs : List Given) (y : Write) (ys xs : List Write) → WritesAll im e gs (y ∷ ys) → Names im gs (y ∷ ys) xs → FlattensTo im e gs xs
+flattened-some im e gs y ys xs writes names a sc v p vector small bits one room typed path =
+    let h = writes p a sc v vector small one room typed path in
+    subst (λ (zs : List Write). Flattened im e gs zs a sc v) (sym names) (record { path = h.path; names = each-all (all_names gs sc) (write_piece y) (pieces ys) sc h.names })
+
+flattened-none : (im : Image) (e : Expr) (gs : List Given) (xs : List Write) → WritesAll im e gs [] → Names im gs [] xs → FlattensTo im e gs xs
+flattened-none im e gs xs writes names a sc v p vector small bits one room typed path =
+    by (has_lowered gs) refl
+  where
+    by : (b : Bool) → has_lowered gs ≡ b → Flattened im e gs xs a sc v
+    by false none =
+        let h = writes p a sc v vector small one room typed path in
+        subst (λ (zs : List Write). Flattened im e gs zs a sc v) (sym (names.0 none)) (record { path = h.path; names = same-by (all_names gs sc) [] (none-lowered gs sc none) })
+    by true some =
+        let h = writes p a sc v vector small one room typed path in
+        let own = steady im.room im.bits a sc v e gs p path typed in
+        let adds = names.1 some in
+        let all = (names.1 some).is in
+        record {
+          path = subst (λ ps. WritesPath im.name (meaning e) a ps sc v) (sym all) (never-written im gs e xs (names.1 some) a sc v vector small bits own h.path);
+          names = subst (λ ps. SameNumbers (all_names gs sc) (all_piece_names ps sc)) (sym all)
+              (same-then (all_names gs sc) ((names.1 some).guard.names sc) (((names.1 some).guard.names sc ++ (target (names.1 some).to).names sc) ++ []) ((names.1 some).never.names sc)
+              (same-by ((names.1 some).guard.names sc) (((names.1 some).guard.names sc ++ (target (names.1 some).to).names sc) ++ [])
+              (sym (append-nil ((names.1 some).guard.names sc ++ (target (names.1 some).to).names sc) ∙ ap (λ (l : List ℕ). (names.1 some).guard.names sc ++ l) ((names.1 some).other sc) ∙ append-nil ((names.1 some).guard.names sc)))));
+        }
+
+pub flattened : (im : Image) (e : Expr) (gs : List Given) (r : Result (List Write) AllocError) (xs : List Write) → IfOk r (WritesAll im e gs) → NamesFrom im gs r xs → FlattensTo im e gs xs
+flattened im e gs (Err x) xs writes names = absurd names
+flattened im e gs (Ok (y ∷ ys)) xs writes names = flattened-some im e gs y ys xs writes names
+flattened im e gs (Ok []) xs writes names = flattened-none im e gs xs writes names
+
+-- and from what may want memory
+pub flattened-all : (im : Image) (e : Expr) (gs : List Given) (r q : Result (List Write) AllocError) → IfOk r (WritesAll im e gs) → IfOk q (NamesFrom im gs r) → IfOk q (FlattensTo im e gs)
+flattened-all im e gs r (Ok xs) writes names = flattened im e gs r xs writes names
+flattened-all im e gs r (Err x) writes names = tt
+
+-- a list of indices from one on
+pub at-front : (gs : List Given) (i : ℕ) (g : Given) → i < length gs → g ≡ get_or gs i g → drop i gs ≡ g ∷ drop (i + 1) gs
+at-front gs i g h is = drop-cons gs i g h ∙ ap (λ x. x ∷ drop (suc i) gs) (sym is) ∙ ap (λ k. g ∷ drop k gs) (sym (add-one i))
+
+pub naming-after : (m n : T.Meaning) (g : Given) (i : ℕ) (all : List Given) → i < length all → g ≡ get_or all i g → NamesAlso m g n → Naming m (drop i all) all → Naming n (drop (i + 1) all) all
+naming-after m n g i all less is also h = naming-next m n g (drop (i + 1) all) all also (subst (λ l. Naming m l all) (at-front all i g less is) h)
+
+-- whether an index is lowered, from the last ones on
+pub lowered-here : (gs : List Given) (i : ℕ) (g : Given) → i < length gs → g ≡ get_or gs i g → is_lowered g ≡ true → has_lowered gs ≡ has_lowered (drop i gs) → has_lowered gs ≡ true
+lowered-here gs i g less is here h = h ∙ ap has_lowered (at-front gs i g less is) ∙ ap (λ b. b || has_lowered (drop (i + 1) gs)) here
+
+pub lowered-next : (gs : List Given) (i : ℕ) (g : Given) → i < length gs → g ≡ get_or gs i g → is_lowered g ≡ false → has_lowered gs ≡ has_lowered (drop i gs) → has_lowered gs ≡ has_lowered (drop (i + 1) gs)
+lowered-next gs i g less is none h = h ∙ ap has_lowered (at-front gs i g less is) ∙ ap (λ b. b || has_lowered (drop (i + 1) gs)) none
+
+-- a lowered index besides
+pub besides-names : (m : T.Meaning) (g : Given) (e : T.Meaning) (r : Result VExpr AllocError) → ((sc : Scope) → given_names g sc ≡ e.names sc) → IfOk r (λ n. T.meaning n ≡ T.both m e) → IfOk r (λ n. NamesAlso m g (T.meaning n))
+besides-names m g e (Ok n) named is = also-lowered m (T.meaning n) g e named is
+besides-names m g e (Err x) named is = tt

@@ -1,0 +1,11 @@
+use Rattle.target_walk.proofs.Changing.{changes-all}
+use Rattle.target_walk.proofs.Mentions.{flattened-all}
+use Rattle.target_walk.proofs.paths.flatten_target.Goals as goal
+
+pub returns-clause-writes : goal.returns-clause-writes
+returns-clause-writes c = flattened-all c.args.image.now c.args.e.now c.args.indices.now c.path_writes.result c.with_names.result c.path_writes.ensures c.with_names.ensures
+
+pub returns-clause-changes : goal.returns-clause-changes
+returns-clause-changes c =
+    changes-all c.args.image.now c.args.e.now c.args.indices.now c.with_names.result
+    (flattened-all c.args.image.now c.args.e.now c.args.indices.now c.path_writes.result c.with_names.result c.path_writes.ensures c.with_names.ensures)

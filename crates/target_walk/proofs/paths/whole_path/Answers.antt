@@ -1,0 +1,10 @@
+use Rattle.target_walk.proofs.Ending.{whole-written}
+use Rattle.target_walk.proofs.Limiting.{own-narrow}
+use Rattle.target_walk.proofs.paths.whole_path.Goals as goal
+
+pub width-requires : goal.width-requires
+width-requires c = own-narrow c.args.e.now 4194304 c.requires.narrow
+
+pub returns : goal.returns
+returns c =
+    whole-written c.args.image.now c.args.e.now c.args.indices.now c.in_ok-spot.spot c.width.result c.whole_writes.result c.in_ok-spot.ensures c.width.ensures.bits c.whole_writes.ensures.writes c.whole_writes.ensures.names

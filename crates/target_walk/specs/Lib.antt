@@ -1,0 +1,6 @@
+pub mod Giving
+pub mod Walking
+pub mod Cells
+pub mod Naming
+pub mod Rooms
+pub mod Changing
