@@ -44,9 +44,9 @@ fn is_sooner(plain: bool, first: u32, at: u32) -> bool
     plain && first < at
 }
 
-// That a value may be given to a type.
+/// That a value may be given to a target of a type, as `is_given` asks.
 #[tactic(auto, using(crate::proofs::Firsts::giving))]
-fn may_give(text: Source<'_>, t: &SvType, v: &Valued) -> Result<(), Halt>
+pub fn may_give(text: Source<'_>, t: &SvType, v: &Valued) -> Result<(), Halt>
     ensures { Admits result v.now.expr (rule.is_given (source text.entry) t.now v.now) }
 {
     if !is_assignable(t, &v.expr.of) {

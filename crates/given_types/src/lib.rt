@@ -7,6 +7,6 @@ mod matching;
 mod system;
 
 pub use casts::{cast_of, converted, size_cast, with_sign};
-pub use giving::{is_given, is_streamed};
+pub use giving::{is_above, is_given, is_streamed, may_give};
 pub use matching::is_assignable;
 pub use system::clog2_of;

@@ -1,0 +1,5 @@
+pub mod Numbers
+pub mod Ranges
+pub mod Sums
+pub mod Taking
+pub mod Said
