@@ -1,0 +1,4 @@
+pub mod InExprs
+pub mod StmtLevels
+pub mod InStmts
+pub mod InDesigns

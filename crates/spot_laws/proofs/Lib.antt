@@ -1,0 +1,11 @@
+pub mod Each
+pub mod Levels
+pub mod StmtSpots
+pub mod Tells
+pub mod Exprs
+pub mod Flows
+pub mod Unrolls
+pub mod Stmts
+pub mod Tokens
+pub mod Bodies
+pub mod Breaks

@@ -1,0 +1,3 @@
+pub mod Passing
+pub mod Bodies
+pub mod Whole
