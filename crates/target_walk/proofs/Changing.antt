@@ -16,7 +16,7 @@ use Rattle.lowering_laws.specs.Agreeing.{SameChanges}
 use Rattle.lowering_laws.specs.Reached.{pieces_put, IsWritten}
 use Rattle.lowering_laws.proofs.Changes.{path-changes}
 use Rattle.target_flatten.specs.declared.writes.Image.{Image}
-use Rattle.target_flatten.specs.declared.writes.Write.{Write}
+use Rattle.target_walk.specs.declared.never.Targets.{Targets}
 use Rattle.target_flatten.specs.Writing.{pieces}
 use Rattle.target_walk.specs.declared.given.Given.{Given}
 use Rattle.target_walk.specs.Changing.{ChangesAs}
@@ -64,21 +64,21 @@ path-puts w bits a sc v e gs part (of_part x from l r hs b is typed rest) = puts
 path-puts w bits a sc v e gs part (of_slide x from i n up g hs b is number typed fits rest) = puts-by x _ (same-Slide x from i n up is) (slide-puts _ _ (meaning from) (meaning i) n up)
 
 -- so targets that write the path change its image
-pub changes-as : (im : Image) (e : Expr) (gs : List Given) (xs : List Write) → FlattensTo im e gs xs → ChangesAs im e gs xs
-changes-as im e gs xs flattens ims r a sc v part shown vector small bits one room typed path =
+pub changes-as : (im : Image) (e : Expr) (gs : List Given) (x : Targets) → FlattensTo im e gs x → ChangesAs im e gs x.writes
+changes-as im e gs x flattens ims r a sc v part shown vector small bits one room typed path =
     let h = (flattens a sc v part vector small bits one room typed path).path in
     let own = steady im.room im.bits a sc v e gs part path typed in
     let m = meaning e in
-    let image = subst (λ n. IsWritten ((meaning e).window a) (S.wide (meaning e)) n (pieces xs) sc v) (sym shown.number) h in
+    let image = subst (λ n. IsWritten ((meaning e).window a) (S.wide (meaning e)) n (pieces x.writes) sc v) (sym shown.number) h in
     record {
       wide = h.wide;
       below = h.below;
       changes = λ bs long.
-          subst (λ c. SameChanges ims c (pieces_put (pieces xs) sc v (stored (meaning e).of.two_state bs)))
+          subst (λ c. SameChanges ims c (pieces_put (pieces x.writes) sc v (stored (meaning e).of.two_state bs)))
           (sym (path-puts im.room im.bits a sc v e gs part path a bs ∙ ap (λ o. written_at o ((meaning e).window a) (stored (meaning e).of.two_state bs)) shown.root))
-          (path-changes ims shown.distinct (meaning e) a r shown.some (pieces xs) sc v own.tight shown.converted image bs long);
+          (path-changes ims shown.distinct (meaning e) a r shown.some (pieces x.writes) sc v own.tight shown.converted image bs long);
     }
 
-pub changes-all : (im : Image) (e : Expr) (gs : List Given) (q : Result (List Write) AllocError) → IfOk q (FlattensTo im e gs) → IfOk q (ChangesAs im e gs)
-changes-all im e gs (Ok xs) h = changes-as im e gs xs h
+pub changes-all : (im : Image) (e : Expr) (gs : List Given) (q : Result Targets AllocError) → IfOk q (FlattensTo im e gs) → IfOk q (λ x. ChangesAs im e gs x.writes)
+changes-all im e gs (Ok x) h = changes-as im e gs x h
 changes-all im e gs (Err x) h = tt

@@ -32,8 +32,9 @@ use Rattle.target_flatten.specs.Writing.{piece as write_piece, pieces, WritesPat
 use Rattle.target_flatten.proofs.Naming.{both-guards, same-middle}
 use Rattle.target_walk.specs.declared.given.Given.{Given}
 use Rattle.target_walk.specs.declared.given.Given.TheVariants as G
+use Rattle.target_walk.specs.declared.never.Targets.{Targets}
 use Rattle.target_walk.specs.Giving.{all_names, given_names}
-use Rattle.target_walk.specs.Naming.{NamesAlso, IsNever, is_lowered, has_lowered, AddsNever, Names, NamesFrom, all_piece_names, Flattened, FlattensTo}
+use Rattle.target_walk.specs.Naming.{NamesAlso, IsNever, is_lowered, has_lowered, NamedApart, NamesFrom, all_piece_names, apart_names, Flattened, FlattensTo}
 use Rattle.target_walk.specs.Walking.{WritesAll}
 use Rattle.target_walk.proofs.Taking.{Steady, steady}
 
@@ -113,70 +114,45 @@ each-all : (ns : List ℕ) (p : Piece) (ps : List Piece) (sc : Scope) → EachNa
 each-all ns p [] sc h = same-then ns (piece_names p sc) (piece_names p sc ++ []) h.0 (same-by (piece_names p sc) (piece_names p sc ++ []) (sym (append-nil (piece_names p sc))))
 each-all ns p (q ∷ ps) sc h = same-twice ns (piece_names p sc) (all_piece_names (q ∷ ps) sc) h.0 (each-all ns q ps sc h.1)
 
--- A target that is never written.
-module _ (im : Image) (gs : List Given) (e : Expr) (xs : List Write) (adds : AddsNever im gs [] xs) (a : Around) (sc : Scope) (v : Valuation) (vector : IsVectorOf im.name im.bits sc) (small : im.bits < 2 ^ 32)
-    (bits : 1 ≤ im.bits) (own : Steady (meaning e) a) where
-  abbrev piece : Piece
-  piece = record { guard = Some adds.guard; to = target adds.to; low = 0; width = 1 }
-
-  abbrev first : S.Meaning
-  first = record (meaning e) { of = record (meaning e).of { two_state = false ∷ [] }; window = λ (b : Around). part (pos 0) 1 (whole im.bits) }
-
-  first-wide : (target adds.to).width sc ≡ 1
-  first-wide =
-      let aim : IsAimed im.name im.bits 1 first a sc = record { wide = refl; some = omega arith; stays = stays-of (part (pos 0) 1 (whole im.bits)) 1 (part-tight (pos 0) 1 (whole im.bits)); vector = vector; small = small } in
-      let known : IsKnown first a 0 im.bits = record { names = λ j less. picked-part 0 1 (whole im.bits) j less; fits = omega arith } in
-      (adds.first first a sc v aim known).wide.0
-
-  never-put : (bs : List Bit4) (q : Place) → pieces_put (piece ∷ []) sc v bs q ≡ pieces_put [] sc v bs q
-  never-put bs q = (λ i. later (cond (adds.never.never sc v i) (piece.to.puts sc v (take 1 (drop 0 bs))) unchanged q))
-    where
-      later : Option Bit4 → Option Bit4
-      later o = later_or None o
-
-  pub never-written : IsWritten ((meaning e).window a) (S.wide (meaning e)) (named sc.names im.name).number [] sc v → IsWritten ((meaning e).window a) (S.wide (meaning e)) (named sc.names im.name).number (piece ∷ []) sc v
-  never-written h = record {
-    wide = (first-wide, tt);
-    below = ((let some = own.some in omega arith), tt);
-    puts = λ bs long q. never-put bs q ∙ h.puts bs long q;
-  }
-
 -- what is written in the end
-flattened-some : (im : Image) (e : Expr) (gs : List Given) (y : Write) (ys xs : List Write) → WritesAll im e gs (y ∷ ys) → Names im gs (y ∷ ys) xs → FlattensTo im e gs xs
-flattened-some im e gs y ys xs writes names a sc v p vector small bits one room typed path =
+flattened-some : (im : Image) (e : Expr) (gs : List Given) (y : Write) (ys : List Write) (r : Targets) → WritesAll im e gs (y ∷ ys) → r.writes ≡ y ∷ ys → r.named ≡ None → FlattensTo im e gs r
+flattened-some im e gs y ys r writes all none a sc v p vector small bits one room typed path =
     let h = writes p a sc v vector small one room typed path in
-    subst (λ (zs : List Write). Flattened im e gs zs a sc v) (sym names) (record { path = h.path; names = each-all (all_names gs sc) (write_piece y) (pieces ys) sc h.names })
+    let ns = all_piece_names (pieces (y ∷ ys)) sc in
+    let names : SameNumbers (all_names gs sc) (all_piece_names (pieces (y ∷ ys)) sc ++ []) =
+    same-then (all_names gs sc) (all_piece_names (pieces (y ∷ ys)) sc) (all_piece_names (pieces (y ∷ ys)) sc ++ []) (each-all (all_names gs sc) (write_piece y) (pieces ys) sc h.names)
+    (same-by ns (ns ++ []) (sym (append-nil ns))) in
+    record {
+      path = subst (λ (zs : List Write). WritesPath im.name (meaning e) a (pieces zs) sc v) (sym all) h.path;
+      names = subst (λ (zs : List Write). SameNumbers (all_names gs sc) (all_piece_names (pieces zs) sc ++ apart_names r.named sc)) (sym all)
+          (subst (λ (o : Option VExpr). SameNumbers (all_names gs sc) (all_piece_names (pieces (y ∷ ys)) sc ++ apart_names o sc)) (sym none) names);
+    }
 
-flattened-none : (im : Image) (e : Expr) (gs : List Given) (xs : List Write) → WritesAll im e gs [] → Names im gs [] xs → FlattensTo im e gs xs
-flattened-none im e gs xs writes names a sc v p vector small bits one room typed path =
-    by (has_lowered gs) refl
-  where
-    by : (b : Bool) → has_lowered gs ≡ b → Flattened im e gs xs a sc v
-    by false none =
-        let h = writes p a sc v vector small one room typed path in
-        subst (λ (zs : List Write). Flattened im e gs zs a sc v) (sym (names.0 none)) (record { path = h.path; names = same-by (all_names gs sc) [] (none-lowered gs sc none) })
-    by true some =
-        let h = writes p a sc v vector small one room typed path in
-        let own = steady im.room im.bits a sc v e gs p path typed in
-        let adds = names.1 some in
-        let all = (names.1 some).is in
-        record {
-          path = subst (λ ps. WritesPath im.name (meaning e) a ps sc v) (sym all) (never-written im gs e xs (names.1 some) a sc v vector small bits own h.path);
-          names = subst (λ ps. SameNumbers (all_names gs sc) (all_piece_names ps sc)) (sym all)
-              (same-then (all_names gs sc) ((names.1 some).guard.names sc) (((names.1 some).guard.names sc ++ (target (names.1 some).to).names sc) ++ []) ((names.1 some).never.names sc)
-              (same-by ((names.1 some).guard.names sc) (((names.1 some).guard.names sc ++ (target (names.1 some).to).names sc) ++ [])
-              (sym (append-nil ((names.1 some).guard.names sc ++ (target (names.1 some).to).names sc) ∙ ap (λ (l : List ℕ). (names.1 some).guard.names sc ++ l) ((names.1 some).other sc) ∙ append-nil ((names.1 some).guard.names sc)))));
-        }
+none-apart : (gs : List Given) (y : Write) (ys : List Write) (o : Option VExpr) → NamedApart gs (y ∷ ys) o → o ≡ None
+none-apart gs y ys None h = refl
+none-apart gs y ys (Some m) h = absurd h
 
-pub flattened : (im : Image) (e : Expr) (gs : List Given) (r : Result (List Write) AllocError) (xs : List Write) → IfOk r (WritesAll im e gs) → NamesFrom im gs r xs → FlattensTo im e gs xs
-flattened im e gs (Err x) xs writes names = absurd names
-flattened im e gs (Ok (y ∷ ys)) xs writes names = flattened-some im e gs y ys xs writes names
-flattened im e gs (Ok []) xs writes names = flattened-none im e gs xs writes names
+apart-named : (gs : List Given) (o : Option VExpr) (sc : Scope) → NamedApart gs [] o → SameNumbers (all_names gs sc) (apart_names o sc)
+apart-named gs None sc none = same-by (all_names gs sc) [] (none-lowered gs sc none)
+apart-named gs (Some m) sc never = never.names sc
+
+flattened-none : (im : Image) (e : Expr) (gs : List Given) (r : Targets) → WritesAll im e gs [] → r.writes ≡ [] → NamedApart gs [] r.named → FlattensTo im e gs r
+flattened-none im e gs r writes all apart a sc v p vector small bits one room typed path =
+    let h = writes p a sc v vector small one room typed path in
+    record {
+      path = subst (λ (zs : List Write). WritesPath im.name (meaning e) a (pieces zs) sc v) (sym all) h.path;
+      names = subst (λ (zs : List Write). SameNumbers (all_names gs sc) (all_piece_names (pieces zs) sc ++ apart_names r.named sc)) (sym all) (apart-named gs r.named sc apart);
+    }
+
+pub flattened : (im : Image) (e : Expr) (gs : List Given) (q : Result (List Write) AllocError) (r : Targets) → IfOk q (WritesAll im e gs) → NamesFrom gs q r → FlattensTo im e gs r
+flattened im e gs (Err x) r writes names = absurd names
+flattened im e gs (Ok (y ∷ ys)) r writes names = flattened-some im e gs y ys r writes names.0 (none-apart gs y ys r.named names.1)
+flattened im e gs (Ok []) r writes names = flattened-none im e gs r writes names.0 names.1
 
 -- and from what may want memory
-pub flattened-all : (im : Image) (e : Expr) (gs : List Given) (r q : Result (List Write) AllocError) → IfOk r (WritesAll im e gs) → IfOk q (NamesFrom im gs r) → IfOk q (FlattensTo im e gs)
-flattened-all im e gs r (Ok xs) writes names = flattened im e gs r xs writes names
-flattened-all im e gs r (Err x) writes names = tt
+pub flattened-all : (im : Image) (e : Expr) (gs : List Given) (q : Result (List Write) AllocError) (r : Result Targets AllocError) → IfOk q (WritesAll im e gs) → IfOk r (NamesFrom gs q) → IfOk r (FlattensTo im e gs)
+flattened-all im e gs q (Ok x) writes names = flattened im e gs q x writes names
+flattened-all im e gs q (Err x) writes names = tt
 
 -- a list of indices from one on
 pub at-front : (gs : List Given) (i : ℕ) (g : Given) → i < length gs → g ≡ get_or gs i g → drop i gs ≡ g ∷ drop (i + 1) gs

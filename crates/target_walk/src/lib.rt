@@ -9,5 +9,6 @@ mod room;
 mod standing;
 
 pub use given::{Given, are_small};
+pub use never::Targets;
 pub use paths::flatten_target;
 pub use room::room_of;

@@ -1,16 +1,16 @@
 //! What is named by a path of which nothing is written (IEEE 1800-2017 clause 9.4.2.2).
 
-ghost use Rattle.std.specs.Prelude.{◌≡◌, [], ◌∷◌, IfOk, OnOk};
+ghost use Rattle.std.specs.Prelude.{◌≡◌, [], ◌∷◌, IfOk};
 ghost use Rattle.b4_core.specs.declared.bit.Bit4.TheVariants.{Zero};
 ghost use Rattle.v_meaning.specs.Values as means;
 ghost use Rattle.v_meaning.specs.Values.{meaning};
-ghost use Rattle.target_walk.specs.Naming.{IsNever, NamesAlso, is_lowered, has_lowered, AddsNever, NamesFrom};
+ghost use Rattle.target_walk.specs.Naming.{IsNever, NamesAlso, is_lowered, has_lowered, NamesFrom};
 
 use crate::given::Given;
 use b4_core::{Bit4, Vec4};
 use path_flatten::copy_expr;
 use std::alloc::{AllocError, Global};
-use target_flatten::{Image, Write, Writes, known_target};
+use target_flatten::Writes;
 use v_build::{both, literal};
 use v_tree::VExpr;
 
@@ -73,37 +73,33 @@ fn any_lowered(indices: &[Given]) -> bool
     false
 }
 
-/// A target that is never written, and names what indices do.
-fn add_never(
-    alloc: Global,
-    image: &Image,
-    indices: &[Given],
-    writes: &mut Writes,
-) -> Result<(), AllocError>
-    ensures { OnOk result (AddsNever image.now indices.now writes.old writes.new) }
-{
-    let to = known_target(alloc, &image.name, image.bits, 0, 1);
-    let (to, guard) = pairs::both(to, naming(alloc, indices))?;
-    writes.push(Write {
-        guard: Some(guard),
-        to,
-        low: 0,
-        width: 1,
-    })
+/// Targets for a path.
+#[derive(Drop)]
+pub struct Targets {
+    /// The targets, all of whose guards and indices are valued before the first one is written.
+    pub writes: Writes,
+    /// What names lowered indices where nothing is written: an expression that never holds, for an `if` without a statement.
+    pub named: Option<VExpr>,
 }
 
-/// What is written, with a target besides that names what indices do where nothing else does.
+/// What is written, and what names the indices where nothing is.
 pub(crate) fn with_names(
     alloc: Global,
-    image: &Image,
     indices: &[Given],
     writes: Result<Writes, AllocError>,
-) -> Result<Writes, AllocError>
-    ensures { IfOk result (NamesFrom image.now indices.now writes) }
+) -> Result<Targets, AllocError>
+    ensures { IfOk result (NamesFrom indices.now writes) }
 {
-    let mut writes = writes?;
+    let writes = writes?;
     if writes.is_empty() && any_lowered(indices) {
-        add_never(alloc, image, indices, &mut writes)?;
+        let (writes, named) = pairs::both(Ok(writes), naming(alloc, indices))?;
+        return Ok(Targets {
+            writes,
+            named: Some(named),
+        });
     }
-    Ok(writes)
+    Ok(Targets {
+        writes,
+        named: None,
+    })
 }

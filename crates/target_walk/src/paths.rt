@@ -9,7 +9,7 @@ ghost use Rattle.target_walk.specs.Changing.{ChangesAs};
 
 use crate::cells::cells;
 use crate::given::Given;
-use crate::never::with_names;
+use crate::never::{Targets, with_names};
 use crate::standing::spot_at;
 use eval_parts::{Step, step_of};
 use std::alloc::{AllocError, Global};
@@ -73,18 +73,19 @@ fn path_writes(
 }
 
 /// Targets for a select path, all of whose guards and indices are valued before the first one is written. The indices are those
-/// of the path's `[i]`, `[i +: n]` and `[i -: n]`, the last step's first. Or want of memory.
+/// of the path's `[i]`, `[i +: n]` and `[i -: n]`, the last step's first. Where nothing is written, an expression names what lowered
+/// indices do. Or want of memory.
 pub fn flatten_target(
     alloc: Global,
     image: &Image,
     e: &Expr,
     indices: &[Given],
-) -> Result<Writes, AllocError>
+) -> Result<Targets, AllocError>
     requires narrow { (meaning e.now).widest ≤ 4194304 }
     requires room { image.now.room ≤ 128 }
     requires small { AllSmall indices.now }
     ensures writes { IfOk result (FlattensTo image.now e.now indices.now) }
-    ensures changes { IfOk result (ChangesAs image.now e.now indices.now) }
+    ensures changes { IfOk result (λ r. ChangesAs image.now e.now indices.now r.writes) }
 {
-    with_names(alloc, image, indices, path_writes(alloc, image, e, indices))
+    with_names(alloc, indices, path_writes(alloc, image, e, indices))
 }

@@ -1,0 +1,5 @@
+pub mod Following
+pub mod Making
+pub mod Standing
+pub mod Stepping
+pub mod Parting

@@ -1,0 +1,124 @@
+-- What is made of indices stands for them.
+use Rattle.std.proofs.Common.{◌≡◌, ℕ, ◌≤◌, Bool, false, ℤ, pos, ◌+ℤ◌, List, [], ◌∷◌, Option, Some, None, refl, arith, ap, sym, ◌∙◌, subst}
+use Rattle.std.proofs.lemmas.Int.{ints}
+use Rattle.row_machine.specs.Valuation.{Valuation}
+use Rattle.sv_types.specs.declared.expression.Expr.{Expr}
+use Rattle.sv_types.specs.declared.statement.Function.{Function}
+use Rattle.sv_types.specs.declared.types.SvType.{SvType}
+use Rattle.sv_types.specs.Layouts.{layout}
+use Rattle.sv_types.specs.Surroundings.{Around}
+use Rattle.sv_types.specs.Meanings as S
+use Rattle.sv_types.specs.Paths as P
+use Rattle.sv_types.specs.Expressions.{meaning}
+use Rattle.sv_types.proofs.ValueLengths.{length-value}
+use Rattle.sv_types.proofs.Widths.{has-bits}
+use Rattle.v_tree.specs.declared.names.Helper.{Helper}
+use Rattle.v_tree.specs.declared.names.NameMap.{NameMap}
+use Rattle.v_meaning.specs.Scopes.{Scope}
+use Rattle.eval_parts.proofs.Selecting.{same-Member, same-Index, same-Part, same-Slide}
+use Rattle.lowering_laws.specs.Agreeing.{Images, Agree}
+use Rattle.lowering_laws.specs.NamedImages.{AreImages}
+use Rattle.lowering_laws.proofs.Wholes.{member-typed, index-typed, sliding-typed}
+use Rattle.path_flatten.specs.declared.offsets.Index.{Index}
+use Rattle.path_flatten.specs.Helping.{EachHelps, Grows}
+use Rattle.path_flatten.specs.Sliding.{IsIndexOf}
+use Rattle.path_flatten.proofs.Helping.{helps-before}
+use Rattle.target_lower.specs.Given.{Pairwise, IsGivenFor, NamesAs, AreGivenFor, AllNameAs}
+use Rattle.typed_paths.specs.Typed.{Indexing, IsTypedPath, of_signal, of_local, of_member, of_index, of_part, of_slide}
+use Rattle.typed_paths.proofs.Marking.{part-marks}
+use Rattle.target_laws.specs.Distances.{moved_by}
+use Rattle.target_walk.specs.declared.given.Given.{Given}
+use Rattle.target_walk.specs.declared.given.Given.TheVariants as G
+use Rattle.target_walk.specs.Giving.{IsGiven, given_names}
+use Rattle.expr_lower.specs.Leaves.{Leaf, leaves, Each}
+use Rattle.expr_lower.specs.Lowering.{LeafStands}
+use Rattle.expr_lower.specs.Paths.{Indexes}
+use Rattle.expr_lower.proofs.AskedLeaves.{off, off-left, off-right, leaves-Member, leaves-Index, leaves-Part, leaves-Slide}
+use Rattle.target_lower.specs.Made.{StandsForIndex, IsMade, AreMade}
+
+-- more helpers
+indexes-more : (names : NameMap) (fs : List Function) (old new : List Helper) (i : Expr) (x : Index) → Grows old new → Indexes names fs old i x → Indexes names fs new i x
+indexes-more names fs old new i x grows h = record { width = h.width; sign = h.sign; lowers = λ im a sc all helps. h.lowers im a sc all (helps-before old new sc grows helps) }
+
+stands-more : (names : NameMap) (fs : List Function) (old new : List Helper) (i : Expr) (g : Given) → Grows old new → StandsForIndex names fs old i g → StandsForIndex names fs new i g
+stands-more names fs old new i (G.Known k) grows h = h
+stands-more names fs old new i (G.Lowered x d) grows h = (indexes-more names fs old new i x grows h.0, h.1)
+
+pub made-more : (names : NameMap) (fs : List Function) (old new : List Helper) (x : Indexing) (g : Given) → Grows old new → IsMade names fs old x g → IsMade names fs new x g
+made-more names fs old new x g grows h = record { stands = stands-more names fs old new x.index g grows h.stands; known_in = h.known_in }
+
+-- one index
+module _ (names : NameMap) (fs : List Function) (hs : List Helper) (im : Images) (a : Around) (sc : Scope) (helps : EachHelps hs sc) where
+  index-of : (i : Expr) (x : Index) → Indexes names fs hs i x → 1 ≤ S.wide (meaning i) → Each (LeafStands names fs im a sc) (leaves i) → (now v : Valuation) → Agree im now v
+      → IsIndexOf x (meaning i) (record a { now = now }) sc v
+  index-of i x h some all now v agree = record {
+    width = h.width;
+    sign = sym h.sign;
+    some = some;
+    long = length-value i (S.wide (meaning i)) (S.signed (meaning i)) (record a { now = now });
+    same = (h.lowers im a sc all helps).stands now v agree;
+  }
+
+  moved-none : (z : Option ℤ) → moved_by z (pos 0) ≡ z
+  moved-none None = refl
+  moved-none (Some k) = (let same : k +ℤ pos 0 ≡ k = omega (arith, ints) in ap Some same)
+
+  given-number : (i : Expr) (g : Given) → (meaning i).misfits ≡ 0 → Each (LeafStands names fs im a sc) (leaves i) → StandsForIndex names fs hs i g → (now v : Valuation) → Agree im now v
+      → IsGiven g (P.index_of (meaning i) (record a { now = now })) sc v
+  given-number i (G.Known k) typed all h now v agree = sym (h.number (record a { now = now }))
+  given-number i (G.Lowered x d) typed all h now v agree =
+      let b : Around = record a { now = now } in (
+        P.index_of (meaning i) b,
+        record { index = meaning i; around = b; is = index-of i x h.0 (has-bits i typed) all now v agree; number = refl },
+        ap (moved_by (P.index_of (meaning i) b)) h.1 ∙ moved-none (P.index_of (meaning i) b),
+      )
+
+  no-images : AreImages im.number [] []
+  no-images = record { all = λ n k. absurd k; only = λ q k. absurd k }
+
+  given-named : (i : Expr) (g : Given) → Each (LeafStands names fs im a sc) (leaves i) → StandsForIndex names fs hs i g → AreImages im.number (meaning i).names (given_names g sc)
+  given-named i (G.Known k) all h = subst (λ l. AreImages im.number l []) (sym h.none) no-images
+  given-named i (G.Lowered x d) all h = (h.0.lowers im a sc all helps).names
+
+-- all indices of a path, one by one
+module _ (L : Leaf → Type 0) (Made Wanted : Indexing → Given → Type 0)
+    (makes : (x : Indexing) (g : Given) → (meaning x.index).misfits ≡ 0 → Each L (leaves x.index) → Made x g → Wanted x g) (number : ℕ) (t : SvType) where
+  misfits-at : (e : Expr) (m : S.Meaning) → meaning e ≡ m → (meaning e).misfits ≡ 0 → m.misfits ≡ 0
+  misfits-at e m same typed = ap (λ (x : S.Meaning). x.misfits) (sym same) ∙ typed
+
+  all-made : (e : Expr) (xs : List Indexing) (part : Bool) (gs : List Given) → IsTypedPath number t e xs part → (meaning e).misfits ≡ 0 → Each L (leaves e) → Pairwise Made xs gs → Pairwise Wanted xs gs
+  all-made e xs part [] (of_signal y n is it of) typed all made = tt
+  all-made e xs part (g ∷ gs) (of_signal y n is it of) typed all made = absurd made
+  all-made e xs part [] (of_local y n is it of) typed all made = tt
+  all-made e xs part (g ∷ gs) (of_local y n is it of) typed all made = absurd made
+  all-made e xs part gs (of_member y from k ys is path) typed all made =
+      let below = (member-typed (layout y.of) y.spot.at (meaning from) k (misfits-at y _ (same-Member y from k is) typed)).step.typed_from in
+      all-made from ys false gs path below (off L (leaves from) (subst (Each L) (leaves-Member y from k is) all)) made
+  all-made e xs part [] (of_index y from i ys b is has path) typed all made = absurd made
+  all-made e xs part (g ∷ gs) (of_index y from i ys b is has path) typed all made =
+      let own = index-typed (layout y.of) y.spot.at (meaning from) (meaning i) (misfits-at y _ (same-Index y from i is) typed) in
+      let both = subst (Each L) (leaves-Index y from i is) all in
+      (makes (record { index = i; in_part = b }) g own.1 (off-right L from i both) made.0, all-made from ys b gs path own.0.typed_from (off-left L from i both) made.1)
+  all-made e xs part gs (of_part y from left right ys b is has bounds path) typed all made =
+      let below = (part-marks (layout y.of) y.spot.at (meaning from) left right (misfits-at y _ (same-Part y from left right is) typed)).typed in
+      all-made from ys b gs path below (off L (leaves from) (subst (Each L) (leaves-Part y from left right is) all)) made
+  all-made e xs part [] (of_slide y from i n up ys b is has bounds path) typed all made = absurd made
+  all-made e xs part (g ∷ gs) (of_slide y from i n up ys b is has bounds path) typed all made =
+      let own = sliding-typed (layout y.of) y.spot.at (meaning from) (meaning i) n up (misfits-at y _ (same-Slide y from i n up is) typed) in
+      let both = subst (Each L) (leaves-Slide y from i n up is) all in
+      (makes (record { index = i; in_part = b }) g own.1 (off-right L from i both) made.0, all-made from ys b gs path own.0.typed_from (off-left L from i both) made.1)
+
+module _ (names : NameMap) (fs : List Function) (hs : List Helper) (im : Images) (a : Around) (sc : Scope) (helps : EachHelps hs sc) (number : ℕ) (t : SvType) (e : Expr) (xs : List Indexing) (part : Bool)
+    (gs : List Given) (path : IsTypedPath number t e xs part) (typed : (meaning e).misfits ≡ 0) (all : Each (LeafStands names fs im a sc) (leaves e)) (made : AreMade names fs hs xs gs) where
+  -- they have their numbers
+  pub made-given : (now v : Valuation) → Agree im now v → AreGivenFor xs gs (record a { now = now }) sc v
+  made-given now v agree =
+      all-made (LeafStands names fs im a sc) (IsMade names fs hs) (λ x g. IsGivenFor x g (record a { now = now }) sc v)
+      (λ x g fits own h. record { number = given-number names fs hs im a sc helps x.index g fits own h.stands now v agree; known_in = h.known_in })
+      number t e xs part gs path typed all made
+
+  -- and name what they name
+  pub made-named : AllNameAs im.number xs gs sc
+  made-named =
+      all-made (LeafStands names fs im a sc) (IsMade names fs hs) (λ x g. NamesAs im.number x g sc)
+      (λ x g fits own h. given-named names fs hs im a sc helps x.index g own h.stands) number t e xs part gs path typed all made

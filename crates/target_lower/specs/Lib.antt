@@ -1,0 +1,4 @@
+pub mod Given
+pub mod Made
+pub mod Roots
+pub mod Targets

@@ -1,0 +1,67 @@
+//! Targets for select paths of an elaborated design.
+
+ghost use Rattle.std.specs.Prelude.{◌≤◌, IfOk, OnOk};
+ghost use Rattle.sv_types.specs.Expressions.{meaning};
+ghost use Rattle.eval_parts.specs.Limits.{FitsAlone};
+ghost use Rattle.eval_forms.specs.Callees.{formals_in, AllFunctionsFit};
+ghost use Rattle.path_flatten.specs.Helping.{Grows};
+ghost use Rattle.target_walk.specs.Giving.{AllSmall};
+ghost use Rattle.expr_lower.specs.Leaves.{leaves, Each, IsLowered};
+ghost use Rattle.typed_paths.specs.Typed.{IsTyped};
+ghost use Rattle.target_lower.specs.Roots.{IsInImage};
+ghost use Rattle.target_lower.specs.Targets.{LowersIf};
+
+use crate::indices::{Indices, put_indices};
+use crate::roots::{name_of, root_of};
+use path_flatten::Helpers;
+use std::alloc::{AllocError, Global};
+use sv_types::{Expr, Function};
+use target_flatten::Image;
+use target_walk::{Given, Targets, flatten_target, room_of};
+use v_tree::NameMap;
+
+/// Targets for a path with these indices, in the image of what it stands on.
+fn targets(
+    alloc: Global,
+    names: &NameMap,
+    e: &Expr,
+    indices: &[Given],
+) -> Result<Targets, AllocError>
+    requires narrow { (meaning e.now).widest ≤ 4194304 }
+    requires small { AllSmall indices.now }
+    ensures { IfOk result (IsInImage names.now e.now indices.now) }
+{
+    let root = root_of(e);
+    let name = name_of(alloc, names, root.held)?;
+    let image = Image {
+        name,
+        bits: root.bits,
+        room: room_of(e, indices, root.bits),
+    };
+    flatten_target(alloc, &image, e, indices)
+}
+
+/// Targets for a select path that is written, all of whose guards and indices are valued before the first one is written, by calls
+/// of some helpers more; or nothing, which comes only where an index selects from a part-select, and its number isn't known. Or want
+/// of memory.
+pub fn lower_target(
+    alloc: Global,
+    names: &NameMap,
+    functions: &[Function],
+    e: &Expr,
+    helpers: &mut Helpers,
+) -> Result<Option<Targets>, AllocError>
+    requires functions { AllFunctionsFit functions.now }
+    requires built { Each IsLowered (leaves e.now) }
+    requires fits { FitsAlone (meaning e.now) (formals_in functions.now) }
+    requires typed { IsTyped e.now }
+    ensures grows { OnOk result (Grows helpers.old helpers.new) }
+    ensures lowers { IfOk result (LowersIf names.now functions.now helpers.new e.now) }
+{
+    let mut indices = Indices::new(alloc);
+    if !put_indices(alloc, names, functions, e, helpers, &mut indices)? {
+        return Ok(None);
+    }
+    let made = targets(alloc, names, e, indices.as_slice())?;
+    Ok(Some(made))
+}
