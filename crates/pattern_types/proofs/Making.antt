@@ -1,6 +1,6 @@
 -- What is made, step by step.
-use Rattle.std.proofs.Common.{subst, ◌≡◌, ◌<◌, ◌≤◌, ℕ, zero, suc, ◌+◌, ◌-◌, ◌%◌, max, Bool, true, false, not, cond, List, [], ◌∷◌, ◌++◌, length, map, replicate, drop, Option, Some, None, refl, arith, ap, sym, ◌∙◌, append_assoc, append-nil}
-use Rattle.std.specs.Prelude.{Result, Ok, Err, slice_get, zip}
+use Rattle.std.proofs.Common.{subst, ◌≡◌, ℕ, zero, suc, ◌%◌, max, Bool, true, false, not, cond, List, [], ◌∷◌, ◌++◌, length, map, Option, Some, None, refl, ap, sym, ◌∙◌, append_assoc, append-nil}
+use Rattle.std.specs.Prelude.{Result, Ok, Err, slice_get}
 use Rattle.sv_types.specs.declared.expression.Expr.{Expr}
 use Rattle.sv_types.specs.declared.expression.Form.TheVariants as F
 use Rattle.sv_types.specs.declared.types.SvType.{SvType}
@@ -34,7 +34,7 @@ use Rattle.pattern_types.specs.Reasons.{break_at}
 use Rattle.pattern_types.proofs.Levels.{operand-Pattern, operand-Plain, operand-Stream}
 use Rattle.pattern_types.proofs.Leaves.{spread-level}
 use Rattle.pattern_types.proofs.Numbers.{default-at, default-is, first_default, keyed-at}
-use Rattle.pattern_laws.proofs.Reasons.{where-fine, whole-ok}
+use Rattle.pattern_laws.proofs.Reasons.{where-fine}
 use Rattle.pattern_laws.proofs.Whole.{all-behind, all-first}
 
 -- a value that is whole where it is given is given as it stands

@@ -221,7 +221,14 @@ fn build_place(
         None => Err(Halt::Quiet),
         Some(item) => match take {
             PatternItem::Item(_) => build_value(alloc, text, t, &item.value),
-            PatternItem::Default => build_default(alloc, text, p.tick, t, &taking.rest, &item.value),
+            PatternItem::Default => build_default(
+                alloc,
+                text,
+                p.tick,
+                t,
+                &taking.rest,
+                &item.value,
+            ),
             PatternItem::Spread => build_default(alloc, text, p.tick, t, &taking.rest, &item.value),
         },
     }

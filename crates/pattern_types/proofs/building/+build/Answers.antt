@@ -1,13 +1,12 @@
-use Rattle.std.proofs.Common.{◌≡◌, ◌<◌, ◌≤◌, ◌+◌, ◌-◌, Err, List, arith, drop, get_or, length, map, refl, replicate, rules, ap, sym, ◌∙◌, subst}
-use Rattle.std.proofs.lemmas.Result.{err_from_is_err_and}
+use Rattle.std.proofs.Common.{◌≡◌, ◌+◌, ◌-◌, List, arith, drop, get_or, length, refl, replicate, rules, ap, sym, ◌∙◌}
 use Rattle.std.specs.Prelude.{zip}
 use Rattle.pattern_fit.specs.declared.pattern.PatternItem.{PatternItem}
-use Rattle.expr_type.specs.Answers.{Gives, source}
+use Rattle.expr_type.specs.Answers.{source}
 use Rattle.expr_type.specs.Patterns.{made, types_in}
 use Rattle.pattern_types.specs.Filling.{spread_of}
 use Rattle.pattern_types.specs.Leaves.{member_types}
 use Rattle.pattern_types.specs.Meaning.{fitted_in, items_in, operand_of, parts_in, pattern_of, tick_of, written_items}
-use Rattle.pattern_types.proofs.Fitting.{halts-so, taking-builds, taking-fills, taking-length}
+use Rattle.pattern_types.proofs.Fitting.{taking-builds, taking-fills, taking-length}
 use Rattle.pattern_types.proofs.Fronts.{copies-left, copy-front, counted, element-front, elements-left, member-front, members-left, type-front, types-left}
 use Rattle.pattern_types.proofs.Levels.{types-Enum, types-PackedArray, types-Scalar, types-Struct, types-Union, types-UnpackedArray}
 use Rattle.sv_types.specs.declared.types.SvType.{the_lemmas}
@@ -151,19 +150,25 @@ build_place-returns-in-Spread t c =
     gives-same c.build_default-in-Spread.result _ _ (sym (placed-spread (source c.args.text) (parts_in c.args.p) c.args.taking.now c.args.take c.args.t.now _ c.requires.fills c.in-Spread.is c.in-Some.ensures)) c.build_default-in-Spread.ensures
 
 pub build_default-spread_members-items-requires : goal.build_default-spread_members-items-requires
-build_default-spread_members-items-requires t c =
-    (search (rules, the_lemmas), spread-all (source c.args.text) c.args.tick c.args.rest.now (operand_of (source c.args.text) c.args.v.now) c.args.t.now (member_types c.as_slice.result.now) (sym c.takes_itself.ensures ∙ c.if-takes_itself.false)
-    (ap types_in c.in-Struct.is ∙ types-Struct _ _ _ c.in-Struct.members ∙ sym (ap member_types c.as_slice.ensures)) c.requires)
+build_default-spread_members-items-requires t c = (
+  search (rules, the_lemmas),
+  spread-all (source c.args.text) c.args.tick c.args.rest.now (operand_of (source c.args.text) c.args.v.now) c.args.t.now (member_types c.as_slice.result.now) (sym c.takes_itself.ensures ∙ c.if-takes_itself.false)
+      (ap types_in c.in-Struct.is ∙ types-Struct _ _ _ c.in-Struct.members ∙ sym (ap member_types c.as_slice.ensures)) c.requires,
+)
 
 pub build_default-spread_elements-items-requires : goal.build_default-spread_elements-items-requires
-build_default-spread_elements-items-requires t c =
-    (search (rules, the_lemmas), spread-all (source c.args.text) c.args.tick c.args.rest.now (operand_of (source c.args.text) c.args.v.now) c.args.t.now (replicate c.place_count-count.result c.get.result.now) (sym c.takes_itself.ensures ∙ c.if-takes_itself.false)
-    (counted (types_in c.args.t.now) c.in-PackedArray.item c.get.result.now _ c.place_count-count.result (ap types_in c.in-PackedArray.is ∙ types-PackedArray _ _ _ c.in-PackedArray.item) c.place_count-count.ensures c.get.ensures) c.requires)
+build_default-spread_elements-items-requires t c = (
+  search (rules, the_lemmas),
+  spread-all (source c.args.text) c.args.tick c.args.rest.now (operand_of (source c.args.text) c.args.v.now) c.args.t.now (replicate c.place_count-count.result c.get.result.now) (sym c.takes_itself.ensures ∙ c.if-takes_itself.false)
+      (counted (types_in c.args.t.now) c.in-PackedArray.item c.get.result.now _ c.place_count-count.result (ap types_in c.in-PackedArray.is ∙ types-PackedArray _ _ _ c.in-PackedArray.item) c.place_count-count.ensures c.get.ensures) c.requires,
+)
 
 pub build_default-spread_elements-items-requires-in-UnpackedArray : goal.build_default-spread_elements-items-requires-in-UnpackedArray
-build_default-spread_elements-items-requires-in-UnpackedArray t c =
-    (search (rules, the_lemmas), spread-all (source c.args.text) c.args.tick c.args.rest.now (operand_of (source c.args.text) c.args.v.now) c.args.t.now (replicate c.place_count-count-in-UnpackedArray.result c.get-in-UnpackedArray.result.now) (sym c.takes_itself.ensures ∙ c.if-takes_itself.false)
-    (counted (types_in c.args.t.now) c.in-UnpackedArray.item c.get-in-UnpackedArray.result.now _ c.place_count-count-in-UnpackedArray.result (ap types_in c.in-UnpackedArray.is ∙ types-UnpackedArray _ _ c.in-UnpackedArray.item) c.place_count-count-in-UnpackedArray.ensures c.get-in-UnpackedArray.ensures) c.requires)
+build_default-spread_elements-items-requires-in-UnpackedArray t c = (
+  search (rules, the_lemmas),
+  spread-all (source c.args.text) c.args.tick c.args.rest.now (operand_of (source c.args.text) c.args.v.now) c.args.t.now (replicate c.place_count-count-in-UnpackedArray.result c.get-in-UnpackedArray.result.now) (sym c.takes_itself.ensures ∙ c.if-takes_itself.false)
+      (counted (types_in c.args.t.now) c.in-UnpackedArray.item c.get-in-UnpackedArray.result.now _ c.place_count-count-in-UnpackedArray.result (ap types_in c.in-UnpackedArray.is ∙ types-UnpackedArray _ _ c.in-UnpackedArray.item) c.place_count-count-in-UnpackedArray.ensures c.get-in-UnpackedArray.ensures) c.requires,
+)
 
 pub build_default-returns-in-Struct : goal.build_default-returns-in-Struct
 build_default-returns-in-Struct t c =

@@ -1,4 +1,4 @@
-use Rattle.std.proofs.Common.{◌≡◌, ◌-◌, drop, length, map, replicate}
+use Rattle.std.proofs.Common.{◌-◌, drop, length, map, replicate}
 use Rattle.std.specs.Prelude.{zip}
 use Rattle.expr_type.specs.Answers.{source}
 use Rattle.expr_type.specs.Patterns.{made}
