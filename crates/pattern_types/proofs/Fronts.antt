@@ -1,7 +1,7 @@
 -- Lists that are gone over, and the members of a type with what they take.
 use Rattle.std.proofs.Common.{get_or, ◌≡◌, ◌<◌, ◌≤◌, ℕ, zero, suc, ◌+◌, ◌-◌, List, [], ◌∷◌, length, replicate, drop, refl, arith, ap, sym, ◌∙◌}
 use Rattle.std.specs.Prelude.{zip}
-use Rattle.std.proofs.lemmas.List.{drop_more}
+use Rattle.std.proofs.lemmas.List.{drop_more, length-replicate}
 use Rattle.sv_types.specs.declared.types.Member.{Member}
 use Rattle.sv_types.specs.declared.types.SvType.{SvType}
 use Rattle.pattern_fit.specs.declared.pattern.PatternItem.{PatternItem}
@@ -11,13 +11,15 @@ pub at-front : {A : Type 0} (xs : List A) (i : ℕ) (x : A) → i < length xs �
 at-front xs i x h is = drop_more xs i x h ∙ ap (λ y. y ∷ drop (i + 1) xs) (sym is)
 
 -- what is read at a place within a list
-any-default : {A : Type 0} (xs : List A) (n : ℕ) (c d : A) → n < length xs → get_or xs n c ≡ get_or xs n d
+pub any-default : {A : Type 0} (xs : List A) (n : ℕ) (c d : A) → n < length xs → get_or xs n c ≡ get_or xs n d
 any-default [] n c d h = absurd (omega arith)
 any-default (x ∷ xs) zero c d h = refl
 any-default (x ∷ xs) (suc n) c d h = any-default xs n c d (omega arith)
 
 pub read-so : {A : Type 0} (xs ys : List A) (n : ℕ) (d : A) → xs ≡ ys → n < length ys → get_or xs n d ≡ get_or ys n (get_or xs n d)
 read-so {A = A} xs ys n d e h = ap (λ (zs : List A). get_or zs n d) e ∙ any-default ys n d (get_or xs n d) h
+
+pub ruleset reading = (any-default)
 
 pub none-left : {A : Type 0} (xs : List A) (i : ℕ) → length xs ≤ i → drop i xs ≡ []
 none-left [] zero h = refl
@@ -52,6 +54,10 @@ copy-front t count n h = let e : count - n ≡ suc (count - (n + 1)) = omega ari
 
 pub copies-left : (t : SvType) (count n : ℕ) → count ≤ n → replicate (count - n) t ≡ []
 copies-left t count n h = let e : count - n ≡ 0 = omega arith in ap (λ m. replicate m t) e
+
+pub counted : (ts : List SvType) (item g : SvType) (m n : ℕ) → ts ≡ replicate m item → n ≡ length ts → g ≡ item → ts ≡ replicate n g
+counted ts item g m n h e s =
+    h ∙ ap (λ j. replicate j item) (sym (e ∙ ap (λ (us : List SvType). length us) h ∙ length-replicate m item)) ∙ ap (λ x. replicate n x) (sym s)
 
 pub zip-none : (takes : List PatternItem) (ts : List SvType) → ts ≡ [] → zip takes ts ≡ []
 zip-none [] ts h = refl

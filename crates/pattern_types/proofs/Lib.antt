@@ -6,6 +6,8 @@ pub mod Leaves
 pub mod Fitting
 pub mod Here
 pub mod Showing
+pub mod Making
+pub mod At
 pub mod Fronts
 pub mod Stepping
 pub mod Values

@@ -8,6 +8,7 @@ use Rattle.expr_type.specs.Patterns.{defaults, keyed, rest_of}
 use Rattle.pattern_types.specs.declared.operand.Item as J
 use Rattle.pattern_types.specs.declared.operand.ItemKey.{ItemKey}
 use Rattle.pattern_types.specs.Meaning.{Filled, filled, is_default, item_keys, item_of, keyed_keys, keys_of, operand_of, values_of, written_items}
+use Rattle.pattern_types.specs.Filling.{at_place}
 use Rattle.pattern_types.specs.Places.{default_from, past, rest_at}
 use Rattle.pattern_types.specs.Takes.{default_keys}
 
@@ -84,10 +85,6 @@ pub rest-is : (k : Source) (is : List J.Item) → rest_at (values_of k is) (defa
 rest-is k is = ap (rest_at (values_of k is)) (default-is (item_keys is)) ∙ rest-first k is
 
 -- where `default` stands once at most, items are found with its item and without it
-abbrev pub at_place : {A : Type 0} → List A → Option ℕ → Option A
-at_place xs None = None
-at_place xs (Some n) = slice_get xs n
-
 place-behind : {A : Type 0} (x : A) (xs : List A) (o : Option ℕ) → at_place (x ∷ xs) (behind o) ≡ at_place xs o
 place-behind x xs None = refl
 place-behind x xs (Some d) = refl

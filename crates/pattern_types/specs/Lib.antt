@@ -6,3 +6,4 @@ pub mod Takes
 pub mod Leaves
 pub mod Filling
 pub mod Named
+pub mod Giving

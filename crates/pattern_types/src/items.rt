@@ -1,12 +1,12 @@
 //! Items of patterns by their numbers, and the types of members and elements.
 
-ghost use Rattle.std.specs.Prelude.{◌≡◌, length, IfOk};
+ghost use Rattle.std.specs.Prelude.{◌≡◌, ◌<◌, length, IfOk};
 ghost use Rattle.sv_types.specs.Layouts.{count_of};
 ghost use Rattle.sv_types.specs.declared.types.SvType.{out-SvType};
 ghost use Rattle.pattern_fit.specs.Fits.{is_plain};
 ghost use Rattle.expr_type.specs.Patterns.{has_members, rest_by, takes_itself, types_in};
 ghost use Rattle.pattern_types.specs.Meaning.{is_default, item_keys, keyed_keys, operand_of, values_of};
-ghost use Rattle.pattern_types.specs.Places.{default_from, rest_at, is_scalar};
+ghost use Rattle.pattern_types.specs.Places.{default_from, past, rest_at, is_scalar};
 ghost use Rattle.expr_type.specs.Answers.{source};
 
 use crate::operand::{Item, ItemKey, Operand};
@@ -51,6 +51,17 @@ pub fn keyed_count(items: &[Item]) -> usize
         }
     }
     n
+}
+
+/// The number among all items of one that is numbered without the one behind `default`.
+pub fn past(default: Option<usize>, n: usize) -> usize
+    requires { n < 4294967296 }
+    ensures { result ≡ past default n }
+{
+    match default {
+        None => n,
+        Some(place) => { if n < place { n } else { n + 1 } }
+    }
 }
 
 // What stands behind `default`.

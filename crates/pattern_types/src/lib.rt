@@ -1,8 +1,11 @@
-//! Which rules an assignment pattern breaks that is given to a type (IEEE 1800-2017 clause 10.9), over operands that are typed already.
+//! Assignment patterns as they are typed (IEEE 1800-2017 clause 10.9), and what is given to targets, over operands that are typed
+//! already.
 #![tactic(auto)]
 
 ghost use Rattle.pattern_types.specs.Named.{FittedAsFound};
 
+mod building;
+mod giving;
 mod items;
 mod keys;
 mod looking;
@@ -11,6 +14,7 @@ mod operand;
 mod takes;
 mod wanted;
 
+pub use giving::{fitted, given, is_value, passed};
 pub use looking::{look_at_pattern, look_at_value};
 pub use looks::{Look, passes};
 pub use operand::{Item, ItemKey, Items, NameKey, Operand, Parts, listed};
