@@ -1,0 +1,15 @@
+use Rattle.std.proofs.Common.{rules, ◌≡◌, ◌∙◌, ap, sym, refl, false, ℤ, pos, None}
+use Rattle.sv_types.specs.Layouts.{layout}
+use Rattle.path_flatten.specs.declared.ranks.Rank.{Rank}
+use Rattle.memory_words.specs.Words.{lowest}
+use Rattle.memory_words.proofs.Finding.{plain-finds}
+use Rattle.memory_words.proofs.words.word_of.Goals as goal
+
+pub returns-then-lowest-eq0-clause-word : goal.returns-then-lowest-eq0-clause-word
+returns-then-lowest-eq0-clause-word c =
+    let unsigned : c.args.index.signed ≡ false = search rules in
+    let zero : lowest c.bounds_of-bounds.result ≡ pos 0 = search rules in
+    plain-finds c.args.index c.args.of.now c.bounds_of-bounds.result (record { guard = None; rank = c.args.index.expr }) c.bounds_of-bounds.ensures.left c.bounds_of-bounds.ensures.right unsigned zero refl refl
+
+pub returns-clause-word : goal.returns-clause-word
+returns-clause-word c i a sc v is = c.word_between.ensures.word (layout c.args.of.now) i a sc v (sym c.bounds_of-bounds.ensures.left) (sym c.bounds_of-bounds.ensures.right) is
