@@ -1,0 +1,12 @@
+pub mod Levels
+pub mod Keying
+pub mod Numbers
+pub mod Taking
+pub mod Leaves
+pub mod Fitting
+pub mod Here
+pub mod Showing
+pub mod Fronts
+pub mod Stepping
+pub mod Values
+pub mod Found
