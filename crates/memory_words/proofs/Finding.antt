@@ -1,5 +1,5 @@
 -- In which word an index has its element.
-use Rattle.std.proofs.Common.{◌≡◌, ℕ, suc, ◌+◌, ◌^◌, ◌<◌, ◌≤◌, Bool, true, false, cond, ℤ, pos, negsuc, neg_ℤ, ◌-ℤ◌, ◌≤ℤ◌, ◌<ℤ◌, List, [], ◌∷◌, Option, Some, None, refl, arith, ap, sym, ◌∙◌, subst}
+use Rattle.std.proofs.Common.{◌≡◌, ℕ, ◌+◌, ◌^◌, ◌<◌, ◌≤◌, Bool, true, false, cond, ℤ, pos, negsuc, neg_ℤ, ◌-ℤ◌, ◌≤ℤ◌, ◌<ℤ◌, [], ◌∷◌, Option, Some, None, refl, arith, ap, sym, ◌∙◌, subst}
 use Rattle.std.specs.Prelude.{int_le, unsigned_abs}
 use Rattle.std.proofs.lemmas.Int.{ints}
 use Rattle.b4_core.specs.declared.operators.BinOp.TheVariants.{Sub}
@@ -24,7 +24,7 @@ use Rattle.path_flatten.specs.declared.ranks.Rank.{Rank}
 use Rattle.path_flatten.specs.Guards.{guard_meaning}
 use Rattle.path_flatten.specs.Placing.{RanksSigned}
 use Rattle.path_flatten.specs.Sliding.{IsIndexOf, IsSignedIndex}
-use Rattle.memory_words.specs.Words.{lowest, highest, FindsWord, FindsWordBetween, NamesWord}
+use Rattle.memory_words.specs.Words.{lowest, highest, FindsWord, FindsWordBetween}
 
 lower-is : (of : Layout) (b : Bounds) → of.left ≡ b.left → of.right ≡ b.right → lower of ≡ lowest b
 lower-is of b left right = λ i. cond (int_le (right i) (left i)) (right i) (left i)

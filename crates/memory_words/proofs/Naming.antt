@@ -1,12 +1,12 @@
 -- What words and their readings name.
-use Rattle.std.proofs.Common.{◌≡◌, ◌⊎◌, inl, inr, ℕ, List, [], ◌∷◌, ◌++◌, append-nil, Option, Some, None, refl, ap, sym, ◌∙◌, subst}
+use Rattle.std.proofs.Common.{◌≡◌, ◌⊎◌, inl, inr, ℕ, List, [], ◌∷◌, ◌++◌, append-nil, Option, Some, None, ap, sym, ◌∙◌, subst}
 use Rattle.row_machine.specs.Valuation.{Member}
 use Rattle.v_tree.specs.Names.{Name}
 use Rattle.v_tree.specs.declared.expressions.VExpr.{VExpr}
 use Rattle.v_meaning.specs.Scopes.{Scope, named}
 use Rattle.v_meaning.specs.Values as T
 use Rattle.v_meaning.specs.Values.{meaning, expression_base}
-use Rattle.lowering_laws.specs.Terms.{braced, guarded, above, between}
+use Rattle.lowering_laws.specs.Terms.{braced, guarded}
 use Rattle.path_flatten.specs.declared.offsets.Index.{Index}
 use Rattle.path_flatten.specs.declared.ranks.Rank.{Rank}
 use Rattle.path_flatten.specs.declared.readings.Reading.{Reading}
@@ -14,7 +14,7 @@ use Rattle.path_flatten.specs.declared.readings.Root.{Root}
 use Rattle.path_flatten.specs.declared.readings.Root.TheVariants as R
 use Rattle.path_flatten.specs.Guards.{guard_meaning}
 use Rattle.path_flatten.specs.Naming.{SameNumbers, root_names}
-use Rattle.path_flatten.proofs.Naming.{same-itself, same-by, same-then, like-braced}
+use Rattle.path_flatten.proofs.Naming.{same-by, same-then, like-braced}
 use Rattle.target_flatten.specs.Naming.{guard_names, rank_names}
 use Rattle.memory_words.specs.Readings.{unknown, word_value, NamesRead}
 use Rattle.memory_words.specs.Words.{NamesWord}

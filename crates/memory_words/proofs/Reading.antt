@@ -1,5 +1,5 @@
 -- An element is read from its word.
-use Rattle.std.proofs.Common.{◌≡◌, ℕ, zero, suc, ◌*◌, ◌<◌, ◌≤◌, Bool, true, false, ◌&&◌, cond, ℤ, pos, negsuc, ◌+ℤ◌, length, replicate, List, [], ◌∷◌, Option, Some, None, refl, arith, ap, sym, ◌∙◌, subst}
+use Rattle.std.proofs.Common.{◌≡◌, ℕ, zero, suc, ◌<◌, ◌≤◌, Bool, true, false, ◌&&◌, cond, ℤ, pos, negsuc, ◌+ℤ◌, length, replicate, List, [], ◌∷◌, Option, Some, None, refl, arith, ap, sym, ◌∙◌, subst}
 use Rattle.std.specs.Prelude.{nat_lt, int_le, int_lt, slice_index_or}
 use Rattle.std.proofs.lemmas.Int.{ints}
 use Rattle.std.proofs.lemmas.Bool.Decides.{nat_tests}
@@ -9,9 +9,8 @@ use Rattle.b4_core.specs.Vectors.{ext}
 use Rattle.row_machine.specs.Valuation.{Valuation}
 use Rattle.picks.specs.Windows.{Window, whole, picked, bit_at, seen, tabulated}
 use Rattle.sv_types.specs.declared.types.SvType.{SvType}
-use Rattle.sv_types.specs.Layouts.{Layout, layout, count_of}
+use Rattle.sv_types.specs.Layouts.{Layout, layout}
 use Rattle.sv_types.specs.Windows.{element_of}
-use Rattle.sv_types.specs.Surroundings.{Around}
 use Rattle.sv_types.specs.Meanings as S
 use Rattle.sv_types.proofs.Picks.{pick, length-tabulated}
 use Rattle.v_tree.specs.Names.{Name}
@@ -22,9 +21,8 @@ use Rattle.v_meaning.specs.Values.{meaning, expression_base}
 use Rattle.eval_parts.specs.Places.{window_of}
 use Rattle.lowering_laws.specs.Images.{raw}
 use Rattle.lowering_laws.specs.Same.{HasBits}
-use Rattle.lowering_laws.specs.Steps.{IsPath, IsElement}
-use Rattle.lowering_laws.specs.Terms.{braced, guarded}
-use Rattle.lowering_laws.specs.Words.{IsWord, IsMemory}
+use Rattle.lowering_laws.specs.Steps.{IsElement}
+use Rattle.lowering_laws.specs.Terms.{guarded}
 use Rattle.lowering_laws.proofs.Extensions.{ext-at}
 use Rattle.lowering_laws.proofs.Paths.{length-raw}
 use Rattle.lowering_laws.proofs.Pieces.{literal-bits, fill-bits}
@@ -37,8 +35,7 @@ use Rattle.path_flatten.specs.declared.readings.Reading.{Reading}
 use Rattle.path_flatten.specs.declared.readings.Root.{Root}
 use Rattle.path_flatten.specs.declared.readings.Root.TheVariants as R
 use Rattle.path_flatten.specs.Guards.{guard_meaning}
-use Rattle.path_flatten.specs.Reading.{HasRoot, Sees, StaysIn, Reads}
-use Rattle.path_flatten.specs.Stepping.{IsStep}
+use Rattle.path_flatten.specs.Reading.{HasRoot, Sees, StaysIn}
 use Rattle.path_flatten.proofs.Sees.{stays-of}
 use Rattle.path_flatten.proofs.Stepping.{braced-has}
 use Rattle.target_laws.proofs.Filling.{element-stays}

@@ -1,5 +1,5 @@
 -- The word of an index of an array (IEEE 1364-2005 clause 4.9).
-use Rattle.std.specs.Prelude.{◌≡◌, ℕ, ◌++◌, ℤ, int_le, cond, List}
+use Rattle.std.specs.Prelude.{◌≡◌, ℤ, int_le, cond}
 use Rattle.row_machine.specs.Valuation.{Valuation}
 use Rattle.sv_types.specs.declared.types.SvType.{SvType}
 use Rattle.sv_types.specs.Layouts.{Layout, layout}

@@ -2,7 +2,6 @@ use Rattle.std.proofs.Common.{◌≡◌, ◌∙◌, ◌∷◌, [], None, refl, a
 use Rattle.v_meaning.specs.Values as T
 use Rattle.v_meaning.specs.Values.{meaning, expression_base}
 use Rattle.path_flatten.specs.Guards.{guard_meaning}
-use Rattle.path_flatten.specs.declared.readings.Reading.{Reading}
 use Rattle.path_flatten.specs.declared.readings.Root.TheVariants as R
 use Rattle.memory_words.specs.Readings.{word_value}
 use Rattle.memory_words.proofs.Reading.{reads-word}

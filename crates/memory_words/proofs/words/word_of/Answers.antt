@@ -1,7 +1,6 @@
-use Rattle.std.proofs.Common.{rules, ◌≡◌, ◌∙◌, ap, sym, refl, false, ℤ, pos, None}
+use Rattle.std.proofs.Common.{rules, ◌≡◌, sym, refl, false, pos, None}
 use Rattle.std.proofs.lemmas.Result.{IfOk-weaker}
 use Rattle.sv_types.specs.Layouts.{layout}
-use Rattle.path_flatten.specs.declared.ranks.Rank.{Rank}
 use Rattle.memory_words.specs.Words.{lowest, FindsWord, FindsWordBetween}
 use Rattle.memory_words.proofs.Finding.{plain-finds}
 use Rattle.memory_words.proofs.words.word_of.Goals as goal
