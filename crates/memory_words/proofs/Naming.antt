@@ -1,0 +1,81 @@
+-- What words and their readings name.
+use Rattle.std.proofs.Common.{◌≡◌, ◌⊎◌, inl, inr, ℕ, List, [], ◌∷◌, ◌++◌, append-nil, Option, Some, None, ap, sym, ◌∙◌, subst}
+use Rattle.row_machine.specs.Valuation.{Member}
+use Rattle.v_tree.specs.Names.{Name}
+use Rattle.v_tree.specs.declared.expressions.VExpr.{VExpr}
+use Rattle.v_meaning.specs.Scopes.{Scope, named}
+use Rattle.v_meaning.specs.Values as T
+use Rattle.v_meaning.specs.Values.{meaning, expression_base}
+use Rattle.lowering_laws.specs.Terms.{braced, guarded}
+use Rattle.path_flatten.specs.declared.offsets.Index.{Index}
+use Rattle.path_flatten.specs.declared.ranks.Rank.{Rank}
+use Rattle.path_flatten.specs.declared.readings.Reading.{Reading}
+use Rattle.path_flatten.specs.declared.readings.Root.{Root}
+use Rattle.path_flatten.specs.declared.readings.Root.TheVariants as R
+use Rattle.path_flatten.specs.Guards.{guard_meaning}
+use Rattle.path_flatten.specs.Naming.{SameNumbers, root_names}
+use Rattle.path_flatten.proofs.Naming.{same-by, same-then, like-braced}
+use Rattle.target_flatten.specs.Naming.{guard_names, rank_names}
+use Rattle.memory_words.specs.Readings.{unknown, word_value, NamesRead}
+use Rattle.memory_words.specs.Words.{NamesWord}
+
+-- an index as it is
+pub plain-names : (x : Index) (r : Rank) → guard_meaning r.guard ≡ None → meaning r.rank ≡ meaning x.expr → NamesWord x r
+plain-names x r guard rank sc =
+    let none : guard_names (guard_meaning r.guard) sc ≡ [] = ap (λ g. guard_names g sc) guard in
+    let own : (meaning r.rank).names sc ≡ (meaning x.expr).names sc = ap (λ (m : T.Meaning). m.names sc) rank in
+    same-by ((meaning x.expr).names sc) (rank_names r sc) (sym (λ i. none i ++ own i))
+
+-- numbers in lists
+member-left : (xs ys : List ℕ) (q : ℕ) → Member xs q → Member (xs ++ ys) q
+member-left [] ys q h = absurd h
+member-left (x ∷ xs) ys q (inl e) = inl e
+member-left (x ∷ xs) ys q (inr h) = inr (member-left xs ys q h)
+
+member-right : (xs ys : List ℕ) (q : ℕ) → Member ys q → Member (xs ++ ys) q
+member-right [] ys q h = h
+member-right (x ∷ xs) ys q h = inr (member-right xs ys q h)
+
+member-split : (xs ys : List ℕ) (q : ℕ) → Member (xs ++ ys) q → Member xs q ⊎ Member ys q
+member-split [] ys q h = inr h
+member-split (x ∷ xs) ys q (inl e) = inl (inl e)
+member-split (x ∷ xs) ys q (inr h) = elim (member-split xs ys q h) [ inl k ↦ inl (inr k) | inr k ↦ inr k ]
+
+turned : (c : ℕ) (g k : List ℕ) → SameNumbers (c ∷ (g ++ k)) (g ++ (c ∷ k))
+turned c g k = record { there = there; back = λ q h. back q (member-split g (c ∷ k) q h) }
+  where
+    there : (q : ℕ) → Member (c ∷ (g ++ k)) q → Member (g ++ (c ∷ k)) q
+    there q (inl e) = member-right g (c ∷ k) q (inl e)
+    there q (inr h) = elim (member-split g k q h) [ inl a ↦ member-left g (c ∷ k) q a | inr b ↦ member-right g (c ∷ k) q (inr b) ]
+
+    back : (q : ℕ) → Member g q ⊎ Member (c ∷ k) q → Member (c ∷ (g ++ k)) q
+    back q (inl a) = inr (member-left g k q a)
+    back q (inr (inl e)) = inl e
+    back q (inr (inr b)) = inr (member-right g k q b)
+
+-- a reading
+guarded-names : (memory : Name) (g : Option T.Meaning) (k : T.Meaning) (n : ℕ) (sc : Scope)
+    → SameNumbers ((named sc.names memory).number ∷ (guard_names g sc ++ k.names sc)) ((guarded g (T.reference memory (expression_base k None ∷ [])) (unknown n)).names sc)
+unfolding T.reference T.choose T.repetition T.literal
+guarded-names memory None k n sc = same-by _ _ (ap (λ l. (named sc.names memory).number ∷ l) (sym (append-nil (k.names sc))))
+guarded-names memory (Some g) k n sc =
+    let c = (named sc.names memory).number in
+    let ks = k.names sc in
+    let is : c ∷ ks ≡ (c ∷ (ks ++ [])) ++ [] = ap (λ l. c ∷ l) (sym (append-nil ks)) ∙ sym (append-nil (c ∷ (ks ++ []))) in
+    same-then (c ∷ (g.names sc ++ ks)) (g.names sc ++ (c ∷ ks)) _ (turned c (g.names sc) ks) (same-by _ _ (ap (λ l. g.names sc ++ l) is))
+
+pub reading-names : (memory : Name) (word : Rank) (r : Reading) (x : VExpr) (n : ℕ) → r.root ≡ R.Value x
+    → meaning x ≡ word_value (guard_meaning word.guard) (T.reference memory (expression_base (meaning word.rank) None ∷ [])) n → NamesRead memory word r
+reading-names memory word r x n root value sc =
+    subst (λ (y : Root). SameNumbers ((named sc.names memory).number ∷ rank_names word sc) (root_names y sc)) (sym root)
+    (subst (λ (m : T.Meaning). SameNumbers ((named sc.names memory).number ∷ rank_names word sc) (m.names sc)) (sym value)
+    (by (guard_meaning word.guard)))
+  where
+    m : T.Meaning
+    m = T.reference memory (expression_base (meaning word.rank) None ∷ [])
+
+    by : (g : Option T.Meaning) → SameNumbers ((named sc.names memory).number ∷ (guard_names g sc ++ (meaning word.rank).names sc)) ((word_value g m n).names sc)
+    by None = guarded-names memory None (meaning word.rank) n sc
+    by (Some g) =
+        same-then ((named sc.names memory).number ∷ (g.names sc ++ (meaning word.rank).names sc)) ((guarded (Some g) m (unknown n)).names sc) ((braced (guarded (Some g) m (unknown n))).names sc)
+        (guarded-names memory (Some g) (meaning word.rank) n sc) (like-braced (guarded (Some g) m (unknown n)) sc)

@@ -1,0 +1,9 @@
+//! Elements of arrays that stand in the words of memories of the target language (IEEE 1364-2005 clause 4.9): in which word an index
+//! has its element, and how that is read.
+#![tactic(auto)]
+
+mod readings;
+mod words;
+
+pub use readings::word_reading;
+pub use words::word_of;
