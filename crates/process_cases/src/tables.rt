@@ -48,9 +48,9 @@ signals: j:1,v:1
 fine: +0 s1 b0 <=
 # output y: task t(output logic p); endtask always_comb t(y);
 signals: p:1
-603@0: task T1 O2:1 B0 endfunction then comb s0 t0:1
+603@0: task G1 O2:1 B0 endfunction then comb s0 t0:1
 # task two(output logic p, output logic q); p = 1'b0; q = 1'b1; endtask always_comb two(y, y);
-fine: task T1 O2:1 O3:1 l2:1 b0 = l3:1 b1 = B2 endfunction then comb s0 s0 t0:2";
+fine: task G1 O2:1 O3:1 l2:1 b0 = l3:1 b1 = B2 endfunction then comb s0 s0 t0:2";
 
 /// Designs that break rules on bits, assignments, edges or inputs.
 pub const REFUSED: &str = "\
@@ -247,7 +247,7 @@ fine: comb s2 [9:6] b0000 =;comb s2 [5:0] b000000 =
 fine: assign s4 s5 =;assign s5 s4 =
 # a local that was written, or that starts with a value
 fine: comb l5:8 s0 = s2 l5:8 = d5:8 B2
-fine: comb s0 D5:8 s2 l5:8 = B1
+fine: comb s0 V5:8 s2 l5:8 = B1
 fine: +6 l5:8 s0 = s2 l5:8 <= d5:8 B2
 fine: comb s6 l5:8 s0 = l5:8 s1 = else s2 l5:8 = d5:8 B2
 # by halves, and by the turn before, where the local is declared outside the loop
@@ -277,7 +277,7 @@ pub const LOOPS: &str = "\
 608@0: comb k0 l5:int k1 < l5:int s0 + s2 s1 = F5
 # a variable that is written in the loop
 608@0: comb U5:0100 l5:int k0 = F5
-608@0: task T1 O2:int l2:int k0 = endfunction then comb U5:0100 l5:int t0:1 F5
+608@0: task G1 O2:int l2:int k0 = endfunction then comb U5:0100 l5:int t0:1 F5
 # a loop inside another one whose bound reads the outer variable
 fine: comb s2 s0 = U5:0100 k0 l6:int l5:int < l6:int k1 + s2 l6:int @1 b0 = F6 F5 B2
 # a loop without turns
@@ -286,58 +286,58 @@ fine: comb s2 s0 = U5:00 s2 l5:int @1 b0 = F5 B2";
 /// Functions and tasks that processes call.
 pub const FUNCTIONS: &str = "\
 # f = a; and x = f(a);
-fine: T8 I1:8 l0:8 l1:8 = endfunction then comb s2 s0 f0:1:8 =
+fine: G8 I1:8 l0:8 l1:8 = endfunction then comb s2 s0 f0:1:8 =
 # a result that isn't written on every path: if (a) f = a;
-603@77: T8 I1:8 l1:8 l0:8 l1:8 = if endfunction then comb s2 s0 f0:1:8 =
+603@77: G8 I1:8 l1:8 l0:8 l1:8 = if endfunction then comb s2 s0 f0:1:8 =
 # which no process calls
-fine: T8 I1:8 l1:8 l0:8 l1:8 = if endfunction then comb s2 s0 =
+fine: G8 I1:8 l1:8 l0:8 l1:8 = if endfunction then comb s2 s0 =
 # by another function that a process calls
-603@77: T8 I1:8 l1:8 l0:8 l1:8 = if endfunction T8 I1:8 l0:8 l1:8 f0:1:8 = endfunction then comb s2 s0 f1:1:8 =
+603@77: G8 I1:8 l1:8 l0:8 l1:8 = if endfunction G8 I1:8 l0:8 l1:8 f0:1:8 = endfunction then comb s2 s0 f1:1:8 =
 # by one that none calls
-fine: T8 I1:8 l1:8 l0:8 l1:8 = if endfunction T8 I1:8 l0:8 l1:8 f0:1:8 = endfunction then comb s2 s0 =
+fine: G8 I1:8 l1:8 l0:8 l1:8 = if endfunction G8 I1:8 l0:8 l1:8 f0:1:8 = endfunction then comb s2 s0 =
 # a return before the write: if (a) return; f = a;
-603@77: T8 I1:8 l1:8 return if l0:8 l1:8 = B2 endfunction then comb s2 s0 f0:1:8 =
+603@77: G8 I1:8 l1:8 return if l0:8 l1:8 = B2 endfunction then comb s2 s0 f0:1:8 =
 # behind it
-fine: T8 I1:8 l0:8 l1:8 = l1:8 return if B2 endfunction then comb s2 s0 f0:1:8 =
+fine: G8 I1:8 l0:8 l1:8 = l1:8 return if B2 endfunction then comb s2 s0 f0:1:8 =
 # behind a jump that always comes
-603@77: T8 I1:8 return l0:8 l1:8 = B2 endfunction then comb s2 s0 f0:1:8 =
+603@77: G8 I1:8 return l0:8 l1:8 = B2 endfunction then comb s2 s0 f0:1:8 =
 # with constant arguments a call is a constant index: x[f(8'd1)] = 0;
-fine: T8 I1:8 l0:8 l1:8 = endfunction then comb s2 b00000001 f0:1:8 @1 b0 =;comb s2 [7:2] b000000 =
+fine: G8 I1:8 l0:8 l1:8 = endfunction then comb s2 b00000001 f0:1:8 @1 b0 =;comb s2 [7:2] b000000 =
 # a result that is read before: f = f + 1;
-604@2: T8 I1:8 l0:8 l0:8 b00000001 + = endfunction then comb s2 s0 f0:1:8 =
+604@2: G8 I1:8 l0:8 l0:8 b00000001 + = endfunction then comb s2 s0 f0:1:8 =
 # and behind: f = a; f = f + 1;
-fine: T8 I1:8 l0:8 l1:8 = l0:8 l0:8 b00000001 + = B2 endfunction then comb s2 s0 f0:1:8 =
+fine: G8 I1:8 l0:8 l1:8 = l0:8 l0:8 b00000001 + = B2 endfunction then comb s2 s0 f0:1:8 =
 # a local that wasn't written: f = t;
-604@2: T8 I1:8 l0:8 l2:8 = d2:8 B1 endfunction then comb s2 s0 f0:1:8 =
+604@2: G8 I1:8 l0:8 l2:8 = d2:8 B1 endfunction then comb s2 s0 f0:1:8 =
 # a nonblocking assignment
-606@0: T8 I1:8 l0:8 l1:8 <= l0:8 l1:8 = B2 endfunction then comb s2 s0 f0:1:8 =
+606@0: G8 I1:8 l0:8 l1:8 <= l0:8 l1:8 = B2 endfunction then comb s2 s0 f0:1:8 =
 # a loop whose bound isn't known
-608@0: T8 I1:8 l0:8 l1:8 = k0 l5:int l1:8 < l5:int k1 + l0:8 l1:8 = F5 B2 endfunction then comb s2 s0 f0:1:8 =
+608@0: G8 I1:8 l0:8 l1:8 = k0 l5:int l1:8 < l5:int k1 + l0:8 l1:8 = F5 B2 endfunction then comb s2 s0 f0:1:8 =
 # a loop that can be unrolled
-fine: T8 I1:8 U5:01000 l0:8 l5:int @1 l1:8 l5:int @1 = F5 endfunction then comb s2 s0 f0:1:8 =
+fine: G8 I1:8 U5:01000 l0:8 l5:int @1 l1:8 l5:int @1 = F5 endfunction then comb s2 s0 f0:1:8 =
 # its last turn leaves a bit out
-603@77: T8 I1:8 U5:0111 l0:8 l5:int @1 l1:8 l5:int @1 = F5 endfunction then comb s2 s0 f0:1:8 =
+603@77: G8 I1:8 U5:0111 l0:8 l5:int @1 l1:8 l5:int @1 = F5 endfunction then comb s2 s0 f0:1:8 =
 # an output of a task that is a signal, in an edge process
-605@2: task T1 I1:8 O2:8 l2:8 l1:8 = endfunction then +6 s0 s2 t0:2
+605@2: task G1 I1:8 O2:8 l2:8 l1:8 = endfunction then +6 s0 s2 t0:2
 # in another one
-fine: task T1 I1:8 O2:8 l2:8 l1:8 = endfunction then comb s0 s2 t0:2
+fine: task G1 I1:8 O2:8 l2:8 l1:8 = endfunction then comb s0 s2 t0:2
 # that two processes write
-601@2: task T1 I1:8 O2:8 l2:8 l1:8 = endfunction then comb s0 s2 t0:2;assign s2 s1 =
+601@2: task G1 I1:8 O2:8 l2:8 l1:8 = endfunction then comb s0 s2 t0:2;assign s2 s1 =
 # or that isn't on every path
-603@3: task T1 I1:8 O2:8 l2:8 l1:8 = endfunction then comb s6 s0 s2 t0:2 if
+603@3: task G1 I1:8 O2:8 l2:8 l1:8 = endfunction then comb s6 s0 s2 t0:2 if
 # or an input
-611@2: task T1 I1:8 O2:8 l2:8 l1:8 = endfunction then comb s1 s0 t0:2
+611@2: task G1 I1:8 O2:8 l2:8 l1:8 = endfunction then comb s1 s0 t0:2
 # or a local
-fine: task T1 I1:8 O2:8 l2:8 l1:8 = endfunction then +6 s0 l5:8 t0:2 s2 l5:8 <= d5:8 B2
+fine: task G1 I1:8 O2:8 l2:8 l1:8 = endfunction then +6 s0 l5:8 t0:2 s2 l5:8 <= d5:8 B2
 # outputs are written one after the other: t(x, y[x[2:0]]) and t(y[x[2:0]], x)
-fine: task T1 O2:8 O3:1 l2:8 b00000000 = l3:1 b0 = B2 endfunction then latch s2 s3 s2 [2:0] @1 t0:2
-604@3: task T1 O2:1 O3:8 l2:1 b0 = l3:8 b00000000 = B2 endfunction then latch s3 s2 [2:0] @1 s2 t0:2
+fine: task G1 O2:8 O3:1 l2:8 b00000000 = l3:1 b0 = B2 endfunction then latch s2 s3 s2 [2:0] @1 t0:2
+604@3: task G1 O2:1 O3:8 l2:1 b0 = l3:8 b00000000 = B2 endfunction then latch s3 s2 [2:0] @1 s2 t0:2
 # which no process calls
-fine: task T1 I1:8 O2:8 l1:8 l2:8 l1:8 = if endfunction then comb s2 s0 =
+fine: task G1 I1:8 O2:8 l1:8 l2:8 l1:8 = if endfunction then comb s2 s0 =
 # an output that isn't on every path: task t(input a, output b); if (a) b = a; endtask
-603@0: task T1 I1:8 O2:8 l1:8 l2:8 l1:8 = if endfunction then comb s0 s2 t0:2
+603@0: task G1 I1:8 O2:8 l1:8 l2:8 l1:8 = if endfunction then comb s0 s2 t0:2
 # or that is read before: b = b;
-604@2: task T1 I1:8 O2:8 l2:8 l2:8 = endfunction then comb s0 s2 t0:2";
+604@2: task G1 I1:8 O2:8 l2:8 l2:8 = endfunction then comb s0 s2 t0:2";
 
 /// Wide arrays: an array and what stands behind it, a clock, an address, a byte, and a variable of a byte.
 pub const MEMORIES: &str = "\

@@ -90,8 +90,8 @@ fn type_in_front(signals: &'static str, mark: u8, text: &'static str) -> Option<
     match mark {
         b's' => Some(type_word(signal)),
         b'a' => Some(type_word(signal.split(" array").next().unwrap_or("1"))),
-        b'l' | b'd' | b'D' | b'.' | b'I' | b'O' | b'f' => Some(type_word(last_of(text))),
-        b'@' | b'T' => Some(type_word(text)),
+        b'l' | b'd' | b'V' | b'.' | b'I' | b'O' | b'f' => Some(type_word(last_of(text))),
+        b'@' | b'G' => Some(type_word(text)),
         b'[' => {
             let (left, right) = halves(text.trim_end_matches(']'));
             Some(Word::Vector(bound(left).saturating_sub(bound(right)), 0))
@@ -110,7 +110,7 @@ fn made(mark: u8, text: &'static str) -> Option<Word> {
         b's' => Some(Word::Signal(n)),
         b'l' => Some(Word::Local(n)),
         b'd' => Some(Word::Declare(n)),
-        b'D' => Some(Word::Start(n)),
+        b'V' => Some(Word::Start(n)),
         b'b' => Some(Word::Bits(text)),
         b'k' => Some(Word::Constant(if n == 0 { ZERO } else { ONE })),
         b'[' => Some(Word::Part(left, right)),
