@@ -1,0 +1,6 @@
+pub mod Bases
+pub mod Elements
+pub mod Typings
+pub mod Steps
+pub mod Selects
+pub mod Paths
