@@ -35,14 +35,14 @@ kind-UnpackedArray l r item = search (rules, the_lemmas)
 pub kind-member : (m : Member) → member_kind m ≡ kind m.of
 kind-member m = search (rules, the_lemmas)
 
-plain-of : (t : SvType) (k : Kind) → kind t ≡ k → has_plain_bases t ≡ k.plain
+pub plain-of : (t : SvType) (k : Kind) → kind t ≡ k → has_plain_bases t ≡ k.plain
 plain-of t k is = ap (λ (x : Kind). x.plain) is
 
 -- unpacked types by the rules
-unpacked-Scalar : (four s : Bool) → is_unpacked (V.Scalar four s) ≡ false
+pub unpacked-Scalar : (four s : Bool) → is_unpacked (V.Scalar four s) ≡ false
 unpacked-Scalar four s = search (rules, the_lemmas)
 
-unpacked-PackedArray : (l r : ℤ) (s : Bool) (item : SvType) → is_unpacked (V.PackedArray l r s item) ≡ false
+pub unpacked-PackedArray : (l r : ℤ) (s : Bool) (item : SvType) → is_unpacked (V.PackedArray l r s item) ≡ false
 unpacked-PackedArray l r s item = search (rules, the_lemmas)
 
 unpacked-Struct : (id : ℕ) (packed s : Bool) (ms : List Member) → is_unpacked (V.Struct id packed s ms) ≡ not packed

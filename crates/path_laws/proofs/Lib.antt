@@ -4,3 +4,5 @@ pub mod Typings
 pub mod Steps
 pub mod Selects
 pub mod Paths
+pub mod Targets
+pub mod Types

@@ -1,9 +1,9 @@
 -- What is said of whole typings that are put together.
-use Rattle.std.proofs.Common.{◌≡◌, List, [], ◌∷◌, refl, subst}
+use Rattle.std.proofs.Common.{◌≡◌, List, [], ◌∷◌, Option, Some, None, refl, subst}
 use Rattle.std.specs.Prelude.{Ok, Err}
 use Rattle.sv_types.specs.declared.statement.Function.{Function}
 use Rattle.expr_type.specs.Breaks.{Breaks}
-use Rattle.expr_type.specs.Typings.{Checked, Typing, whole, broken, rule, applied, checked, beside, both}
+use Rattle.expr_type.specs.Typings.{Checked, Typing, whole, broken, rule, applied, checked, beside, both, all, known, beside_by, both_by}
 use Rattle.typing_fits.proofs.Contexts.{joined-both}
 
 -- what is whole, whatever functions are known, has a property
@@ -57,3 +57,32 @@ anything x fs a h = tt
 abbrev pub AllGive : {A : Type 0} → (A → Type 0) → List (Typing A) → Type 0
 AllGive P [] = Unit {0}
 AllGive P (x ∷ xs) = Gives P x × AllGive P xs
+
+-- lists of parts
+abbrev pub Each : {A : Type 0} → (A → Type 0) → List A → Type 0
+Each P [] = Unit {0}
+Each P (a ∷ as') = P a × Each P as'
+
+pub all-gives : {A : Type 0} (P : A → Type 0) (xs : List (Typing A)) → AllGive P xs → Gives (Each P) (all xs)
+all-gives P [] p = whole-gives (Each P) [] tt
+all-gives P (x ∷ xs) p = both-gives P (Each P) (Each P) x (all xs) (λ a as'. whole (a ∷ as')) p.0 (all-gives P xs p.1) (λ a as' q r. whole-gives (Each P) (a ∷ as') (q, r))
+
+-- parts that are looked at by what stands before them
+abbrev pub IfKnown : {A : Type 0} → (A → Type 0) → Option A → Type 0
+IfKnown P None = Unit {0}
+IfKnown P (Some a) = P a
+
+known-gives : {A : Type 0} (P : A → Type 0) (r : Checked A) → ((a : A) → r ≡ Ok a → P a) → IfKnown P (known r)
+known-gives P (Ok a) p = p a refl
+known-gives P (Err x) p = tt
+
+pub by-gives : {A B C : Type 0} (P : A → Type 0) (Q : B → Type 0) (R : C → Type 0) (x : Typing A) (y : Option A → Typing B) (f : A → B → Typing C) → Gives P x → ((o : Option A) → IfKnown P o → Gives Q (y o))
+    → ((a : A) (b : B) → P a → Q b → Gives R (f a b)) → Gives R (both_by x y f)
+by-gives {A = A} {B = B} P Q R x y f p q g =
+    checked-gives (λ (c : A × B). P c.0 × Q c.1) R (beside_by x y) (λ c. f c.0 c.1) sides (λ c s. g c.0 c.1 s.0 s.1)
+  where
+    sides : Gives (λ (c : A × B). P c.0 × Q c.1) (beside_by x y)
+    sides fs c h =
+        let o = known (x fs).result in
+        let j = joined-both (x fs).result (y o (x fs).functions).result c h in
+        (p fs c.0 j.left, q o (known-gives P (x fs).result (p fs)) (x fs).functions c.1 j.right)

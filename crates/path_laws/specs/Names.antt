@@ -1,6 +1,7 @@
 -- What names stand for, as lowering takes it.
 use Rattle.std.specs.Prelude.{◌≡◌, ⊤, ℕ, Bool, true, List, [], ◌∷◌, Some}
 use Rattle.sv_types.specs.declared.expression.Expr.{Expr}
+use Rattle.sv_types.specs.declared.frame.ParamType.{ParamType}
 use Rattle.sv_types.specs.declared.frame.SignalId.{SignalId}
 use Rattle.sv_types.specs.declared.types.SvType.{SvType}
 use Rattle.sv_types.specs.Surroundings.{local_number}
@@ -15,6 +16,10 @@ AllSignalsPlain (s ∷ ss) = (has_plain_bases s.of ≡ true) × AllSignalsPlain 
 abbrev pub AllLocalsPlain : List LocalId → Type 0
 AllLocalsPlain [] = ⊤
 AllLocalsPlain (l ∷ ls) = (has_plain_bases l.of ≡ true) × AllLocalsPlain ls
+
+abbrev pub AllTypesPlain : List ParamType → Type 0
+AllTypesPlain [] = ⊤
+AllTypesPlain (t ∷ ts) = (has_plain_bases t.of ≡ true) × AllTypesPlain ts
 
 -- a text in which no enum in the type of a signal or local has an unpacked base
 pub record PlainNames (k : Context) : Type 0 where
