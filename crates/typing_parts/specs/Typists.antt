@@ -27,7 +27,7 @@ pub record IsReady (k : Known) : Type 0 where
 abbrev pub IsNarrowOperand : O.Operand → Type 0
 IsNarrowOperand o = elim (out-Operand o) [
   | Operand-F.Plain v ↦ width_of v.expr.of ≤ 65536
-  | Operand-F.«Operand::Pattern» tick times items ↦ ⊤
+  | Operand-F.Pattern tick times items ↦ ⊤
   | Operand-F.Stream v ↦ width_of v.expr.of ≤ 65536
 ]
 
@@ -39,7 +39,7 @@ NarrowIfOk (Err h) = ⊤
 abbrev pub FitsOperand : O.Operand → List Function → Type 0
 FitsOperand o fs = elim (out-Operand o) [
   | Operand-F.Plain v ↦ FitsAlone (T.meaning v.expr) (formals_in fs)
-  | Operand-F.«Operand::Pattern» tick times items ↦ ⊤
+  | Operand-F.Pattern tick times items ↦ ⊤
   | Operand-F.Stream v ↦ ⊤
 ]
 
