@@ -65,13 +65,21 @@ tight-path : (name : Name) (bits n : ℕ) (e : S.Meaning) (a : Around) (sc : Sco
 tight-path name bits n e a sc h = subst (IsTight (e.window a)) (sym h.wide) (tight-of (e.window a) n h.stays)
 
 -- a known place
-pub known-whole : (name : Name) (bits low n : ℕ) (to : VLval) → n ≡ bits → target to ≡ name_target name [] → AimsKnown name bits low n to
-known-whole name bits low n to all is e a sc v aim known =
+known-all : (name : Name) (bits low n : ℕ) (to : VLval) → n ≡ bits → target to ≡ name_target name [] → AimsKnown name bits low n to
+known-all name bits low n to all is e a sc v aim known =
     let fits = known.fits in
     let wide = aim.wide in
     let some = aim.some in
     piece-by e a name sc v None None (target to) (name_target name []) n (S.wide e) refl is (sym aim.wide)
     (whole-written e a name bits sc v aim.vector (tight-path name bits n e a sc aim) low known (omega arith) (omega arith))
+
+pub known-whole : (name : Name) (bits low n : ℕ) (to : VLval) → (bits ≡ 1) ⊎ (n ≡ bits) → target to ≡ name_target name [] → AimsKnown name bits low n to
+known-whole name bits low n to (inl one) is e a sc v aim known =
+    let fits = known.fits in
+    let wide = aim.wide in
+    let some = aim.some in
+    known-all name bits low n to (omega arith) is e a sc v aim known
+known-whole name bits low n to (inr all) is e a sc v aim known = known-all name bits low n to all is e a sc v aim known
 
 pub known-bit : (name : Name) (bits low n : ℕ) (to : VLval) → n ≡ 1 → target to ≡ name_target name (terms.bit_at_number low ∷ []) → AimsKnown name bits low n to
 known-bit name bits low n to one is e a sc v aim known =

@@ -1,5 +1,6 @@
 use Rattle.std.proofs.Common.{arith}
 use Rattle.target_flatten.proofs.Naming.{aim-only, aim-select}
+use Rattle.target_flatten.proofs.Owning.{own-bare, own-selected}
 use Rattle.target_flatten.proofs.Writing.{placed-only, placed-select}
 use Rattle.target_flatten.proofs.aims.aim_at_place.Goals as goal
 
@@ -16,3 +17,9 @@ returns-in_ok-made-clause-names c = aim-only c.args.image.now.name c.args.place 
 
 pub returns-in_ok-made-2-clause-names : goal.returns-in_ok-made-2-clause-names
 returns-in_ok-made-2-clause-names c = aim-select c.args.image.now.name c.args.place c.args.n c.in_ok-made-2.made c.in_ok-made-2.ensures.guard c.in_ok-made-2.ensures.to
+
+pub returns-in_ok-made-clause-own : goal.returns-in_ok-made-clause-own
+returns-in_ok-made-clause-own c = own-bare c.args.image.now.name c.args.image.now.bits c.in_ok-made.made.to c.in_ok-made.ensures.is
+
+pub returns-in_ok-made-2-clause-own : goal.returns-in_ok-made-2-clause-own
+returns-in_ok-made-2-clause-own c = own-selected c.args.image.now.name c.args.image.now.bits c.in_ok-made-2.made.to (λ h. omega arith) c.in_ok-made-2.ensures.is

@@ -15,3 +15,9 @@ returns-clause-writes c =
 
 pub returns-clause-names : goal.returns-clause-names
 returns-clause-names c = c.in_ok-made.ensures.names
+
+pub returns-clause-own : goal.returns-clause-own
+returns-clause-own c = c.in_ok-made.ensures.own
+
+pub returns-clause-plain : goal.returns-clause-plain
+returns-clause-plain c = c.in_ok-made.ensures.plain

@@ -1,0 +1,67 @@
+-- What the targets of paths are made of.
+use Rattle.std.proofs.Common.{◌≡◌, ℕ, ◌≤◌, List, [], ◌∷◌, length, map, Option, Some, None, refl, arith, ap, sym, ◌∙◌, subst}
+use Rattle.v_tree.specs.Names.{Name}
+use Rattle.v_tree.specs.declared.expressions.VExpr.{VExpr}
+use Rattle.v_tree.specs.declared.expressions.VExtent.{VExtent}
+use Rattle.v_tree.specs.declared.expressions.VSel.{VSel}
+use Rattle.v_tree.specs.declared.expressions.VSel.TheVariants as S
+use Rattle.v_tree.specs.declared.statements.VLval.{VLval, VLval-F, fold-roll-VLval}
+use Rattle.v_tree.specs.declared.statements.VLval.TheVariants as L
+use Rattle.v_meaning.specs.Scopes.{Scope, named}
+use Rattle.v_meaning.specs.Selects.{SelMeaning}
+use Rattle.v_meaning.specs.Statements.{Target, target, name_target, lval_step}
+use Rattle.v_meaning.specs.Values.{sel_meaning}
+use Rattle.target_flatten.specs.declared.aims.Aim.{Aim}
+use Rattle.target_flatten.specs.declared.spots.Spot.{Spot}
+use Rattle.target_flatten.specs.declared.spots.Spot.TheVariants as V
+use Rattle.target_flatten.specs.declared.writes.Write.{Write}
+use Rattle.target_flatten.specs.Owning.{IsOwn, IsSelected, IsDecimal, AreDecimal, HasDecimals, IsPlain, IsSteady, OwnAim, PlainAim, AllOwn, AllPlain, PlainWrites, StaysSteady, writes_made, AreUsesOf, AllWrite}
+use Rattle.target_flatten.specs.Writing.{pieces}
+
+-- a name with selects
+pub own-bare : (name : Name) (bits : ℕ) (to : VLval) → to ≡ L.Name name [] → IsOwn name bits to
+own-bare name bits to is = record { sels = []; is = is; few = omega arith; bare = λ h. refl }
+
+pub own-select : (name : Name) (bits : ℕ) (s : VSel) (to : VLval) → (bits ≡ 1 → ⊥) → to ≡ L.Name name (s ∷ []) → IsOwn name bits to
+own-select name bits s to more is = record { sels = s ∷ []; is = is; few = omega arith; bare = λ h. absurd (more h) }
+
+pub own-selected : (name : Name) (bits : ℕ) (to : VLval) → (bits ≡ 1 → ⊥) → IsSelected name to → IsOwn name bits to
+own-selected name bits to more selected = own-select name bits selected.sel to more selected.is
+
+pub decimals-bare : (name : Name) (to : VLval) → to ≡ L.Name name [] → HasDecimals name to
+decimals-bare name to is = record { sels = []; is = is; decimal = tt }
+
+pub decimals-select : (name : Name) (s : VSel) (base : ℕ) (extent : Option VExtent) (to : VLval) → s ≡ S.Decimal base extent → to ≡ L.Name name (s ∷ []) → HasDecimals name to
+decimals-select name s base extent to decimal is = record { sels = s ∷ []; is = is; decimal = (record { base = base; extent = extent; is = decimal }, tt) }
+
+-- where a path stands
+pub plain-known : (name : Name) (s : Spot) (guard : Option VExpr) (to : VLval) → guard ≡ None → HasDecimals name to → PlainAim name s (Some (record { guard = guard; to = to }))
+plain-known name s guard to free decimals steady = record { free = free; decimals = decimals }
+
+pub plain-moved : (name : Name) (s : Spot) (x : Aim) → (IsSteady s → ⊥) → PlainAim name s (Some x)
+plain-moved name s x moved steady = absurd (moved steady)
+
+-- what is written of it
+pub made-own : (name : Name) (bits low n : ℕ) (x : Option Aim) (xs : List Write) → xs ≡ writes_made x low n → OwnAim name bits x → AllOwn name bits xs
+made-own name bits low n None xs is own = subst (AllOwn name bits) (sym is) tt
+made-own name bits low n (Some x) xs is own = subst (AllOwn name bits) (sym is) (own, tt)
+
+pub made-plain : (name : Name) (s t : Spot) (low n : ℕ) (x : Option Aim) (xs : List Write) → xs ≡ writes_made x low n → StaysSteady s t → PlainAim name t x → PlainWrites name s xs
+made-plain name s t low n None xs is stays plain steady = subst (AllPlain name) (sym is) tt
+made-plain name s t low n (Some x) xs is stays plain steady = subst (AllPlain name) (sym is) (plain (stays steady), tt)
+
+-- A target that is the path's name with selects may write that alone.
+name-target : (name : Name) (sels : List VSel) → target (L.Name name sels) ≡ name_target name (map sel_meaning sels)
+name-target name sels = ap target (sym (L.rolls-Name name sels)) ∙ fold-roll-VLval Target lval_step (VLval-F.Name name sels)
+
+name-writes : (name : Name) (sels : List SelMeaning) (sc : Scope) → AreUsesOf (named sc.names name).number ((name_target name sels).writes sc)
+unfolding name_target
+name-writes name sels sc = (refl, tt)
+
+own-writes : (name : Name) (bits : ℕ) (to : VLval) (sc : Scope) → IsOwn name bits to → AreUsesOf (named sc.names name).number ((target to).writes sc)
+own-writes name bits to sc own =
+    subst (λ (t : Target). AreUsesOf (named sc.names name).number (t.writes sc)) (sym (ap target own.is ∙ name-target name own.sels)) (name-writes name (map sel_meaning own.sels) sc)
+
+pub all-write : (name : Name) (bits : ℕ) (xs : List Write) (sc : Scope) → AllOwn name bits xs → AllWrite (named sc.names name).number (pieces xs) sc
+all-write name bits [] sc own = tt
+all-write name bits (x ∷ xs) sc own = (own-writes name bits x.to sc own.0, all-write name bits xs sc own.1)
