@@ -5,9 +5,9 @@ use Rattle.v_tree.specs.declared.expressions.VExpr.{VExpr}
 use Rattle.v_tree.specs.declared.expressions.VExtent.{VExtent}
 use Rattle.v_tree.specs.declared.expressions.VSel.{VSel}
 use Rattle.v_tree.specs.declared.expressions.VSel.TheVariants as S
-use Rattle.v_tree.specs.declared.statements.VLval.{VLval, VLval-F, fold-roll-VLval}
+use Rattle.v_tree.specs.declared.statements.VLval.{VLval, VLval-F, fold-roll-VLval, out-VLval, out-roll-VLval}
 use Rattle.v_tree.specs.declared.statements.VLval.TheVariants as L
-use Rattle.v_meaning.specs.Scopes.{Scope, named}
+use Rattle.v_meaning.specs.Scopes.{Scope, Named, named}
 use Rattle.v_meaning.specs.Selects.{SelMeaning}
 use Rattle.v_meaning.specs.Statements.{Target, target, name_target, lval_step}
 use Rattle.v_meaning.specs.Values.{sel_meaning}
@@ -16,7 +16,8 @@ use Rattle.target_flatten.specs.declared.spots.Spot.{Spot}
 use Rattle.target_flatten.specs.declared.spots.Spot.TheVariants as V
 use Rattle.target_flatten.specs.declared.writes.Write.{Write}
 use Rattle.target_flatten.specs.Owning.{IsOwn, IsSelected, IsDecimal, AreDecimal, HasDecimals, IsPlain, IsSteady, OwnAim, PlainAim, AllOwn, AllPlain, PlainWrites, StaysSteady, writes_made, AreUsesOf, AllWrite}
-use Rattle.target_flatten.specs.Writing.{pieces}
+use Rattle.target_flatten.specs.Writing.{pieces, pieces_in, in_vector, Selects, WritesPath}
+use Rattle.target_laws.specs.Vectors.{vector_target}
 
 -- a name with selects
 pub own-bare : (name : Name) (bits : ℕ) (to : VLval) → to ≡ L.Name name [] → IsOwn name bits to
@@ -25,14 +26,26 @@ own-bare name bits to is = record { sels = []; is = is; few = omega arith; bare 
 pub own-select : (name : Name) (bits : ℕ) (s : VSel) (to : VLval) → (bits ≡ 1 → ⊥) → to ≡ L.Name name (s ∷ []) → IsOwn name bits to
 own-select name bits s to more is = record { sels = s ∷ []; is = is; few = omega arith; bare = λ h. absurd (more h) }
 
-pub own-selected : (name : Name) (bits : ℕ) (to : VLval) → (bits ≡ 1 → ⊥) → IsSelected name to → IsOwn name bits to
-own-selected name bits to more selected = own-select name bits selected.sel to more selected.is
+pub own-selected : (name : Name) (bits : ℕ) (m : SelMeaning) (to : VLval) → (bits ≡ 1 → ⊥) → IsSelected name m to → IsOwn name bits to
+own-selected name bits m to more selected = own-select name bits selected.sel to more selected.is
 
 pub decimals-bare : (name : Name) (to : VLval) → to ≡ L.Name name [] → HasDecimals name to
 decimals-bare name to is = record { sels = []; is = is; decimal = tt }
 
 pub decimals-select : (name : Name) (s : VSel) (base : ℕ) (extent : Option VExtent) (to : VLval) → s ≡ S.Decimal base extent → to ≡ L.Name name (s ∷ []) → HasDecimals name to
 decimals-select name s base extent to decimal is = record { sels = s ∷ []; is = is; decimal = (record { base = base; extent = extent; is = decimal }, tt) }
+
+-- its selects on a vector
+selects-are : (name : Name) (sels : List VSel) (vec : Named) → in_vector vec (L.Name name sels) ≡ vector_target vec (map sel_meaning sels)
+selects-are name sels vec =
+    ap (λ (x : VLval-F VLval). elim x [ VLval-F.Name n ss ↦ vector_target vec (map sel_meaning ss) | VLval-F.Concat parts ↦ target (L.Name name sels) ])
+    (ap out-VLval (sym (L.rolls-Name name sels)) ∙ out-roll-VLval (VLval-F.Name name sels))
+
+pub selects-none : (name : Name) (to : VLval) → to ≡ L.Name name [] → Selects to []
+selects-none name to is vec = ap (in_vector vec) is ∙ selects-are name [] vec
+
+pub selects-one : (name : Name) (s : VSel) (m : SelMeaning) (to : VLval) → sel_meaning s ≡ m → to ≡ L.Name name (s ∷ []) → Selects to (m ∷ [])
+selects-one name s m to means is vec = ap (in_vector vec) is ∙ selects-are name (s ∷ []) vec ∙ ap (λ k. vector_target vec (k ∷ [])) means
 
 -- where a path stands
 pub plain-known : (name : Name) (s : Spot) (guard : Option VExpr) (to : VLval) → guard ≡ None → HasDecimals name to → PlainAim name s (Some (record { guard = guard; to = to }))

@@ -9,6 +9,8 @@ use Rattle.v_tree.specs.declared.expressions.VSel.TheVariants as S
 use Rattle.v_tree.specs.declared.statements.VLval.{VLval}
 use Rattle.v_tree.specs.declared.statements.VLval.TheVariants as L
 use Rattle.v_meaning.specs.Scopes.{Scope, Use}
+use Rattle.v_meaning.specs.Selects.{SelMeaning}
+use Rattle.v_meaning.specs.Values.{sel_meaning}
 use Rattle.lowering_laws.specs.Reached.{Piece}
 use Rattle.target_flatten.specs.declared.aims.Aim.{Aim}
 use Rattle.target_flatten.specs.declared.spots.Spot.{Spot}
@@ -22,10 +24,11 @@ pub record IsOwn (name : Name) (bits : ℕ) (to : VLval) : Type 0 where
   pub few : length sels ≤ 1
   pub bare : bits ≡ 1 → sels ≡ []
 
--- this name with one select
-pub record IsSelected (name : Name) (to : VLval) : Type 0 where
+-- this name with one select, which means this
+pub record IsSelected (name : Name) (m : SelMeaning) (to : VLval) : Type 0 where
   pub sel : VSel
   pub is : to ≡ L.Name name (sel ∷ [])
+  pub means : sel_meaning sel ≡ m
 
 -- selects whose base is a decimal number
 pub record IsDecimal (s : VSel) : Type 0 where

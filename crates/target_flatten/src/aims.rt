@@ -90,7 +90,7 @@ pub fn known_target(
     low: u32,
     n: u32,
 ) -> Result<VLval, AllocError>
-    ensures aims { IfOk result (AimsKnown name.now bits low n) }
+    ensures aims { IfOk result (AimsKnown bits low n) }
     ensures names { IfOk result NamesNoOther }
     ensures own { IfOk result (IsOwn name.now bits) }
     ensures plain { IfOk result (HasDecimals name.now) }
@@ -146,7 +146,7 @@ fn offset_select(alloc: Global, offset: VExpr, n: u32) -> Result<VSel, AllocErro
 /// So many bits of a name, from an offset on.
 fn offset_target(alloc: Global, name: &Text, offset: VExpr, n: u32) -> Result<VLval, AllocError>
     ensures means { IfOk result (λ t. target t ≡ name_target name.now (select_at (meaning offset) n ∷ [])) }
-    ensures is { IfOk result (IsSelected name.now) }
+    ensures is { IfOk result (IsSelected name.now (select_at (meaning offset) n)) }
 {
     let sel = offset_select(alloc, offset, n)?;
     let made = selected(alloc, name, sel)?;
@@ -157,7 +157,7 @@ fn offset_target(alloc: Global, name: &Text, offset: VExpr, n: u32) -> Result<VL
 fn placed_target(alloc: Global, name: &Text, place: Place, n: u32) -> Result<Aim, AllocError>
     ensures guard { IfOk result (λ x. guard_meaning x.guard ≡ guard_meaning place.guard) }
     ensures to { IfOk result (λ x. target x.to ≡ name_target name.now (select_at (meaning place.offset) n ∷ [])) }
-    ensures is { IfOk result (λ x. IsSelected name.now x.to) }
+    ensures is { IfOk result (λ x. IsSelected name.now (select_at (meaning place.offset) n) x.to) }
 {
     let to = offset_target(alloc, name, place.offset, n);
     let (guard, to) = pairs::both(Ok(place.guard), to)?;
@@ -171,7 +171,7 @@ pub(crate) fn aim_at_place(
     place: Place,
     n: u32,
 ) -> Result<Aim, AllocError>
-    ensures aims { IfOk result (AimsPlaced image.now.name image.now.bits place n image.now.room) }
+    ensures aims { IfOk result (AimsPlaced image.now.bits place n image.now.room) }
     ensures names { IfOk result (NamesAim place) }
     ensures own { IfOk result (λ x. IsOwn image.now.name image.now.bits x.to) }
 {
@@ -187,7 +187,7 @@ pub(crate) fn aim_at_place(
 /// So many bits of an image, from where a path stands on, or none where it stands nowhere. Or want of memory.
 pub fn aim_at(alloc: Global, image: &Image, spot: Spot, n: u32) -> Result<Option<Aim>, AllocError>
     requires room { image.now.room ≤ 128 }
-    ensures aims { IfOk result (AimsAt image.now.name image.now.bits spot n image.now.room) }
+    ensures aims { IfOk result (AimsAt image.now.bits spot n image.now.room) }
     ensures names { IfOk result (NamesAimAt spot) }
     ensures own { IfOk result (OwnAim image.now.name image.now.bits) }
     ensures plain { IfOk result (PlainAim image.now.name spot) }

@@ -79,7 +79,7 @@ fn inner_writes(
 ) -> Result<Writes, AllocError>
     requires near { IsNear inner.shift }
     requires room { image.now.room ≤ 128 }
-    ensures writes { IfOk result (WritesInner image.now.name image.now.bits spot inner image.now.room) }
+    ensures writes { IfOk result (WritesInner image.now.bits spot inner image.now.room) }
     ensures names { IfOk result (NamesWrites spot) }
     ensures own { IfOk result (AllOwn image.now.name image.now.bits) }
     ensures plain { IfOk result (PlainWrites image.now.name spot) }
@@ -96,7 +96,7 @@ fn inner_writes(
 /// What is written of all of a path of so many bits that stands somewhere. Or want of memory.
 pub fn whole_writes(alloc: Global, image: &Image, spot: Spot, n: u32) -> Result<Writes, AllocError>
     requires room { image.now.room ≤ 128 }
-    ensures writes { IfOk result (WritesWhole image.now.name image.now.bits spot n image.now.room) }
+    ensures writes { IfOk result (WritesWhole image.now.bits spot n image.now.room) }
     ensures names { IfOk result (NamesWrites spot) }
     ensures own { IfOk result (AllOwn image.now.name image.now.bits) }
     ensures plain { IfOk result (PlainWrites image.now.name spot) }
@@ -116,7 +116,7 @@ pub fn between_writes(
 ) -> Result<Writes, AllocError>
     requires narrow { width_of of.now ≤ 4194304 }
     requires room { image.now.room ≤ 128 }
-    ensures writes { IfOk result (WritesBetween image.now.name image.now.bits spot of.now left right image.now.room) }
+    ensures writes { IfOk result (WritesBetween image.now.bits spot of.now left right image.now.room) }
     ensures names { IfOk result (NamesWrites spot) }
     ensures own { IfOk result (AllOwn image.now.name image.now.bits) }
     ensures plain { IfOk result (PlainWrites image.now.name spot) }

@@ -13,13 +13,13 @@ use Rattle.target_flatten.proofs.aims.aim_at.Goals as goal
 pub returns-in-Known-clause-aims : goal.returns-in-Known-clause-aims
 returns-in-Known-clause-aims c =
     let x : Aim = record { guard = None; to = c.in_ok-to-in-Known.to } in
-    subst (λ (s : Spot). AimsAt c.args.image.now.name c.args.image.now.bits s c.args.n c.args.image.now.room (Some x)) (sym c.in-Known.is)
-    (at-known c.args.image.now.name c.args.image.now.bits c.in-Known.below c.args.n c.args.image.now.room x refl c.in_ok-to-in-Known.ensures.aims)
+    subst (λ (s : Spot). AimsAt c.args.image.now.bits s c.args.n c.args.image.now.room (Some x)) (sym c.in-Known.is)
+    (at-known c.args.image.now.bits c.in-Known.below c.args.n c.args.image.now.room x refl c.in_ok-to-in-Known.ensures.aims)
 
 pub returns-in_ok-made-in-Moved-clause-aims : goal.returns-in_ok-made-in-Moved-clause-aims
 returns-in_ok-made-in-Moved-clause-aims c =
-    subst (λ (s : Spot). AimsAt c.args.image.now.name c.args.image.now.bits s c.args.n c.args.image.now.room (Some c.in_ok-made-in-Moved.made)) (sym c.in-Moved.is)
-    (at-place c.args.image.now.name c.args.image.now.bits c.args.n c.args.image.now.room (V.Moved c.in-Moved.place c.in-Moved.below) c.in_ok-place-in-Moved.place c.in_ok-made-in-Moved.made
+    subst (λ (s : Spot). AimsAt c.args.image.now.bits s c.args.n c.args.image.now.room (Some c.in_ok-made-in-Moved.made)) (sym c.in-Moved.is)
+    (at-place c.args.image.now.bits c.args.n c.args.image.now.room (V.Moved c.in-Moved.place c.in-Moved.below) c.in_ok-place-in-Moved.place c.in_ok-made-in-Moved.made
     c.in_ok-place-in-Moved.ensures.place c.in_ok-made-in-Moved.ensures.aims)
 
 pub returns-in-Known-clause-names : goal.returns-in-Known-clause-names

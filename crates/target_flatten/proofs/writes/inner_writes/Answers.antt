@@ -9,12 +9,12 @@ use Rattle.target_flatten.proofs.writes.inner_writes.Goals as goal
 pub returns-then-inner-clause-writes : goal.returns-then-inner-clause-writes
 returns-then-inner-clause-writes c =
     let none : c.from_vec.result ≡ [] = search rules in
-    inner-none c.args.image.now.name c.args.image.now.bits c.args.spot c.args.inner c.args.image.now.room c.from_vec.result (omega arith) (ap pieces none)
+    inner-none c.args.image.now.bits c.args.spot c.args.inner c.args.image.now.room c.from_vec.result (omega arith) none
 
 pub returns-clause-writes : goal.returns-clause-writes
 returns-clause-writes c =
-    inner-made c.args.image.now.name c.args.image.now.bits c.args.spot c.inside.result c.args.inner c.args.image.now.room c.first_bit.result (c.args.inner.high - c.args.inner.low) c.in_ok-aim.aim c.in_ok-made.made (omega arith) refl
-    c.first_bit.ensures c.inside.ensures.stands c.in_ok-aim.ensures.aims c.in_ok-made.ensures.makes
+    inner-made c.args.image.now.bits c.args.spot c.inside.result c.args.inner c.args.image.now.room c.first_bit.result (c.args.inner.high - c.args.inner.low) c.in_ok-aim.aim c.in_ok-made.made (omega arith) refl
+    c.first_bit.ensures c.inside.ensures.stands c.in_ok-aim.ensures.aims c.in_ok-made.ensures.is
 
 pub returns-then-inner-clause-names : goal.returns-then-inner-clause-names
 returns-then-inner-clause-names c =
