@@ -1,5 +1,12 @@
 -- What the targets of paths are made of.
-use Rattle.std.proofs.Common.{◌≡◌, ℕ, ◌≤◌, List, [], ◌∷◌, length, map, Option, Some, None, refl, arith, ap, sym, ◌∙◌, subst}
+use Rattle.std.proofs.Common.{◌≡◌, ℕ, ◌≤◌, cond, take, drop, List, [], ◌∷◌, length, map, Option, Some, None, refl, arith, ap, sym, ◌∙◌, subst}
+use Rattle.b4_core.specs.declared.bit.Bit4.{Bit4}
+use Rattle.row_machine.specs.Valuation.{Valuation, Changes}
+use Rattle.row_machine.specs.Steps.{unchanged, then_changes}
+use Rattle.picks.specs.Windows.{Window}
+use Rattle.lowering_laws.specs.Placed.{holds}
+use Rattle.lowering_laws.specs.Reached.{pieces_put, AreWide, AreBelow, IsWritten}
+use Rattle.path_flatten.specs.Guards.{guard_meaning}
 use Rattle.v_tree.specs.Names.{Name}
 use Rattle.v_tree.specs.declared.expressions.VExpr.{VExpr}
 use Rattle.v_tree.specs.declared.expressions.VExtent.{VExtent}
@@ -78,3 +85,48 @@ own-writes name bits to sc own =
 pub all-write : (name : Name) (bits : ℕ) (xs : List Write) (sc : Scope) → AllOwn name bits xs → AllWrite (named sc.names name).number (pieces xs) sc
 all-write name bits [] sc own = tt
 all-write name bits (x ∷ xs) sc own = (own-writes name bits x.to sc own.0, all-write name bits xs sc own.1)
+
+-- A name that stands for a vector is written as that vector is.
+name-width : (name : Name) (ss : List SelMeaning) (sc : Scope) → (name_target name ss).width sc ≡ (vector_target (named sc.names name) ss).width sc
+unfolding name_target
+name-width name ss sc = refl
+
+name-puts : (name : Name) (ss : List SelMeaning) (sc : Scope) (v : Valuation) (bits : List Bit4) → (name_target name ss).puts sc v bits ≡ (vector_target (named sc.names name) ss).puts sc v bits
+unfolding name_target
+name-puts name ss sc v bits = refl
+
+module _ (name : Name) (count : ℕ) (sc : Scope) where
+  abbrev vec : Named
+  vec = named sc.names name
+
+  own-width : (to : VLval) → IsOwn name count to → (target to).width sc ≡ (in_vector vec to).width sc
+  own-width to own =
+      ap (λ (t : Target). t.width sc) (ap target own.is ∙ name-target name own.sels)
+      ∙ name-width name (map sel_meaning own.sels) sc
+      ∙ sym (ap (λ (t : Target). t.width sc) (ap (in_vector vec) own.is ∙ selects-are name own.sels vec))
+
+  own-puts : (to : VLval) (v : Valuation) (bits : List Bit4) → IsOwn name count to → (target to).puts sc v bits ≡ (in_vector vec to).puts sc v bits
+  own-puts to v bits own =
+      ap (λ (t : Target). t.puts sc v bits) (ap target own.is ∙ name-target name own.sels)
+      ∙ name-puts name (map sel_meaning own.sels) sc v bits
+      ∙ sym (ap (λ (t : Target). t.puts sc v bits) (ap (in_vector vec) own.is ∙ selects-are name own.sels vec))
+
+  own-pieces : (xs : List Write) (v : Valuation) (bits : List Bit4) → AllOwn name count xs → pieces_put (pieces xs) sc v bits ≡ pieces_put (pieces_in vec xs) sc v bits
+  own-pieces [] v bits own = refl
+  own-pieces (x ∷ xs) v bits own =
+      λ i. then_changes (cond (holds (guard_meaning x.guard) sc v) (own-puts x.to v (take x.width (drop x.low bits)) own.0 i) unchanged) (own-pieces xs v bits own.1 i)
+
+  own-wide : (xs : List Write) → AllOwn name count xs → AreWide (pieces_in vec xs) sc → AreWide (pieces xs) sc
+  own-wide [] own h = tt
+  own-wide (x ∷ xs) own h = (own-width x.to own.0 ∙ h.0, own-wide xs own.1 h.1)
+
+  same-below : (n : ℕ) (xs : List Write) → AreBelow n (pieces_in vec xs) → AreBelow n (pieces xs)
+  same-below n [] h = tt
+  same-below n (x ∷ xs) h = (h.0, same-below n xs h.1)
+
+  pub written-by-name : (path : Window) (n : ℕ) (xs : List Write) (v : Valuation) → AllOwn name count xs → IsWritten path n vec.number (pieces_in vec xs) sc v → IsWritten path n vec.number (pieces xs) sc v
+  written-by-name path n xs v own h = record {
+    wide = own-wide xs own h.wide;
+    below = same-below n xs h.below;
+    puts = λ bits long q. ap (λ (c : Changes). c q) (own-pieces xs v bits own) ∙ h.puts bits long q;
+  }

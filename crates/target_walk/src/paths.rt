@@ -5,7 +5,7 @@ ghost use Rattle.sv_types.specs.Expressions.{meaning};
 ghost use Rattle.target_flatten.specs.Owning.{AllOwn};
 ghost use Rattle.target_walk.specs.Giving.{AllSmall};
 ghost use Rattle.target_walk.specs.Walking.{WritesAs, WritesAll, TellsPart};
-ghost use Rattle.target_walk.specs.Naming.{FlattensTo};
+ghost use Rattle.target_walk.specs.Naming.{FlattensIn, FlattensTo};
 ghost use Rattle.target_walk.specs.Changing.{ChangesAs};
 ghost use Rattle.target_walk.specs.Owning.{BareOf, PlainOf};
 
@@ -91,6 +91,7 @@ pub fn flatten_target(
     requires room { image.now.room ≤ 128 }
     requires small { AllSmall indices.now }
     ensures writes { IfOk result (FlattensTo image.now e.now indices.now) }
+    ensures inside { IfOk result (FlattensIn image.now e.now indices.now) }
     ensures changes { IfOk result (λ r. ChangesAs image.now e.now indices.now r.writes) }
     ensures own { IfOk result (λ r. AllOwn image.now.name image.now.bits r.writes) }
     ensures plain { IfOk result (BareOf image.now indices.now) }

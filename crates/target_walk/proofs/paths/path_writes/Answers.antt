@@ -25,8 +25,8 @@ returns-then-not-ends_in_part-clause-writes c =
     let right_same : to_z w64 (of_z w64 c.in-Some-Part.right) ≡ c.in-Some-Part.right = to_z-of_z w64 c.in-Some-Part.right right_fits in
     between-written c.args.image.now c.args.e.now c.in-Some-Part.from.now c.in-Some-Part.left c.in-Some-Part.right c.args.indices.now c.in_ok-spot.spot c.between_writes.result h c.if-not-ends_in_part.ensures c.requires.narrow
     c.in_ok-spot.ensures.stands
-    (subst (λ y. IfOk c.between_writes.result (WritesBetween c.args.image.now.name c.args.image.now.bits c.in_ok-spot.spot c.in-Some-Part.from.now.of y c.in-Some-Part.right c.args.image.now.room)) left_same
-    (subst (λ y. IfOk c.between_writes.result (WritesBetween c.args.image.now.name c.args.image.now.bits c.in_ok-spot.spot c.in-Some-Part.from.now.of (to_z w64 (of_z w64 c.in-Some-Part.left)) y c.args.image.now.room)) right_same
+    (subst (λ y. IfOk c.between_writes.result (WritesBetween c.args.image.now.bits c.in_ok-spot.spot c.in-Some-Part.from.now.of y c.in-Some-Part.right c.args.image.now.room)) left_same
+    (subst (λ y. IfOk c.between_writes.result (WritesBetween c.args.image.now.bits c.in_ok-spot.spot c.in-Some-Part.from.now.of (to_z w64 (of_z w64 c.in-Some-Part.left)) y c.args.image.now.room)) right_same
     c.between_writes.ensures.writes)) c.between_writes.ensures.names
 
 pub returns-then-not-ends_in_part-clause-own : goal.returns-then-not-ends_in_part-clause-own
