@@ -74,13 +74,12 @@ known-all bits low n to all is vec e a sc v aim known =
     piece-by e a vec sc v None None (in_vector vec to) (vector_target vec []) n (S.wide e) refl (is vec) (sym aim.wide)
     (whole-in e a vec bits sc v aim.vector (tight-path vec bits n e a aim) low known (omega arith) (omega arith))
 
-pub known-whole : (bits low n : ℕ) (to : VLval) → (bits ≡ 1) ⊎ (n ≡ bits) → Selects to [] → AimsKnown bits low n to
-known-whole bits low n to (inl one) is vec e a sc v aim known =
+pub known-whole : (bits low n : ℕ) (to : VLval) → (1 ≤ n → n ≤ bits → n ≡ bits) → Selects to [] → AimsKnown bits low n to
+known-whole bits low n to all is vec e a sc v aim known =
     let fits = known.fits in
     let wide = aim.wide in
     let some = aim.some in
-    known-all bits low n to (omega arith) is vec e a sc v aim known
-known-whole bits low n to (inr all) is vec e a sc v aim known = known-all bits low n to all is vec e a sc v aim known
+    known-all bits low n to (all some (omega arith)) is vec e a sc v aim known
 
 pub known-bit : (bits low n : ℕ) (to : VLval) → n ≡ 1 → Selects to (terms.bit_at_number low ∷ []) → AimsKnown bits low n to
 known-bit bits low n to one is vec e a sc v aim known =

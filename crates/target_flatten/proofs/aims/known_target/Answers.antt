@@ -8,7 +8,7 @@ use Rattle.target_flatten.proofs.Writing.{known-whole, known-bit, known-range}
 use Rattle.target_flatten.proofs.aims.known_target.Goals as goal
 
 pub returns-in_ok-made-clause-aims : goal.returns-in_ok-made-clause-aims
-returns-in_ok-made-clause-aims c = known-whole c.args.bits c.args.low c.args.n c.in_ok-made.made ? (selects-none c.args.name.now c.in_ok-made.made c.in_ok-made.ensures.is)
+returns-in_ok-made-clause-aims c = known-whole c.args.bits c.args.low c.args.n c.in_ok-made.made (λ some few. omega arith) (selects-none c.args.name.now c.in_ok-made.made c.in_ok-made.ensures.is)
 
 pub returns-in_ok-made-2-clause-aims : goal.returns-in_ok-made-2-clause-aims
 returns-in_ok-made-2-clause-aims c =
