@@ -12,6 +12,7 @@ use Rattle.v_meaning.specs.Scopes.{Scope, Named}
 use Rattle.v_meaning.specs.Selects.{SelMeaning}
 use Rattle.v_meaning.specs.Statements.{Target, target}
 use Rattle.v_meaning.specs.Values as T
+use Rattle.v_meaning.specs.Values.{meaning, sel_meaning}
 use Rattle.eval_parts.specs.Places.{window_of}
 use Rattle.eval_parts.specs.declared.paths.Window.{Window as Span}
 use Rattle.lowering_laws.specs.Images.{NamesNone}

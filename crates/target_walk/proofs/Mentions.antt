@@ -158,7 +158,7 @@ flattened im e gs (Ok (y ∷ ys)) r writes own names = flattened-some im e gs y 
 flattened im e gs (Ok []) r writes own names = flattened-none im e gs r writes own names.0 names.1
 
 flattened-in : (im : Image) (e : Expr) (gs : List Given) (q : Result (List Write) AllocError) (r : Targets) → IfOk q (WritesAll im e gs) → NamesFrom gs q r → FlattensIn im e gs r
-flattened-in im e gs (Err x) r writes names = absurd names
+flattened-in im e gs (Err x) r writes names vec a sc v p vector small one room typed path = absurd names
 flattened-in im e gs (Ok xs) r writes names vec a sc v p vector small one room typed path =
     subst (λ (zs : List Write). WritesPath vec (meaning e) a (pieces_in vec zs) sc v) (sym names.0) (writes p vec a sc v vector small one room typed path).path
 

@@ -19,4 +19,4 @@ pub returns-clause-own : goal.returns-clause-own
 returns-clause-own c = c.add_cell.ensures.own
 
 pub returns-clause-plain : goal.returns-clause-plain
-returns-clause-plain c = plain-element c.args.image.now c.args.indices.now _ c.in_ok-spot.spot _ _ c.add_cell.result c.in_ok-spot.ensures.steady c.add_cell.ensures.plain
+returns-clause-plain c = plain-element c.args.image.now c.args.indices.now (Some (to_z w128 (of_z w128 c.args.k))) c.in_ok-spot.spot _ _ c.add_cell.result c.in_ok-spot.ensures.steady c.add_cell.ensures.plain

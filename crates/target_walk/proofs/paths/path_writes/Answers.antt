@@ -1,9 +1,9 @@
-use Rattle.std.proofs.Common.{◌≡◌, IfOk, rules, subst}
+use Rattle.std.proofs.Common.{◌≡◌, IfOk, true, false, rules, subst}
 use Rattle.std.proofs.lemmas.Int.{to_z-of_z}
 use mir.Val.{SFits, to_z, of_z}
 use mir.Syntax.{w64}
 use Rattle.target_flatten.specs.Writing.{WritesBetween}
-use Rattle.target_walk.proofs.Ending.{between-written}
+use Rattle.target_walk.proofs.Ending.{between-written, told-writes}
 use Rattle.target_walk.proofs.Limiting.{own-narrow, part-narrow}
 use Rattle.target_walk.proofs.Owning.{plain-at}
 use Rattle.target_walk.proofs.paths.path_writes.Goals as goal
@@ -35,3 +35,11 @@ returns-then-not-ends_in_part-clause-own c = c.between_writes.ensures.own
 pub returns-then-not-ends_in_part-clause-plain : goal.returns-then-not-ends_in_part-clause-plain
 returns-then-not-ends_in_part-clause-plain c =
     plain-at c.args.image.now c.args.indices.now c.in_ok-spot.spot c.between_writes.result c.in_ok-spot.ensures.steady c.between_writes.ensures.plain
+
+pub returns-then-ends_in_part-clause-writes : goal.returns-then-ends_in_part-clause-writes
+returns-then-ends_in_part-clause-writes c =
+    told-writes c.args.image.now c.args.e.now c.args.indices.now true c.cells.result c.if-ends_in_part.ensures c.cells.ensures.writes
+
+pub returns-else-ends_in_part-clause-writes : goal.returns-else-ends_in_part-clause-writes
+returns-else-ends_in_part-clause-writes c =
+    told-writes c.args.image.now c.args.e.now c.args.indices.now false c.whole_path.result c.if-ends_in_part.ensures c.whole_path.ensures.writes

@@ -32,4 +32,4 @@ returns-in-Known-clause-steady c = λ h. c.element_spot.ensures.steady
 
 pub returns-in-Lowered-clause-steady : goal.returns-in-Lowered-clause-steady
 returns-in-Lowered-clause-steady c =
-    subst (λ (g : Element). IfOk c.index_spot.result (SteadyElement c.args.spot (given_of g))) (sym c.in-Lowered.is) (moved-element c.args.spot _ _ c.index_spot.result)
+    subst (λ (g : Element). IfOk c.index_spot.result (SteadyElement c.args.spot (given_of g))) (sym c.in-Lowered.is) (moved-element c.args.spot c.in-Lowered.index.now c.in-Lowered.by c.index_spot.result)
