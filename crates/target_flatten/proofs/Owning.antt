@@ -1,5 +1,5 @@
 -- What the targets of paths are made of.
-use Rattle.std.proofs.Common.{◌≡◌, ℕ, ◌≤◌, cond, take, drop, List, [], ◌∷◌, length, map, Option, Some, None, refl, arith, ap, sym, ◌∙◌, subst}
+use Rattle.std.proofs.Common.{◌≡◌, ℕ, cond, take, drop, List, [], ◌∷◌, map, Option, Some, None, refl, arith, ap, sym, ◌∙◌, subst}
 use Rattle.b4_core.specs.declared.bit.Bit4.{Bit4}
 use Rattle.row_machine.specs.Valuation.{Valuation, Changes}
 use Rattle.row_machine.specs.Steps.{unchanged, then_changes}
@@ -20,10 +20,9 @@ use Rattle.v_meaning.specs.Statements.{Target, target, name_target, lval_step}
 use Rattle.v_meaning.specs.Values.{sel_meaning}
 use Rattle.target_flatten.specs.declared.aims.Aim.{Aim}
 use Rattle.target_flatten.specs.declared.spots.Spot.{Spot}
-use Rattle.target_flatten.specs.declared.spots.Spot.TheVariants as V
 use Rattle.target_flatten.specs.declared.writes.Write.{Write}
-use Rattle.target_flatten.specs.Owning.{IsOwn, IsSelected, IsDecimal, AreDecimal, HasDecimals, IsPlain, IsSteady, OwnAim, PlainAim, AllOwn, AllPlain, PlainWrites, StaysSteady, writes_made, AreUsesOf, AllWrite}
-use Rattle.target_flatten.specs.Writing.{pieces, pieces_in, in_vector, Selects, WritesPath}
+use Rattle.target_flatten.specs.Owning.{IsOwn, IsSelected, HasDecimals, IsSteady, OwnAim, PlainAim, AllOwn, AllPlain, PlainWrites, StaysSteady, writes_made, AreUsesOf, AllWrite}
+use Rattle.target_flatten.specs.Writing.{pieces, pieces_in, in_vector, Selects}
 use Rattle.target_laws.specs.Vectors.{vector_target}
 
 -- a name with selects

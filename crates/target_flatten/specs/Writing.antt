@@ -6,7 +6,6 @@ use Rattle.sv_types.specs.Layouts.{layout, count_of}
 use Rattle.sv_types.specs.Windows.{between}
 use Rattle.sv_types.specs.Surroundings.{Around}
 use Rattle.sv_types.specs.Meanings as S
-use Rattle.v_tree.specs.Names.{Name}
 use Rattle.v_tree.specs.declared.statements.VLval.{VLval, VLval-F, out-VLval}
 use Rattle.v_meaning.specs.Scopes.{Scope, Named}
 use Rattle.v_meaning.specs.Selects.{SelMeaning}

@@ -2,43 +2,34 @@
 use Rattle.std.proofs.Math.Seq.{drop-cons}
 use Rattle.std.proofs.Math.Numerals.{add-one}
 use Rattle.v_tree.specs.declared.expressions.VExpr.{VExpr}
-use Rattle.std.proofs.Common.{◌≡◌, ℕ, suc, get_or, IfOk, ◌+◌, ◌<◌, ◌≤◌, ◌^◌, Bool, true, false, ◌&&◌, ◌||◌, cond, ℤ, pos, length, take, drop, List, [], ◌∷◌, ◌++◌, append-nil, Option, Some, None, Result, Ok, Err, refl, arith, ap, sym, ◌∙◌, subst, true≢false}
+use Rattle.std.proofs.Common.{◌≡◌, ℕ, suc, get_or, IfOk, ◌+◌, ◌<◌, true, false, ◌&&◌, ◌||◌, ℤ, length, drop, List, [], ◌∷◌, ◌++◌, append-nil, Option, Some, None, Result, Ok, Err, refl, ap, sym, ◌∙◌, subst, true≢false}
 use Rattle.std.specs.declared.alloc.AllocError.{AllocError}
-use Rattle.b4_core.specs.declared.bit.Bit4.{Bit4}
 use Rattle.b4_core.specs.declared.bit.Bit4.TheVariants.{Zero}
 use Rattle.b4_core.specs.Bits.{is_one}
-use Rattle.row_machine.specs.Valuation.{Valuation, Place}
-use Rattle.row_machine.specs.Steps.{unchanged, later_or}
-use Rattle.picks.specs.Windows.{whole, part}
+use Rattle.row_machine.specs.Valuation.{Valuation}
 use Rattle.sv_types.specs.declared.expression.Expr.{Expr}
 use Rattle.sv_types.specs.Surroundings.{Around}
 use Rattle.sv_types.specs.Meanings as S
 use Rattle.sv_types.specs.Expressions.{meaning}
-use Rattle.sv_types.proofs.Picks.{picked-part}
 use Rattle.v_meaning.specs.Scopes.{Scope, named}
-use Rattle.v_meaning.specs.Statements.{target}
 use Rattle.v_meaning.specs.Values as T
-use Rattle.lowering_laws.specs.Reached.{Piece, pieces_put, IsWritten}
+use Rattle.lowering_laws.specs.Reached.{Piece}
 use Rattle.lowering_laws.proofs.Offsets.{holds-both}
-use Rattle.lowering_laws.proofs.WriteAt.{part-tight}
 use Rattle.path_flatten.specs.Naming.{SameNumbers}
 use Rattle.path_flatten.proofs.Naming.{same-itself, same-by, same-then, same-joined, same-twice}
-use Rattle.path_flatten.proofs.Sees.{stays-of}
-use Rattle.target_laws.specs.Standing.{IsVectorOf, IsKnown}
 use Rattle.target_flatten.specs.declared.writes.Image.{Image}
 use Rattle.target_flatten.specs.declared.writes.Write.{Write}
 use Rattle.target_flatten.specs.Naming.{piece_names, EachNames}
 use Rattle.target_flatten.specs.Owning.{AllOwn}
-use Rattle.target_flatten.specs.Writing.{piece as write_piece, pieces, pieces_in, WritesPath, IsAimed}
+use Rattle.target_flatten.specs.Writing.{piece as write_piece, pieces, pieces_in, WritesPath}
 use Rattle.target_flatten.proofs.Owning.{written-by-name}
 use Rattle.target_flatten.proofs.Naming.{both-guards, same-middle}
 use Rattle.target_walk.specs.declared.given.Given.{Given}
 use Rattle.target_walk.specs.declared.given.Given.TheVariants as G
 use Rattle.target_walk.specs.declared.never.Targets.{Targets}
 use Rattle.target_walk.specs.Giving.{all_names, given_names}
-use Rattle.target_walk.specs.Naming.{NamesAlso, IsNever, is_lowered, has_lowered, NamedApart, NamesFrom, all_piece_names, apart_names, Flattened, FlattensTo, FlattensIn}
+use Rattle.target_walk.specs.Naming.{NamesAlso, IsNever, is_lowered, has_lowered, NamedApart, NamesFrom, all_piece_names, apart_names, FlattensTo, FlattensIn}
 use Rattle.target_walk.specs.Walking.{Written, WritesAll}
-use Rattle.target_walk.proofs.Taking.{Steady, steady}
 
 -- conditions that are never 1
 zero-never : (sc : Scope) (v : Valuation) → is_one (T.truth (T.literal (Zero ∷ [])) sc v) ≡ false

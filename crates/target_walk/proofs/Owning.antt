@@ -1,5 +1,5 @@
 -- What the targets of a path are made of, step by step.
-use Rattle.std.proofs.Common.{◌≡◌, ℕ, Bool, true, false, ◌&&◌, ◌||◌, cond, ℤ, List, [], ◌∷◌, ◌++◌, Option, Some, None, Result, Ok, Err, IfOk, OnOk, ap, sym, subst, true≢false}
+use Rattle.std.proofs.Common.{◌≡◌, ℕ, Bool, true, false, ◌&&◌, cond, ℤ, List, [], ◌∷◌, ◌++◌, Option, Some, None, Result, Ok, Err, IfOk, OnOk, sym, subst}
 use Rattle.std.specs.Prelude.{int_le, int_lt, pos}
 use Rattle.std.specs.declared.alloc.AllocError.{AllocError}
 use Rattle.v_tree.specs.Names.{Name}
@@ -7,15 +7,14 @@ use Rattle.path_flatten.specs.declared.offsets.Index.{Index}
 use Rattle.target_laws.specs.Elements.{far_from}
 use Rattle.target_flatten.specs.declared.aims.Aim.{Aim}
 use Rattle.target_flatten.specs.declared.spots.Spot.{Spot}
-use Rattle.target_flatten.specs.declared.spots.Spot.TheVariants as W
 use Rattle.target_flatten.specs.declared.writes.Image.{Image}
 use Rattle.target_flatten.specs.declared.writes.Write.{Write}
 use Rattle.target_flatten.specs.Owning.{IsOwn, IsPlain, IsSteady, StaysSteady, OwnAim, PlainAim, AllOwn, AllPlain, PlainWrites, writes_made}
 use Rattle.target_walk.specs.declared.given.Given.{Given}
 use Rattle.target_walk.specs.declared.given.Given.TheVariants as G
-use Rattle.target_walk.specs.Giving.{moved_given, kept_given, element_given, given_on}
+use Rattle.target_walk.specs.Giving.{moved_given, kept_given, given_on}
 use Rattle.target_walk.specs.declared.never.Targets.{Targets}
-use Rattle.target_walk.specs.Naming.{has_lowered, is_lowered, NamesFrom}
+use Rattle.target_walk.specs.Naming.{has_lowered, NamesFrom}
 use Rattle.target_walk.specs.Owning.{IsFixed, IsFixedIf, AllFixed, SteadyElement, SteadyChosen, SteadyMember, SteadyAt, KeepsOwn, KeepsPlain, KeepsPlainOf, PlainOf, BareOf}
 
 -- known indices

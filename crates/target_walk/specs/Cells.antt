@@ -1,5 +1,5 @@
 -- Part-selects that are written element by element (IEEE 1800-2017 clause 11.5.1).
-use Rattle.std.specs.Prelude.{◌≡◌, ℕ, ◌+◌, ◌*◌, ◌<◌, ◌≤◌, ◌^◌, min, ℤ, pos, ◌-ℤ◌, int_le, unsigned_abs, true, cond, List, [], ◌∷◌, ◌++◌, length, Option, Some, None}
+use Rattle.std.specs.Prelude.{◌≡◌, ℕ, ◌+◌, ◌*◌, ◌<◌, ◌≤◌, ◌^◌, min, ℤ, pos, ◌-ℤ◌, int_le, unsigned_abs, true, cond, List, ◌++◌, length, Option, Some}
 use Rattle.row_machine.specs.Valuation.{Valuation}
 use Rattle.sv_types.specs.declared.expression.Expr.{Expr}
 use Rattle.sv_types.specs.Layouts.{layout, count_of}

@@ -1,7 +1,6 @@
 -- What the targets of a path are made of, step by step (IEEE 1364-2005 clauses 6.1.2 and 9.2).
-use Rattle.std.specs.Prelude.{◌≡◌, ⊤, ℕ, List, [], ◌∷◌, Option, Some, None, Result, Ok, Err}
+use Rattle.std.specs.Prelude.{◌≡◌, ⊤, List, [], ◌∷◌, Option, Some, None, Result, Ok, Err}
 use Rattle.std.specs.declared.alloc.AllocError.{AllocError}
-use Rattle.v_tree.specs.Names.{Name}
 use Rattle.target_flatten.specs.declared.spots.Spot.{Spot}
 use Rattle.target_flatten.specs.declared.writes.Image.{Image}
 use Rattle.target_flatten.specs.declared.writes.Write.{Write}
