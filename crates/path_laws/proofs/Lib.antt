@@ -6,3 +6,6 @@ pub mod Selects
 pub mod Paths
 pub mod Targets
 pub mod Types
+pub mod Exprs
+pub mod Declared
+pub mod Statements

@@ -34,13 +34,13 @@ raised streams es (concatenation s e parts ds is these rest) = concatenation tru
 raised streams es (stream e reversed n parts ds is these rest) = stream e reversed n parts ds is these rest
 
 -- what stands before others
-abbrev Goes : Bool → Expr → Type 0
+abbrev pub Goes : Bool → Expr → Type 0
 Goes streams e = (es : List Expr) → AreTargets streams es → AreTargets streams (e ∷ es)
 
-abbrev GoesValued : Bool → Valued → Type 0
+abbrev pub GoesValued : Bool → Valued → Type 0
 GoesValued streams v = Goes streams v.expr
 
-joined : (streams : Bool) (vs : List Valued) → Each (GoesValued streams) vs → AreTargets streams (exprs vs)
+pub joined : (streams : Bool) (vs : List Valued) → Each (GoesValued streams) vs → AreTargets streams (exprs vs)
 joined streams [] h = none streams
 joined streams (v ∷ vs) h = h.0 (exprs vs) (joined streams vs h.1)
 
@@ -61,10 +61,10 @@ IsTypedTarget (ToPath v) = IsTyped v.expr
 IsTypedTarget (ToParts v vs e) = IsConcat v.expr (exprs vs)
 IsTypedTarget (ToStream v) = IsStream v.expr
 
-path-goes : (streams : Bool) (e : Expr) → IsTyped e → Goes streams e
+pub path-goes : (streams : Bool) (e : Expr) → IsTyped e → Goes streams e
 path-goes streams e is es rest = path streams e es is rest
 
-concat-goes : (streams : Bool) (e : Expr) (ds : List Expr) → IsConcat e ds → Goes streams e
+pub concat-goes : (streams : Bool) (e : Expr) (ds : List Expr) → IsConcat e ds → Goes streams e
 concat-goes streams e ds c es rest = concatenation streams e ds es c.is c.parts rest
 
 whole-goes : (t : Target) → IsTypedTarget t → GoesValued true (whole_of t)
@@ -107,7 +107,7 @@ a_target t = Ok t
 as-target : (t u : Target) → a_target t ≡ Ok u → IsTypedTarget t → IsTypedTarget u
 as-target t u h typed = let is : t ≡ u = cc in subst IsTypedTarget is typed
 
-concat-is : (k : Source) (opening : ℕ) (es : List Expr) (v : Valued) → concat_of k opening es ≡ Ok v → v.expr.form ≡ F.Concat es
+pub concat-is : (k : Source) (opening : ℕ) (es : List Expr) (v : Valued) → concat_of k opening es ≡ Ok v → v.expr.form ≡ F.Concat es
 concat-is k opening es v h =
     let a = by_itself k opening (vector (all_bits es) false) (F.Concat es) in
     ap (λ (x : Valued). x.expr.form) (sym (ok-is a v (long-then k opening (all_bits es) (Ok a) v h)))

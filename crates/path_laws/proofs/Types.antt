@@ -36,7 +36,7 @@ use Rattle.path_laws.specs.Names.{AllTypesPlain}
 use Rattle.path_laws.proofs.Bases.{kind-Scalar, kind-UnpackedArray, kind-Struct, kind-Union, kind-Enum, kind-member, plain-of, plain-PackedArray, unpacked-is, unpacked-PackedArray, unpacked-Scalar}
 use Rattle.path_laws.proofs.Typings.{Gives, AllGive, Each, IfKnown, Anything, anything, whole-gives, broken-gives, rule-gives, checked-gives, both-gives, all-gives, by-gives}
 
-abbrev Plain : SvType → Type 0
+abbrev pub Plain : SvType → Type 0
 Plain t = has_plain_bases t ≡ true
 
 -- one that a word names, and dimensions
@@ -47,7 +47,7 @@ plain-packed : (s : Bool) (ds : List Dim) (of : Bool → SvType) → ((b : Bool)
 plain-packed s [] of h = h s
 plain-packed s (d ∷ ds) of h = plain-PackedArray d.left d.right s (D.packed false ds of) (plain-packed false ds of h)
 
-plain-unpacked : (ds : List Dim) (t : SvType) → Plain t → Plain (unpacked ds t)
+pub plain-unpacked : (ds : List Dim) (t : SvType) → Plain t → Plain (unpacked ds t)
 plain-unpacked [] t h = h
 plain-unpacked (d ∷ ds) t h = plain-of (V.UnpackedArray d.left d.right (unpacked ds t)) _ (kind-UnpackedArray d.left d.right (unpacked ds t)) ∙ plain-unpacked ds t h
 
@@ -55,19 +55,19 @@ plain-word : (four : Bool) (bits : Option ℕ) (s : Bool) → Plain (D.plain fou
 plain-word four None s = plain-Scalar four s
 plain-word four (Some w) s = plain-PackedArray _ (pos 0) s (V.Scalar four false) (plain-Scalar four false)
 
-plain-keyword : (w : KeywordType) (ds : List Dim) → Plain (keyword_type w ds)
+pub plain-keyword : (w : KeywordType) (ds : List Dim) → Plain (keyword_type w ds)
 plain-keyword w ds = (let of = D.word_of w.keyword in plain-packed (D.signed_by of.signed w.signing) ds (D.plain of.four of.bits) (plain-word of.four of.bits))
 
-plain-implicit : (s : Option Signing) (ds : List Dim) → Plain (implicit_type s ds)
+pub plain-implicit : (s : Option Signing) (ds : List Dim) → Plain (implicit_type s ds)
 plain-implicit s ds = plain-packed (D.signed_by false s) ds (D.plain true None) (plain-word true None)
 
 plain-named : (t : SvType) (ds : List Dim) → Plain t → Plain (named_type t ds)
 plain-named t ds h = plain-packed false ds (λ s. t) (λ b. h)
 
-abbrev a_type : SvType → Checked SvType
+abbrev pub a_type : SvType → Checked SvType
 a_type t = Ok t
 
-as-type : (P : SvType → Type 0) (t u : SvType) → a_type t ≡ Ok u → P t → P u
+pub as-type : (P : SvType → Type 0) (t u : SvType) → a_type t ≡ Ok u → P t → P u
 as-type P t u h p = let is : t ≡ u = cc in subst P is p
 
 under-plain : (k : Source) (t u : SvType) (ds : List Dim) → under k t ds ≡ Ok u → Plain t → Plain u
@@ -75,15 +75,15 @@ under-plain k t u [] h p = as-type Plain t u h p
 under-plain k t u (d ∷ ds) h p =
     as-type Plain (named_type t (d ∷ ds)) u (refused-then (is_unpacked t) (position k d.opening) 404 (a_type (named_type t (d ∷ ds))) u h) (plain-named t (d ∷ ds) p)
 
-dimensioned-plain : (k : Source) (t : SvType) (ds : Typing (List Dim)) → Plain t → Gives Plain (dimensioned k t ds)
+pub dimensioned-plain : (k : Source) (t : SvType) (ds : Typing (List Dim)) → Plain t → Gives Plain (dimensioned k t ds)
 dimensioned-plain k t ds p = checked-gives Anything Plain ds (λ d. rule (under k t d)) (anything ds) (λ d q. rule-gives Plain (under k t d) (λ u h. under-plain k t u d h p))
 
 -- what names stand for
-abbrev TypeIf : Option SvType → Type 0
+abbrev pub TypeIf : Option SvType → Type 0
 TypeIf None = Unit {0}
 TypeIf (Some t) = Plain t
 
-abbrev PlainType : Thing → Type 0
+abbrev pub PlainType : Thing → Type 0
 PlainType t = TypeIf (type_of_thing t)
 
 abbrev ThingIf : Option Thing → Type 0
@@ -128,7 +128,7 @@ of-plain k n p =
     (or-plain (type_in n k.types) by_signal (type-found n k.types p)
     (or-plain (signal_in n k.signals) last (signal-found n k.signals) (last-plain (k.is_interface n) n))))
 
-found-plain : (k : Context) (o : Option ℕ) → AllTypesPlain k.types → PlainType (found k o)
+pub found-plain : (k : Context) (o : Option ℕ) → AllTypesPlain k.types → PlainType (found k o)
 found-plain k None p = tt
 found-plain k (Some n) p = of-plain k n p
 
@@ -175,7 +175,7 @@ base-gives k (Some (B.Named of ds)) p =
 and-true : (a b : Bool) → a ≡ false → b ≡ true → (not a && b) ≡ true
 and-true a b h g = ap (λ x. not x && b) h ∙ g
 
-abbrev PlainFound : TypeFound → Type 0
+abbrev pub PlainFound : TypeFound → Type 0
 PlainFound f = Plain f.of
 
 enum-plain : (k : Context) (at : ℕ) (base : SvType) (vs : List NameValue) → IsBase base → PlainFound (enum_found k at base vs)
@@ -249,7 +249,7 @@ member-form of ns semicolon h k inside p =
     by-gives PlainFound (Each PlainField) PlainFields (of k) (λ o. all (map (field_by k inside o) ns)) (λ f fs. whole (record { fields = fs; names = f.names })) (h k p)
     (λ o q. all-gives PlainField (map (field_by k inside o) ns) (each-field k inside o ns q)) (λ f fs q r. whole-gives PlainFields (record { fields = fs; names = f.names }) r)
 
-both-plain : (fs gs : List Field) → Each PlainField fs → Each PlainField gs → Each PlainField (fs ++ gs)
+pub both-plain : (fs gs : List Field) → Each PlainField fs → Each PlainField gs → Each PlainField (fs ++ gs)
 both-plain [] gs h g = g
 both-plain (f ∷ fs) gs h g = (h.0, both-plain fs gs h.1 g)
 

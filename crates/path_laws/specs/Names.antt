@@ -26,6 +26,11 @@ pub record PlainNames (k : Context) : Type 0 where
   pub signals : AllSignalsPlain k.signals
   pub locals : AllLocalsPlain k.locals
 
+-- nor in the type that a name stands for
+pub record PlainText (k : Context) : Type 0 where
+  pub names : PlainNames k
+  pub types : AllTypesPlain k.types
+
 -- a typed path on what is held under a number and has a type
 pub record IsPathOn (number : ℕ) (t : SvType) (e : Expr) : Type 0 where
   pub indices : List Indexing
