@@ -1,27 +1,24 @@
 -- Each of some expressions.
-use Rattle.std.proofs.Common.{◌≡◌, ◌<◌, ◌+◌, ℕ, zero, suc, List, [], ◌∷◌, ◌++◌, length, get_or, map, take, sym, ap, ◌∙◌, subst, arith}
+use Rattle.std.proofs.Common.{◌≡◌, ◌<◌, ◌+◌, ℕ, List, [], ◌∷◌, ◌++◌, length, get_or, map, take, refl, sym, ap, ◌∙◌, subst}
 use Rattle.std.specs.Prelude.{Result, Ok, Err, Vec}
 use Rattle.std.specs.declared.alloc.Global.{Global}
 use Rattle.std.proofs.lemmas.List.{map-append, take_all, take_more}
 use Rattle.std.specs.Prelude.{◌≤◌}
 use Rattle.sv_types.specs.declared.statement.Function.{Function}
-use Rattle.sv_tree.specs.declared.expressions.Expr.{Expr}
 use Rattle.expr_type.specs.declared.halt.Halt.{Halt}
-use Rattle.expr_type.specs.Names.{Context}
+use Rattle.expr_type.specs.Names.{Source}
 use Rattle.expr_type.specs.Typings.{Typing, all}
+use Rattle.pattern_types.specs.Meaning.{operand_of}
 use Rattle.pattern_types.specs.declared.operand.Operand as O
 use Rattle.typing_steps.specs.Steps.{TypesTo}
-use Rattle.typing_parts.specs.declared.known.Known.{Known}
-use Rattle.typing_parts.specs.Typists.{AllCanType, CanType}
+use Rattle.typing_parts.specs.Operands.{as_operand}
 use Rattle.typing_calls.specs.Lists.{Follows, all_meant, as_meant}
 use Rattle.typing_calls.proofs.InTurn.{follow-types}
 
--- what types all of them, types each
-pub can-each : (R S : Type 0) (tree : R → Expr) (held : S → Known) (pre : R → S → Type 0) (post : R → S → Result O.Operand Halt → S → Type 0) (k : Context) (es : List Expr) (i : ℕ) (e : Expr)
-    → AllCanType R S tree held pre post k es → i < length es → e ≡ get_or es i e → CanType R S tree held pre post k e
-can-each R S tree held pre post k [] i e c w h = absurd (omega (arith, w))
-can-each R S tree held pre post k (x ∷ es) zero e c w h = subst (λ (y : Expr). CanType R S tree held pre post k y) (sym h) c.0
-can-each R S tree held pre post k (x ∷ es) (suc i) e c w h = can-each R S tree held pre post k es i e c.1 (omega (arith, w)) h
+-- operands as they are meant
+pub operand-meant : (k : Source) (r : Result O.Operand Halt) → as_operand k r ≡ as_meant (operand_of k) r
+operand-meant k (Ok o) = refl
+operand-meant k (Err h) = refl
 
 -- one more of them, and all
 more : {E B : Type 0} (step : E → B) (es : List E) (i : ℕ) (e : E) → i < length es → e ≡ get_or es i e → map step (take (i + 1) es) ≡ map step (take i es) ++ step e ∷ []

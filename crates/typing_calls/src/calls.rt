@@ -12,6 +12,7 @@ use pattern_types::Operand;
 use std::alloc::Global;
 use sv_tree::{Expr, QualifiedName};
 use typing_parts::{Known, Names};
+use typing_values::behind_quiet;
 
 /// A call of what a name finds. Where that isn't whole and breaks no rule, the actuals are looked at for their breaks.
 #[tactic(auto, using(crate::proofs::Calling::callings))]
@@ -42,9 +43,6 @@ pub fn call<
         }
         Err(Halt::Memory) => Err(Halt::Memory),
         Err(Halt::Breaks { at, rule }) => Err(Halt::Breaks { at, rule }),
-        Err(Halt::Quiet) => match actuals(alloc, names, typed, arguments, known) {
-            Ok(_) => Err(Halt::Quiet),
-            Err(halt) => Err(halt),
-        },
+        Err(Halt::Quiet) => Err(behind_quiet(actuals(alloc, names, typed, arguments, known))),
     }
 }
