@@ -15,6 +15,7 @@ use Rattle.expr_type.specs.Forms.{call, call_of, needed_with, passed_to}
 use Rattle.expr_type.specs.Names.{Called, Context, Source}
 use Rattle.expr_type.specs.Operands.{Operand}
 use Rattle.expr_type.specs.Typings.{Checked, Typing, all, all_of}
+use Rattle.typing_values.specs.Values.{unstreamed_of}
 use Rattle.typing_fits.specs.Sound.{Extends}
 use Rattle.routine_fits.specs.Sound.{AllSoundFunctions}
 
@@ -33,7 +34,7 @@ CallsAt k of place (Some f) os r = Gives r (call_of k (qualified_first of) of.na
 
 -- actuals as they are typed, and a call of what a name finds
 abbrev pub actuals_of : Context → List E.Expr → Typing (List Operand)
-actuals_of k es = all (actuals k (map meaning es))
+actuals_of k es = all (map (unstreamed_of k) es)
 
 abbrev pub call_of_name : Context → QualifiedName → List E.Expr → Typing Valued
 call_of_name k of es = call k of (actuals k (map meaning es))
