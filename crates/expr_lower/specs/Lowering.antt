@@ -16,6 +16,7 @@ use Rattle.v_meaning.specs.Scopes.{Scope, named}
 use Rattle.v_meaning.specs.Values as T
 use Rattle.eval_forms.specs.Callees.{formals_in}
 use Rattle.eval_parts.specs.Limits.{Fits}
+use Rattle.eval_parts.specs.Steps.{is_path}
 use Rattle.eval_forms.specs.Asked.{Asked, width_asked, sign_asked, form_asked}
 use Rattle.lowering_laws.specs.Agreeing.{Images, IsInOrder, Stands}
 use Rattle.lowering_laws.specs.Held.{marked}
@@ -101,9 +102,10 @@ NamesEach image [] (m ∷ ms) sc = ⊥
 NamesEach image (q ∷ qs) [] sc = ⊥
 NamesEach image (q ∷ qs) (m ∷ ms) sc = SameNames image (meaning q.of) m sc × NamesEach image qs ms sc
 
--- A target expression that is made of the target expressions of what an expression asks stands for the expression.
+-- A target expression that is made of the target expressions of what an expression asks stands for the expression, if this is no
+-- select path.
 abbrev pub Combines : NameMap → List Function → List Helper → Expr → ℕ → Bool → List T.Meaning → T.Meaning → Type 0
-Combines names fs hs e w s parts m = Fits (meaning e) (formals_in fs) w
+Combines names fs hs e w s parts m = is_path (out-Form e.form) ≡ false → Fits (meaning e) (formals_in fs) w
     → LowersEach names fs hs (form_asked (layout e.of) (formals_in fs) w s (out-Form e.form)) parts → Lowers names fs hs e w s m
 
 -- whatever the names, functions and helpers are
