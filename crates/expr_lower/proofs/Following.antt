@@ -52,7 +52,7 @@ use Rattle.path_steps.proofs.PathSteps as W
 use Rattle.expr_lower.specs.Paths.{Found, Finds, Indexes, LowersAnywhere}
 use Rattle.expr_lower.proofs.AskedLeaves.{each-right, off, off-left, off-right, leaves-Signal, leaves-Local, leaves-Member, leaves-Part, leaves-Index, leaves-Slide}
 use Rattle.expr_lower.proofs.Asking.{lowers-more}
-use Rattle.expr_lower.proofs.Elements.{plain-leaves, shown-leaf, word-found, known-word-found}
+use Rattle.expr_lower.proofs.Words.{plain-leaves, shown-leaf, word-found, known-word-found}
 use Rattle.expr_lower.proofs.Values.{shown-holds, length-from, one-image}
 
 -- more helpers
