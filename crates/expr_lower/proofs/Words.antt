@@ -1,17 +1,15 @@
 -- Elements of signals that are memories in the text are read as those of the signals.
-use Rattle.std.proofs.Common.{◌≡◌, ℕ, suc, ◌+◌, ◌*◌, ◌<◌, ◌≤◌, ◌==◌, Bool, true, false, cond, ℤ, pos, ◌-ℤ◌, List, [], ◌∷◌, ◌++◌, length, Option, Some, None, refl, arith, ap, sym, ◌∙◌, subst}
-use Rattle.std.proofs.lemmas.Bool.Decides.{nat_tests}
+use Rattle.std.proofs.Common.{◌≡◌, ℕ, ◌+◌, ◌*◌, ◌<◌, ◌≤◌, Bool, false, ℤ, pos, List, [], ◌∷◌, ◌++◌, length, Option, Some, None, refl, arith, ap, sym, ◌∙◌, subst}
 use Rattle.row_machine.specs.Valuation.{Valuation}
 use Rattle.row_machine.specs.Places.{vector_at}
 use Rattle.picks.specs.Windows.{whole}
-use Rattle.sv_types.specs.declared.types.SvType.{SvType}
 use Rattle.sv_types.specs.declared.statement.Function.{Function}
 use Rattle.sv_types.specs.declared.expression.Expr.{Expr}
 use Rattle.sv_types.specs.declared.expression.Choice.{Choice}
 use Rattle.sv_types.specs.declared.expression.Form.{Form}
 use Rattle.sv_types.specs.declared.expression.Form.TheVariants as V
 use Rattle.sv_types.specs.Layouts.{Layout, layout, width_of, count_of}
-use Rattle.sv_types.specs.Windows.{rank, element_of}
+use Rattle.sv_types.specs.Windows.{element_of}
 use Rattle.sv_types.specs.Surroundings.{Around}
 use Rattle.sv_types.specs.Meanings as S
 use Rattle.sv_types.specs.Paths as P
@@ -20,7 +18,6 @@ use Rattle.sv_types.proofs.Heads.{heads}
 use Rattle.sv_types.proofs.Terms.{Steps, by-expr}
 use Rattle.sv_types.proofs.Widths.{has-bits}
 use Rattle.v_tree.specs.Names.{Name}
-use Rattle.v_tree.specs.declared.names.Helper.{Helper}
 use Rattle.v_tree.specs.declared.names.NameMap.{NameMap}
 use Rattle.v_meaning.specs.Scopes.{Scope, named}
 use Rattle.v_meaning.specs.Values as T
@@ -28,7 +25,7 @@ use Rattle.eval_parts.proofs.Selecting as E
 use Rattle.lowering_laws.specs.Agreeing.{Images, Agree}
 use Rattle.lowering_laws.specs.NamedImages.{AreImages}
 use Rattle.lowering_laws.specs.Steps.{IsPath}
-use Rattle.lowering_laws.specs.Words.{lower, IsMemory}
+use Rattle.lowering_laws.specs.Words.{IsMemory}
 use Rattle.lowering_laws.proofs.Paths.{selected-is-path}
 use Rattle.lowering_laws.proofs.Wholes.{type-whole}
 use Rattle.memory_laws.specs.InWords.{HoldWords}
@@ -36,7 +33,6 @@ use Rattle.memory_laws.proofs.Holding.{memory-held}
 use Rattle.memory_laws.proofs.Ranking.{rank-below, row-inside}
 use Rattle.path_flatten.specs.declared.offsets.Index.{Index}
 use Rattle.path_flatten.specs.declared.readings.Reading.{Reading}
-use Rattle.path_flatten.specs.Helping.{EachHelps}
 use Rattle.path_flatten.specs.Naming.{root_names}
 use Rattle.path_flatten.specs.Sliding.{IsIndexOf}
 use Rattle.path_flatten.specs.Stepping as F
@@ -48,10 +44,10 @@ use Rattle.memory_words.specs.Readings.{ReadsKnownWord, NamesMemory}
 use Rattle.expr_lower.specs.Elements.{StandsInWords, ReadsWordBy, NamesWordBy}
 use Rattle.expr_lower.specs.Leaves.{Leaf, Signals, Elements, Inside, Locals, Calls, Valued, Joined, Unlowered, leaves, onto, indexed, Each}
 use Rattle.expr_lower.specs.Named.{signal_name, is_memory}
-use Rattle.expr_lower.specs.Lowering.{IsShown, IsShownInWords, ShowsElements, LeafStands}
-use Rattle.expr_lower.specs.Paths.{Found, Finds, Indexes}
+use Rattle.expr_lower.specs.Lowering.{IsShownInWords, ShowsElements, LeafStands}
+use Rattle.expr_lower.specs.Paths.{Found}
 use Rattle.expr_lower.proofs.AskedLeaves as A
-use Rattle.expr_lower.proofs.Values.{length-from, one-image}
+use Rattle.expr_lower.proofs.Values.{one-image}
 
 -- An expression with the leaf of a whole signal is one.
 onto-other : (ls rest : List Leaf) (n : ℕ) (of : Layout) → onto ls ≡ Signals n of ∷ rest → ⊥

@@ -1,5 +1,5 @@
 -- Elements of signals that stand in the words of memories (IEEE 1364-2005 clause 4.9).
-use Rattle.std.specs.Prelude.{◌≡◌, ℕ, ◌*◌, true, false, ℤ, List, ◌∷◌, length, Option, Some, None}
+use Rattle.std.specs.Prelude.{◌≡◌, ℕ, ◌*◌, true, false, ◌∷◌, length, Option, Some, None}
 use Rattle.row_machine.specs.Valuation.{Valuation}
 use Rattle.sv_types.specs.declared.expression.Expr.{Expr}
 use Rattle.sv_types.specs.declared.expression.Form.TheVariants as V

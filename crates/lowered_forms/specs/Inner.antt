@@ -1,5 +1,5 @@
 -- What an expression is made of, as far as its lowering goes.
-use Rattle.std.specs.Prelude.{◌≡◌, ⊤, ◌<◌, List, [], ◌∷◌, map}
+use Rattle.std.specs.Prelude.{⊤, ◌<◌, List, [], ◌∷◌, map}
 use Rattle.sv_types.specs.declared.expression.Expr.{Expr}
 use Rattle.sv_types.specs.declared.expression.Choice.{Choice, fold-Choice}
 use Rattle.sv_types.specs.Layouts.{Layout}

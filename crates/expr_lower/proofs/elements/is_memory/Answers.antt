@@ -1,4 +1,4 @@
-use Rattle.std.proofs.Common.{arith, ◌∙◌}
+use Rattle.std.proofs.Common.{arith}
 use Rattle.expr_lower.proofs.NameLists.{memory-past, memory-absent}
 use Rattle.expr_lower.proofs.elements.is_memory.Goals as goal
 
