@@ -1,0 +1,4 @@
+pub mod Filling
+pub mod Reaching
+pub mod Emptying
+pub mod Steps
