@@ -1,6 +1,6 @@
 -- Concatenations of targets.
 use Rattle.std.proofs.Common.{◌≡◌, ◌+◌, ◌%◌, ◌<◌, ℕ, Bool, true, false, List, [], ◌∷◌, ◌++◌, map, length, get_or, drop, refl, sym, ap, ◌∙◌, subst, arith, drop-cons, add-one}
-use Rattle.std.specs.Prelude.{Ok, Err, nat_lt, ◌||◌, ◌&&◌, ◌==◌, not, cond}
+use Rattle.std.specs.Prelude.{Ok, Err, nat_lt, ◌||◌, ◌&&◌, ◌==◌, not}
 use Rattle.std.specs.List.{list_any}
 use Rattle.std.proofs.Math.Nat.{mod-add-mod, mod-eq_of_lt}
 use Rattle.std.proofs.lemmas.List.{at_drop_more, map-append}
@@ -18,7 +18,7 @@ use Rattle.typing_assigns.specs.declared.target.TargetPart.{TargetPart}
 use Rattle.expr_type.specs.Targets as D
 use Rattle.expr_type.specs.declared.halt.Halt.{Halt}
 use Rattle.expr_type.specs.declared.halt.Halt.TheVariants as H
-use Rattle.expr_type.specs.Answers.{Gives, HaltsBy, reason}
+use Rattle.expr_type.specs.Answers.{HaltsBy, reason}
 use Rattle.expr_type.specs.Forms.{stream_of}
 use Rattle.typing_assigns.specs.declared.target.Target.TheVariants as T
 use Rattle.typing_assigns.specs.Parts.{AllNarrowParts, AllNarrowValues, GivesOne, of_part, part_meant}
