@@ -1,0 +1,9 @@
+//! What is assigned to, and what is assigned, over parts that are typed (IEEE 1800-2017 clauses 10.3, 10.4, 11.4.1, 11.4.2, 11.4.12 and
+//! 11.4.14).
+#![tactic(auto)]
+
+mod parts;
+mod target;
+
+pub use parts::{joined_target, stream_target, target_part, whole_of};
+pub use target::{Target, TargetPart};
