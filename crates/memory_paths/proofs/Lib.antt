@@ -1,0 +1,5 @@
+pub mod Changing
+pub mod Meant
+pub mod Tight
+pub mod Inner
+pub mod InWords

@@ -1,0 +1,2 @@
+//! Select paths in elements of arrays, as paths in the elements alone.
+#![tactic(auto)]
