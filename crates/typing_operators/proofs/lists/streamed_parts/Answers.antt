@@ -1,0 +1,49 @@
+use Rattle.std.proofs.Common.{List, ap, sym, ◌∙◌, subst}
+use Rattle.std.specs.Prelude.{Result, Err}
+use Rattle.std.proofs.lemmas.Result.{err_from_is_err_and}
+use Rattle.sv_types.specs.declared.expression.Expr as T
+use Rattle.expr_type.specs.declared.halt.Halt.{Halt}
+use Rattle.typing_steps.specs.Steps.{TypesTo}
+use Rattle.typing_rows.specs.Rows.{so_far}
+use Rattle.typing_rows.proofs.Walking.{turn, turn-ends, walked}
+use Rattle.typing_values.proofs.Children.{all-at}
+use Rattle.typing_operators.specs.Lists.{streamed_expr, streamed_parts_of}
+use Rattle.typing_operators.proofs.Narrow.{narrow-more}
+use Rattle.typing_operators.proofs.Rows.{streamed-type}
+use Rattle.typing_operators.proofs.lists.streamed_parts.Goals as goal
+
+pub streamed_expr-requires-clause-can : goal.streamed_expr-requires-clause-can
+streamed_expr-requires-clause-can g c = all-at _ _ _ _ _ _ _ c.args.es.now c.loop-e.e-index c.e-item.result c.requires.can c.loop-e-test.true c.e-item.is
+
+pub returns-in_err-whole-clause-value : goal.returns-in_err-whole-clause-value
+returns-in_err-whole-clause-value g c =
+    let k = g.S.Names.context c.args.names.now in
+    let es = c.args.es.now in
+    let fs = c.args.known.now.functions in
+    let hs = c.streamed_expr.new.known.functions in
+    let e = err_from_is_err_and c.from_residual.result c.from_residual.ensures.1 in
+    subst (λ (r : Result (List T.Expr) Halt). TypesTo r (streamed_parts_of k es fs) hs) (sym (e.1 ∙ ap Err e.2))
+    (streamed-type k es fs hs (Err c.in_err-whole.field-0.0)
+    (turn-ends (streamed_expr k) es c.loop-e.e-index c.e-item.result c.loop-e.whole c.loop-e.made c.add.new.made c.streamed_expr.result c.in_err-whole.field-0.0 fs c.loop-e.known.functions hs hs c.loop-e-test.true c.e-item.is
+    c.in_err-whole.ensures c.loop-e.invariant.typed c.streamed_expr.ensures.value))
+
+pub loop-e-preserved : goal.loop-e-preserved
+loop-e-preserved g c =
+    let k = g.S.Names.context c.args.names.now in
+    record {
+      typed =
+          turn (streamed_expr k) c.args.es.now c.loop-e.e-index c.e-item.result c.loop-e.whole c.in_ok-whole.whole c.loop-e.made c.add.new.made c.streamed_expr.result c.args.known.now.functions c.loop-e.known.functions
+          c.streamed_expr.new.known.functions c.loop-e-test.true c.e-item.is c.in_ok-whole.ensures c.loop-e.invariant.typed c.streamed_expr.ensures.value;
+      ready = c.streamed_expr.ensures.ready;
+      narrow = narrow-more c.loop-e.made c.add.new.made c.loop-e.whole c.in_ok-whole.whole c.streamed_expr.result c.in_ok-whole.ensures c.loop-e.invariant.narrow c.streamed_expr.ensures.narrow;
+    }
+
+pub returns-clause-value : goal.returns-clause-value
+returns-clause-value g c =
+    let k = g.S.Names.context c.args.names.now in
+    let es = c.args.es.now in
+    let fs = c.args.known.now.functions in
+    let gs = c.loop-e.known.functions in
+    let made = so_far c.loop-e.whole c.loop-e.made in
+    subst (λ (r : Result (List T.Expr) Halt). TypesTo r (streamed_parts_of k es fs) gs) (sym c.all_whole.ensures)
+    (streamed-type k es fs gs made (walked (streamed_expr k) es c.loop-e.e-index made fs gs c.loop-e-test.false c.loop-e.invariant.typed))

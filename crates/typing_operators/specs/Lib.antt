@@ -1,0 +1,4 @@
+pub mod Operators
+pub mod Lists
+pub mod Joins
+pub mod Slices

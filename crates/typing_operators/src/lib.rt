@@ -1,0 +1,11 @@
+//! Operators, concatenations, replications and streams as they are typed, and the lists of expressions in them, each over something
+//! that types an expression (IEEE 1800-2017 clause 11.4).
+#![tactic(auto)]
+
+mod joins;
+mod lists;
+mod operators;
+mod slices;
+
+pub use joins::{concatenation, replication, stream};
+pub use operators::{binary, conditional, unary};
