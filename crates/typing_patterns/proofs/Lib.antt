@@ -1,0 +1,6 @@
+pub mod Keying
+pub mod Things
+pub mod Levels
+pub mod Placing
+pub mod Among
+pub mod Putting
