@@ -1,0 +1,36 @@
+//! The index of a frame's lists.
+
+ghost use Rattle.std.specs.Prelude.{◌≡◌, IfOk};
+ghost use Rattle.frame_things.specs.Finding.{IsIndexOf};
+
+use crate::members::{Members, members_of};
+use crate::places::{Places, places_of};
+use std::alloc::{AllocError, Global};
+use sv_types::{ParamType, ParamValue, SignalId};
+
+/// At which places of a frame's lists declarations stand, by their numbers.
+#[derive(Drop)]
+pub struct FrameIndex {
+    /// Places of values.
+    pub values: Places,
+    /// Places of types.
+    pub types: Places,
+    /// Places of signals and members of interfaces.
+    pub signals: Members,
+}
+
+/// The index of a frame's lists. It takes time by their lengths.
+pub fn index_of(
+    alloc: Global,
+    values: &[ParamValue],
+    types: &[ParamType],
+    signals: &[SignalId],
+) -> Result<FrameIndex, AllocError>
+    ensures { IfOk result (λ x. IsIndexOf values.now types.now signals.now x) }
+{
+    Ok(FrameIndex {
+        values: places_of(alloc, values)?,
+        types: places_of(alloc, types)?,
+        signals: members_of(alloc, signals)?,
+    })
+}

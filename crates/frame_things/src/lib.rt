@@ -1,0 +1,14 @@
+//! What declarations stand for by the lists of a frame, found by their numbers in near constant time.
+#![tactic(auto)]
+
+mod finding;
+mod frame_index;
+mod members;
+mod numbered;
+mod places;
+
+pub use finding::FrameThings;
+pub use frame_index::{FrameIndex, index_of};
+pub use members::{MemberNames, Members, Slots, members_of};
+pub use numbered::Numbered;
+pub use places::{Places, places_of};
