@@ -1,3 +1,4 @@
 pub mod Placing
 pub mod Naming
 pub mod Standing
+pub mod Hiding

@@ -12,7 +12,7 @@ pub place-put : {T : Type 0} (number : T → ℕ) (before after : ℕ → Option
 place-put number before after xs at k d m next within is numbered put so_far n =
     let rest : drop k xs ≡ d ∷ drop (k + 1) xs = drop_more xs k d within ∙ ap (λ x. x ∷ drop (k + 1) xs) (sym is) in
     let later : before n ≡ place_from number (suc k) n (drop (k + 1) xs) =
-      so_far n ∙ ap (λ j. place_from number j n (drop j xs)) (sym next) ∙ ap (λ j. place_from number j n (drop (k + 1) xs)) (add-one k) in
+    so_far n ∙ ap (λ j. place_from number j n (drop j xs)) (sym next) ∙ ap (λ j. place_from number j n (drop (k + 1) xs)) (add-one k) in
     ap (λ (f : ℕ → Option ℕ). f n) put
     ∙ ap (λ j. if nat_eq j n then Some k else before n) numbered
     ∙ ap (λ o. if nat_eq (number d) n then Some k else o) later
@@ -27,7 +27,7 @@ pub member-put : (names : MemberNames) (before after : Slots) (ss : List SignalI
 member-put names before after ss at k d next within is so_far put n q =
     let rest : drop k ss ≡ d ∷ drop (k + 1) ss = drop_more ss k d within ∙ ap (λ x. x ∷ drop (k + 1) ss) (sym is) in
     let later : under names before n q ≡ member_from (suc k) n q (drop (k + 1) ss) =
-      so_far n q ∙ ap (λ j. member_from j n q (drop j ss)) (sym next) ∙ ap (λ j. member_from j n q (drop (k + 1) ss)) (add-one k) in
+    so_far n q ∙ ap (λ j. member_from j n q (drop j ss)) (sym next) ∙ ap (λ j. member_from j n q (drop (k + 1) ss)) (add-one k) in
     put n q ∙ ap (λ o. if is_member n q d then Some k else o) later ∙ ap (λ xs. member_from k n q xs) (sym rest)
 
 pub member-none : (ss : List SignalId) (n : ℕ) (q : List ℕ) → None ≡ member_from (length ss) n q (drop (length ss) ss)

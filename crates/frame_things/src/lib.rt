@@ -6,9 +6,11 @@ mod frame_index;
 mod members;
 mod numbered;
 mod places;
+mod rows;
 
 pub use finding::FrameThings;
 pub use frame_index::{FrameIndex, index_of};
 pub use members::{MemberNames, Members, Slots, members_of};
 pub use numbered::Numbered;
 pub use places::{Places, places_of};
+pub use rows::{Row, Rows};

@@ -6,12 +6,12 @@ use Rattle.frame_things.proofs.finding.FrameThings.signal.Goals as goal
 pub returns-in-None : goal.returns-in-None
 returns-in-None c =
     let place : member_from 0 c.args.declaration c.args.whole.now c.args.self.now.signals.now ≡ None =
-      sym (c.args.self.now.indexed.signals c.args.declaration c.args.whole.now) ∙ sym c.of.ensures ∙ c.in-None.is in
+    sym (c.args.self.now.indexed.signals c.args.declaration c.args.whole.now) ∙ sym c.of.ensures ∙ c.in-None.is in
     no-signal c.args.declaration c.args.self.now.signals.now (ap (λ q. member_from 0 c.args.declaration q c.args.self.now.signals.now) (sym c.requires) ∙ place)
 
 pub returns-in-Some : goal.returns-in-Some
 returns-in-Some c =
     let place : member_from 0 c.args.declaration c.args.whole.now c.args.self.now.signals.now ≡ Some c.in-Some.place =
-      sym (c.args.self.now.indexed.signals c.args.declaration c.args.whole.now) ∙ sym c.of.ensures ∙ c.in-Some.is in
+    sym (c.args.self.now.indexed.signals c.args.declaration c.args.whole.now) ∙ sym c.of.ensures ∙ c.in-Some.is in
     signal-at (λ s. s.now) c.at.result c.args.declaration c.in-Some.place c.args.self.now.signals.now c.at.ensures
     (ap (λ q. member_from 0 c.args.declaration q c.args.self.now.signals.now) (sym c.requires) ∙ place)
