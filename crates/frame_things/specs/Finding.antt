@@ -3,7 +3,8 @@ use Rattle.std.specs.Prelude.{◌≡◌, ℕ, List, Option, Some, None}
 use Rattle.sv_types.specs.declared.frame.ParamType.{ParamType}
 use Rattle.sv_types.specs.declared.frame.ParamValue.{ParamValue}
 use Rattle.sv_types.specs.declared.frame.SignalId.{SignalId}
-use Rattle.expr_type.specs.Names.{Thing, Signal, Constant, TypeName}
+use Rattle.expr_type.specs.Names.{Thing, Signal, Local, Constant, TypeName, LocalId}
+use Rattle.frame_things.specs.declared.things.NamedLocal.{NamedLocal}
 use Rattle.frame_things.specs.declared.frame_index.FrameIndex.{FrameIndex}
 use Rattle.frame_things.specs.Places.{place_from, places_in}
 use Rattle.frame_things.specs.Members.{member_from, members_in}
@@ -37,3 +38,10 @@ IsSignal of (Some r) t = t ≡ Some (Signal (of r).signal (of r).of)
 abbrev pub IsMember : {R : Type 0} → (R → SignalId) → Option R → Option SignalId → Type 0
 IsMember of None m = m ≡ None
 IsMember of (Some r) m = m ≡ Some (of r)
+
+abbrev pub local_id : NamedLocal → LocalId
+local_id l = record { decl = l.decl; number = l.number; of = l.of }
+
+abbrev pub IsLocal : {R : Type 0} → (R → NamedLocal) → Option R → Option Thing → Type 0
+IsLocal of None t = t ≡ None
+IsLocal of (Some r) t = t ≡ Some (Local (of r).number (of r).of)

@@ -7,6 +7,7 @@ mod members;
 mod numbered;
 mod places;
 mod rows;
+mod things;
 
 pub use finding::FrameThings;
 pub use frame_index::{FrameIndex, index_of};
@@ -14,3 +15,4 @@ pub use members::{MemberNames, Members, Slots, members_of};
 pub use numbered::Numbered;
 pub use places::{Places, places_of};
 pub use rows::{Row, Rows};
+pub use things::{NamedLocal, Things};
