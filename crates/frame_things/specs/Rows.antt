@@ -1,6 +1,5 @@
 -- Things that hide one another, the latest first.
 use Rattle.std.specs.Prelude.{◌≡◌, ⊤, ℕ, nat_eq, if◌then◌else◌, List, [], ◌∷◌, length, Option, Some, None}
-use Rattle.indexmap.specs.IndexMap as map
 use Rattle.frame_things.specs.declared.rows.Row.{Row}
 
 abbrev pub item_of : {T : Type 0} → Row T → T

@@ -1,4 +1,4 @@
-use Rattle.std.proofs.Common.{ℕ, ◌-◌, Option, length, ap, ◌∙◌, arith}
+use Rattle.std.proofs.Common.{ℕ, ◌-◌, Option, ap, ◌∙◌, arith}
 use Rattle.frame_things.specs.Places.{places_in}
 use Rattle.frame_things.proofs.Placing.{place-put, place-none}
 use Rattle.frame_things.proofs.places.places_of.Goals as goal

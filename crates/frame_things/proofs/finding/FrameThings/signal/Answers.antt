@@ -1,4 +1,4 @@
-use Rattle.std.proofs.Common.{◌≡◌, [], Some, None, sym, ap, ◌∙◌}
+use Rattle.std.proofs.Common.{◌≡◌, Some, None, sym, ap, ◌∙◌}
 use Rattle.frame_things.specs.Members.{member_from}
 use Rattle.frame_things.proofs.Standing.{no-signal, signal-at}
 use Rattle.frame_things.proofs.finding.FrameThings.signal.Goals as goal
