@@ -1,5 +1,6 @@
 -- What declarations stand for by the lists of a frame, as the code has it.
 use Rattle.std.specs.Prelude.{◌≡◌, ℕ, List, Option, Some, None}
+use Rattle.sv_types.specs.declared.frame.Frame.{Frame}
 use Rattle.sv_types.specs.declared.frame.ParamType.{ParamType}
 use Rattle.sv_types.specs.declared.frame.ParamValue.{ParamValue}
 use Rattle.sv_types.specs.declared.frame.SignalId.{SignalId}
@@ -17,10 +18,10 @@ abbrev pub type_number : ParamType → ℕ
 type_number t = t.decl
 
 -- the index says of each declaration at which place of the lists it stands first
-pub record IsIndexOf (vs : List ParamValue) (ts : List ParamType) (ss : List SignalId) (x : FrameIndex) : Type 0 where
-  pub values : (n : ℕ) → places_in x.values n ≡ place_from value_number 0 n vs
-  pub types : (n : ℕ) → places_in x.types n ≡ place_from type_number 0 n ts
-  pub signals : (n : ℕ) (name : List ℕ) → members_in x.signals n name ≡ member_from 0 n name ss
+pub record IsIndexOf (f : Frame) (x : FrameIndex) : Type 0 where
+  pub values : (n : ℕ) → places_in x.values n ≡ place_from value_number 0 n f.values
+  pub types : (n : ℕ) → places_in x.types n ≡ place_from type_number 0 n f.types
+  pub signals : (n : ℕ) (name : List ℕ) → members_in x.signals n name ≡ member_from 0 n name f.signals
 
 -- what was found is what the declaration stands for
 abbrev pub IsValue : {R : Type 0} → (R → ParamValue) → Option R → Option Thing → Type 0

@@ -6,81 +6,65 @@ ghost use Rattle.frame_things.specs.Finding.{IsIndexOf, IsValue, IsType, IsSigna
 
 use crate::frame_index::FrameIndex;
 use sv_source::{Text, at};
-use sv_types::{ParamType, ParamValue, SignalId};
+use sv_types::{Frame, ParamType, ParamValue, SignalId};
 
-/// The lists of a frame with their index.
+/// A frame with the index of its lists.
 #[derive(Clone, Copy)]
 pub struct FrameThings<'f> {
-    /// Values of parameters and genvars.
-    pub values: &'f [ParamValue],
-    /// Types of type parameters.
-    pub types: &'f [ParamType],
-    /// Signals, and members of interfaces.
-    pub signals: &'f [SignalId],
-    /// Their index.
+    /// The frame.
+    pub frame: &'f Frame,
+    /// The index.
     pub index: &'f FrameIndex,
-    ghost indexed: { IsIndexOf values.now types.now signals.now index.now },
+    ghost indexed: { IsIndexOf frame.now index.now },
 }
 
 impl<'f> FrameThings<'f> {
-    /// Lists with their index.
-    pub fn new(
-        values: &'f [ParamValue],
-        types: &'f [ParamType],
-        signals: &'f [SignalId],
-        index: &'f FrameIndex,
-    ) -> FrameThings<'f>
-        requires { IsIndexOf values.now types.now signals.now index.now }
-        ensures values { result.values.now ≡ values.now }
-        ensures types { result.types.now ≡ types.now }
-        ensures signals { result.signals.now ≡ signals.now }
+    /// A frame with the index of its lists.
+    pub fn new(frame: &'f Frame, index: &'f FrameIndex) -> FrameThings<'f>
+        requires { IsIndexOf frame.now index.now }
+        ensures { result.frame.now ≡ frame.now }
     {
-        FrameThings {
-            values,
-            types,
-            signals,
-            index,
-        }
+        FrameThings { frame, index }
     }
 
     /// The value of a declaration, if it has one.
     pub fn value(&self, declaration: u32) -> Option<&ParamValue>
-        ensures { IsValue (λ v. v.now) result (names.value_in declaration self.now.values.now) }
+        ensures { IsValue (λ v. v.now) result (names.value_in declaration self.now.frame.now.values) }
     {
         match self.index.values.of(declaration) {
             None => None,
-            Some(place) => at(self.values, place),
+            Some(place) => at(self.frame.values.as_slice(), place),
         }
     }
 
     /// The type that a declaration names, if it does.
     pub fn named_type(&self, declaration: u32) -> Option<&ParamType>
-        ensures { IsType (λ t. t.now) result (names.type_in declaration self.now.types.now) }
+        ensures { IsType (λ t. t.now) result (names.type_in declaration self.now.frame.now.types) }
     {
         match self.index.types.of(declaration) {
             None => None,
-            Some(place) => at(self.types, place),
+            Some(place) => at(self.frame.types.as_slice(), place),
         }
     }
 
     /// The member of an interface's instance or port that has a name, if there is one.
     pub fn member(&self, interface: u32, name: &Text) -> Option<&SignalId>
-        ensures { IsMember (λ s. s.now) result (names.member_in interface name.now self.now.signals.now) }
+        ensures { IsMember (λ s. s.now) result (names.member_in interface name.now self.now.frame.now.signals) }
     {
         match self.index.signals.of(interface, name) {
             None => None,
-            Some(place) => at(self.signals, place),
+            Some(place) => at(self.frame.signals.as_slice(), place),
         }
     }
 
     /// The signal that a declaration is, if it is one.
     pub fn signal(&self, declaration: u32, whole: &Text) -> Option<&SignalId>
         requires { whole.now ≡ [] }
-        ensures { IsSignal (λ s. s.now) result (names.signal_in declaration self.now.signals.now) }
+        ensures { IsSignal (λ s. s.now) result (names.signal_in declaration self.now.frame.now.signals) }
     {
         match self.index.signals.of(declaration, whole) {
             None => None,
-            Some(place) => at(self.signals, place),
+            Some(place) => at(self.frame.signals.as_slice(), place),
         }
     }
 }

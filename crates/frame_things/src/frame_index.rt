@@ -6,7 +6,7 @@ ghost use Rattle.frame_things.specs.Finding.{IsIndexOf};
 use crate::members::{Members, members_of};
 use crate::places::{Places, places_of};
 use std::alloc::{AllocError, Global};
-use sv_types::{ParamType, ParamValue, SignalId};
+use sv_types::Frame;
 
 /// At which places of a frame's lists declarations stand, by their numbers.
 #[derive(Drop)]
@@ -20,17 +20,12 @@ pub struct FrameIndex {
 }
 
 /// The index of a frame's lists. It takes time by their lengths.
-pub fn index_of(
-    alloc: Global,
-    values: &[ParamValue],
-    types: &[ParamType],
-    signals: &[SignalId],
-) -> Result<FrameIndex, AllocError>
-    ensures { IfOk result (λ x. IsIndexOf values.now types.now signals.now x) }
+pub fn index_of(alloc: Global, frame: &Frame) -> Result<FrameIndex, AllocError>
+    ensures { IfOk result (λ x. IsIndexOf frame.now x) }
 {
     Ok(FrameIndex {
-        values: places_of(alloc, values)?,
-        types: places_of(alloc, types)?,
-        signals: members_of(alloc, signals)?,
+        values: places_of(alloc, frame.values.as_slice())?,
+        types: places_of(alloc, frame.types.as_slice())?,
+        signals: members_of(alloc, frame.signals.as_slice())?,
     })
 }

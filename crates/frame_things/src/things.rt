@@ -33,7 +33,7 @@ impl Numbered for NamedLocal {
 #[derive(Drop)]
 pub struct Things<'f> {
     /// Those of the frame.
-    pub frame: FrameThings<'f>,
+    pub base: FrameThings<'f>,
     /// Values behind declarations.
     pub values: Rows<ParamValue>,
     /// Types behind declarations.
@@ -44,14 +44,14 @@ pub struct Things<'f> {
 
 impl<'f> Things<'f> {
     /// Those of a frame alone. It takes no memory.
-    pub fn new(alloc: Global, frame: FrameThings<'f>) -> Things<'f>
-        ensures frame { result.frame ≡ frame.entry }
+    pub fn new(alloc: Global, base: FrameThings<'f>) -> Things<'f>
+        ensures base { result.base ≡ base.entry }
         ensures values { result.values ≡ [] }
         ensures types { result.types ≡ [] }
         ensures locals { result.locals ≡ [] }
     {
         Things {
-            frame,
+            base,
             values: Rows::new(alloc),
             types: Rows::new(alloc),
             locals: Rows::new(alloc),
@@ -67,21 +67,21 @@ impl<'f> Things<'f> {
 
     /// The value of a declaration, if it has one.
     pub fn value(&self, declaration: u32) -> Option<&ParamValue>
-        ensures { IsValue (λ v. v.now) result (names.value_in declaration (self.now.values ++ self.now.frame.values.now)) }
+        ensures { IsValue (λ v. v.now) result (names.value_in declaration (self.now.values ++ self.now.base.frame.now.values)) }
     {
         match self.values.find(declaration) {
             Some(value) => Some(value),
-            None => self.frame.value(declaration),
+            None => self.base.value(declaration),
         }
     }
 
     /// The type that a declaration names, if it does.
     pub fn named_type(&self, declaration: u32) -> Option<&ParamType>
-        ensures { IsType (λ t. t.now) result (names.type_in declaration (self.now.types ++ self.now.frame.types.now)) }
+        ensures { IsType (λ t. t.now) result (names.type_in declaration (self.now.types ++ self.now.base.frame.now.types)) }
     {
         match self.types.find(declaration) {
             Some(named) => Some(named),
-            None => self.frame.named_type(declaration),
+            None => self.base.named_type(declaration),
         }
     }
 }

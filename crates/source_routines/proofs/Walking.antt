@@ -1,14 +1,14 @@
 -- Lists of functions and tasks, one more at a time.
-use Rattle.std.proofs.Common.{rules, ◌≡◌, ℕ, suc, ◌+◌, ◌-◌, ◌<◌, ◌≤◌, Bool, true, false, nat_eq, if◌then◌else◌, cond, List, [], ◌∷◌, ◌++◌, length, drop, get_or, append_assoc, Option, Some, None, refl, sym, ap, ◌∙◌, add-one, arith}
+use Rattle.std.proofs.Common.{rules, ◌≡◌, ℕ, ◌+◌, ◌<◌, Bool, true, false, nat_eq, if◌then◌else◌, cond, List, [], ◌∷◌, ◌++◌, length, drop, get_or, append_assoc, Option, Some, None, refl, sym, ap, ◌∙◌, arith}
 use Rattle.std.specs.Prelude.{flat_map, map}
 use Rattle.std.proofs.lemmas.List.{drop_more, drop_all}
 use Rattle.sv_tree.specs.declared.expressions.Expr.{Expr}
 use Rattle.sv_tree.specs.declared.names.Label.{Label}
 use Rattle.sv_tree.specs.declared.items.CaseGenerateItem.{CaseGenerateItem, the_lemmas}
-use Rattle.sv_tree.specs.declared.items.GenerateBlock.{GenerateBlock, GenerateBlock-F, fold-GenerateBlock, fold-roll-GenerateBlock}
+use Rattle.sv_tree.specs.declared.items.GenerateBlock.{GenerateBlock, GenerateBlock-F, fold-roll-GenerateBlock}
 use Rattle.sv_tree.specs.declared.items.GenerateBlock.TheVariants as B
-use Rattle.sv_tree.specs.declared.items.GenerateElse.{GenerateElse, GenerateElse-F, fold-GenerateElse, fold-roll-GenerateElse}
-use Rattle.sv_tree.specs.declared.items.Item.{Item, Item-F, fold-Item, fold-roll-Item}
+use Rattle.sv_tree.specs.declared.items.GenerateElse.{GenerateElse, fold-GenerateElse}
+use Rattle.sv_tree.specs.declared.items.Item.{Item, Item-F, fold-roll-Item}
 use Rattle.sv_tree.specs.declared.items.Item.TheVariants as I
 use Rattle.expr_type.specs.Functions.{name_of}
 use Rattle.expr_type.specs.Names.{RoutineText}

@@ -1,0 +1,128 @@
+//! The texts of a frame in which expressions are typed.
+
+ghost use Rattle.std.specs.Prelude.{◌≡◌, [], ◌++◌, map, None, length};
+ghost use Rattle.std.specs.Option.{option_copied};
+ghost use Rattle.expr_type.specs.Names as names;
+ghost use Rattle.frame_texts.specs.Frames as means;
+ghost use Rattle.typing_parts.specs.Things.{StandsFor};
+ghost use Rattle.typing_names.specs.Texts.{context_of};
+
+use crate::source_names::SourceNames;
+use expr_type::Source;
+use frame_things::{FrameThings, Things};
+use std::alloc::Global;
+use sv_source::Text;
+use sv_tree::QualifiedName;
+use sv_types::{SignalId, SvType};
+use typing_parts::{Names, Thing};
+
+/// Where the locals of a text are counted from.
+#[derive(Clone, Copy)]
+pub enum Start {
+    /// From the last declaration before its items.
+    Items,
+    /// From the declaration of its function or task.
+    Routine(u32),
+}
+
+/// A text of a frame: its items, or the body of a function or a task.
+#[derive(Drop)]
+pub struct FrameText<'a, 't> {
+    /// The names of its source.
+    pub source: &'a SourceNames<'t>,
+    /// What declarations stand for in it.
+    pub things: Things<'a>,
+    /// The token at which the items of the frame's text begin.
+    pub at: u32,
+    /// How deep functions are called in it at most.
+    pub depth: usize,
+    /// Where its locals are counted from.
+    pub start: Start,
+    /// The type of what `return` gives.
+    pub result: Option<&'a SvType>,
+    /// The text without a byte.
+    pub whole: Text,
+    ghost empty: { whole ≡ [] },
+}
+
+impl<'a, 't> FrameText<'a, 't> {
+    /// The text of a frame whose items begin at a token. It takes no memory.
+    pub fn new(
+        alloc: Global,
+        source: &'a SourceNames<'t>,
+        frame: FrameThings<'a>,
+        at: u32,
+    ) -> FrameText<'a, 't>
+        ensures { context_of result ≡ means.context source.now.tree.now source.now.names.now frame.entry.frame.now at }
+    {
+        FrameText {
+            source,
+            things: Things::new(alloc, frame),
+            at,
+            depth: source.names.table().declared.len(),
+            start: Start::Items,
+            result: None,
+            whole: Text::new(alloc),
+        }
+    }
+
+    /// What the declaration with a number stands for.
+    fn thing_of(&self, declaration: u32) -> Thing<'_>
+        ensures { StandsFor result (names.thing_of (context_of self.now) declaration) }
+    {
+        if let Some(local) = self.things.local(declaration) {
+            return Thing::Local(local.number, &local.of);
+        }
+        if let Some(value) = self.things.value(declaration) {
+            return Thing::Constant(&value.of, &value.value);
+        }
+        if let Some(named) = self.things.named_type(declaration) {
+            return Thing::TypeName(&named.of);
+        }
+        if let Some(signal) = self.things.base.signal(declaration, &self.whole) {
+            return Thing::Signal(signal.signal, &signal.of);
+        }
+        if self.source.is_interface(declaration) {
+            Thing::Interface(declaration)
+        } else {
+            Thing::Other(declaration)
+        }
+    }
+}
+
+impl<'a, 't> Names for FrameText<'a, 't> {
+    ghost context = { context_of };
+
+    fn text(&self) -> Source<'_> {
+        Source {
+            tokens: self.source.tree.tokens.as_slice(),
+            instance: self.things.base.frame.instance,
+        }
+    }
+
+    fn thing(&self, of: QualifiedName) -> Thing<'_> {
+        match self.source.found(of) {
+            None => Thing::Nothing,
+            Some(declaration) => self.thing_of(declaration),
+        }
+    }
+
+    fn found(&self, of: QualifiedName) -> Option<u32> {
+        self.source.found(of)
+    }
+
+    fn member(&self, interface: u32, name: u32) -> Option<&SignalId> {
+        self.things.base.member(interface, self.source.word(name))
+    }
+
+    fn formal_count(&self, routine: u32) -> Option<usize> {
+        match self.source.routine(routine) {
+            None => None,
+            Some(routine) => Some(routine.formal_count()),
+        }
+    }
+
+    fn stands(&self, declaration: u32) -> bool {
+        self.source.stands(declaration)
+    }
+}

@@ -1,0 +1,10 @@
+//! What the names of a text of a frame stand for, found in near constant time, so that expressions can be typed in it.
+#![tactic(auto)]
+
+mod frame_text;
+mod source_names;
+mod token_scopes;
+
+pub use frame_text::{FrameText, Start};
+pub use source_names::SourceNames;
+pub use token_scopes::{TokenScopes, innermost_of, scope_of};
