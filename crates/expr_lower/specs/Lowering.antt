@@ -16,7 +16,7 @@ use Rattle.v_meaning.specs.Values as T
 use Rattle.eval_forms.specs.Callees.{formals_in}
 use Rattle.eval_parts.specs.Limits.{Fits}
 use Rattle.eval_forms.specs.Asked.{Asked, width_asked, sign_asked, form_asked}
-use Rattle.lowering_laws.specs.Agreeing.{Images, Stands}
+use Rattle.lowering_laws.specs.Agreeing.{Images, IsInOrder, Stands}
 use Rattle.lowering_laws.specs.Held.{marked}
 use Rattle.lowering_laws.specs.Helpers.{StandsFor}
 use Rattle.lowering_laws.specs.NamedImages.{SameNames}
@@ -30,6 +30,7 @@ pub record IsShown (name : Name) (im : Images) (sc : Scope) (n : ℕ) (of : Layo
   pub number : (named sc.names name).number ≡ im.number n
   pub vector : (named sc.names name).words ≡ None
   pub width : (named sc.names name).width ≡ length of.two_state
+  pub in_order : IsInOrder im n
   pub image : im.width n ≡ length of.two_state
   pub marks : (j : ℕ) → im.two_state n j ≡ marked of.two_state j
 

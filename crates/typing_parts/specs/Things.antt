@@ -1,6 +1,5 @@
 -- What names stand for, as the code has it.
-use Rattle.std.specs.Prelude.{◌≡◌, ⊤, ℕ, Option, Some, None}
-use Rattle.std.specs.Option.{option_copied}
+use Rattle.std.specs.Prelude.{◌≡◌, ℕ, Option, Some, None}
 use Rattle.sv_types.specs.declared.frame.SignalId.{SignalId}
 use Rattle.expr_type.specs.Names as N
 use Rattle.expr_type.specs.Names.{RoutineText, formal_count}

@@ -1,0 +1,3 @@
+pub mod Typable
+pub mod Levels
+pub mod Rows

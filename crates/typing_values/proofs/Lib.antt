@@ -1,0 +1,5 @@
+pub mod Operands
+pub mod Constants
+pub mod Names
+pub mod Children
+pub mod Putting

@@ -1,0 +1,5 @@
+pub mod Values
+pub mod Numbers
+pub mod Leaves
+pub mod Children
+pub mod Parts
