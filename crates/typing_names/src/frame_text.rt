@@ -116,10 +116,7 @@ impl<'a, 't> Names for FrameText<'a, 't> {
     }
 
     fn formal_count(&self, routine: u32) -> Option<usize> {
-        match self.source.routine(routine) {
-            None => None,
-            Some(routine) => Some(routine.formal_count()),
-        }
+        self.source.formal_count(routine)
     }
 
     fn stands(&self, declaration: u32) -> bool {

@@ -2,19 +2,20 @@
 
 ghost use Rattle.std.specs.Prelude.{◌≡◌, ℕ, IfOk};
 ghost use Rattle.std.specs.Option.{option_copied, option_map};
-ghost use Rattle.expr_type.specs.Routines.{named_at, routines};
+ghost use Rattle.expr_type.specs.Names.{formal_count};
+ghost use Rattle.expr_type.specs.Routines.{named_at, routines as means_routines};
 ghost use Rattle.frame_texts.specs.Frames as means;
 ghost use Rattle.frame_things.specs.Places.{place_from, places_in};
 ghost use Rattle.package_scope.specs.Rules as rules;
 ghost use Rattle.package_scope.specs.Tables as tables;
-ghost use Rattle.source_routines.specs.Texts.{routine_in, text_of};
+ghost use Rattle.source_routines.specs.Texts.{routine_in};
 ghost use Rattle.typing_names.specs.Scopes.{AreInnermost, use_number, routine_text};
 
 use crate::token_scopes::{TokenScopes, innermost_of, scope_of};
 use frame_things::Places;
 use name_events::Declared;
 use package_scope::{DeclKind, Declaration, Found, NameTable, Use};
-use source_routines::{Routine, RoutineTable, routines_of};
+use source_routines::{RoutineTable, routines_of};
 use std::alloc::{AllocError, Global};
 use sv_source::{Text, at};
 use sv_tree::{QualifiedName, SourceTree};
@@ -34,7 +35,7 @@ pub struct SourceNames<'t> {
     pub routines: RoutineTable<'t>,
     ghost scoped: { AreInnermost names.now.scopes scopes },
     ghost used: { (q : ℕ) → places_in uses q ≡ place_from use_number 0 q names.now.uses },
-    ghost named: { ∥ ((q : ℕ) → routine_in routines q ≡ named_at q (routines tree.now)) ∥₁ },
+    ghost counted: { (q : ℕ) → option_map formal_count (routine_in routines q) ≡ option_map formal_count (named_at q (means_routines tree.now)) },
 }
 
 /// At which place of a list the first use at each token stands.
@@ -195,13 +196,16 @@ impl<'t> SourceNames<'t> {
         }
     }
 
-    /// The function or task with a declaration, if it is one.
-    pub fn routine(&self, declaration: u32) -> Option<Routine<'t>>
-        ensures { option_map text_of result ≡ routine_text self.now.tree.now self.now.names.now declaration }
+    /// How many formals the function or task with a declaration has, if it is one.
+    pub fn formal_count(&self, declaration: u32) -> Option<usize>
+        ensures { result ≡ option_map formal_count (routine_text self.now.tree.now self.now.names.now declaration) }
     {
         match self.names.declaration(declaration) {
             None => None,
-            Some(declaration) => self.routines.at(declaration.at),
+            Some(declaration) => match self.routines.at(declaration.at) {
+                None => None,
+                Some(routine) => Some(routine.formal_count()),
+            },
         }
     }
 }
