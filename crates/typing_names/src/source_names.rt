@@ -62,28 +62,6 @@ fn number_of(found: Found) -> Option<u32>
     }
 }
 
-/// Whether a kind of declaration stands for unless it is broken.
-fn names_thing(what: DeclKind) -> bool
-    ensures { result ≡ means.names_thing what }
-{
-    match what {
-        DeclKind::Package => false,
-        DeclKind::Module => false,
-        DeclKind::Interface => false,
-        DeclKind::Constant => true,
-        DeclKind::TypeName => true,
-        DeclKind::EnumName => true,
-        DeclKind::Signal => true,
-        DeclKind::Genvar => true,
-        DeclKind::Function => false,
-        DeclKind::Instance => false,
-        DeclKind::Block => false,
-        DeclKind::Modport => false,
-        DeclKind::Formal => true,
-        DeclKind::Local => true,
-    }
-}
-
 /// Whether a declaration is that of an interface.
 fn is_interface(declaration: Option<&Declaration>) -> bool
     ensures { result ≡ rules.is_interface (option_copied declaration) }
@@ -186,13 +164,35 @@ impl<'t> SourceNames<'t> {
         }
     }
 
+    /// Whether a kind of declaration stands for unless it is broken.
+    fn names_thing(&self, what: DeclKind) -> bool
+        ensures { result ≡ means.names_thing self.now.tree.now self.now.names.now what }
+    {
+        match what {
+            DeclKind::Package => false,
+            DeclKind::Module => false,
+            DeclKind::Interface => false,
+            DeclKind::Constant => true,
+            DeclKind::TypeName => true,
+            DeclKind::EnumName => true,
+            DeclKind::Signal => true,
+            DeclKind::Genvar => true,
+            DeclKind::Function => false,
+            DeclKind::Instance => false,
+            DeclKind::Block => false,
+            DeclKind::Modport => false,
+            DeclKind::Formal => true,
+            DeclKind::Local => true,
+        }
+    }
+
     /// Whether a declaration stands for something unless it is broken.
     pub fn stands(&self, declaration: u32) -> bool
         ensures { result ≡ means.is_kind self.now.tree.now self.now.names.now (means.names_thing self.now.tree.now self.now.names.now) declaration }
     {
         match self.names.declaration(declaration) {
             None => false,
-            Some(declaration) => names_thing(declaration.what),
+            Some(declaration) => self.names_thing(declaration.what),
         }
     }
 
