@@ -11,9 +11,9 @@ use Rattle.expr_type.specs.Functions.{routine}
 use Rattle.expr_type.specs.Names.{Context, LocalId}
 use Rattle.frame_texts.specs.Frames.{without_routines, declared_before}
 use Rattle.frame_things.specs.Finding.{local_id}
-use Rattle.typing_names.specs.declared.frame_text.FrameText.{FrameText}
-use Rattle.typing_names.specs.declared.frame_text.Start.{Start}
-use Rattle.typing_names.specs.declared.frame_text.Start.TheVariants as S
+use Rattle.typing_names.specs.declared.text.FrameText.{FrameText}
+use Rattle.typing_names.specs.declared.text.Start.{Start}
+use Rattle.typing_names.specs.declared.text.Start.TheVariants as S
 
 -- the local with the number 0 is this declaration
 abbrev pub base_of : SourceTree → Table → ℕ → Start → ℕ

@@ -3,8 +3,9 @@
 
 mod frame_text;
 mod source_names;
+mod text;
 mod token_scopes;
 
-pub use frame_text::{FrameText, Start};
 pub use source_names::SourceNames;
+pub use text::{FrameText, Start};
 pub use token_scopes::{TokenScopes, innermost_of, scope_of};

@@ -64,7 +64,7 @@ fn number_of(found: Found) -> Option<u32>
 
 /// Whether a declaration is that of an interface.
 fn is_interface(declaration: Option<&Declaration>) -> bool
-    ensures { result ≡ rules.is_interface (option_copied declaration) }
+    ensures { result ≡ rules.is_interface (option_copied declaration.entry) }
 {
     match declaration {
         None => false,
