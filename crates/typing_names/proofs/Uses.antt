@@ -3,7 +3,9 @@ use Rattle.std.proofs.Common.{◌≡◌, ℕ, suc, ◌+◌, ◌-◌, ◌<◌, Bo
 use Rattle.std.specs.Prelude.{slice_get}
 use Rattle.package_scope.specs.Rules.{use_at, use_or}
 use Rattle.package_scope.specs.declared.table.Use.{Use}
-use Rattle.frame_things.specs.Places.{place_by, place_from, first_by}
+use Rattle.std.proofs.lemmas.Option.{slice_get-get_or}
+use Rattle.frame_things.specs.Places.{place_from, put_place, first_by}
+use Rattle.frame_things.proofs.Placing.{place-put}
 use Rattle.frame_things.proofs.Standing.{nowhere, at-place}
 use Rattle.typing_names.specs.Scopes.{use_number}
 
@@ -20,3 +22,14 @@ no-use q us e = sym (use-first q us ∙ nowhere (λ (u : Use). nat_eq (use_numbe
 
 pub use-there : (q p : ℕ) (us : List Use) (r : Option Use) → r ≡ slice_get us p → place_from use_number 0 q us ≡ Some p → r ≡ use_at q us
 use-there q p us r read e = read ∙ at-place (λ (u : Use). nat_eq (use_number u) q) p us e ∙ sym (use-first q us)
+
+-- one more use before others
+pub use-put : (before after : ℕ → Option ℕ) (us : List Use) (at k : ℕ) (d : Use) → k + 1 ≡ at → k < length us → after ≡ put_place before (get_or us k d).at k
+    → ((q : ℕ) → before q ≡ place_from use_number at q (drop at us)) → (q : ℕ) → after q ≡ place_from use_number k q (drop k us)
+use-put before after us at k d next within put so_far =
+    let u : Use = get_or us k d in
+    let this : slice_get us k ≡ Some u = slice_get-get_or us k d within in
+    let that : slice_get us k ≡ Some (get_or us k u) = slice_get-get_or us k u within in
+    let both : Some u ≡ Some (get_or us k u) = sym this ∙ that in
+    let same : u ≡ get_or us k u = cc in
+    place-put use_number before after us at k u u.at next within same refl put so_far
