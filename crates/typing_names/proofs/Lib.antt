@@ -1,4 +1,2 @@
 pub mod Painting
 pub mod Uses
-pub mod Fresh
-pub mod Counting
