@@ -1,5 +1,7 @@
 -- The least break of a tree, by its tokens, its events and their table.
-use Rattle.std.proofs.Common.{◌≡◌, ◌-◌, List, length, Option, refl, sym, ap, ◌∙◌}
+use Rattle.std.proofs.Common.{◌≡◌, ◌-◌, List, length, Option, Ok, Err, refl, sym, ap, subst, ◌∙◌}
+use Rattle.std.specs.Prelude.{Result, IfOk}
+use Rattle.std.specs.declared.alloc.AllocError.{AllocError}
 use Rattle.sv_source.specs.declared.token.Token.{Token}
 use Rattle.sv_tree.specs.declared.units.SourceTree.{SourceTree}
 use Rattle.name_events.specs.declared.events.Event.{Event}
@@ -32,3 +34,13 @@ broken-is tree ts t es b is tokens named e =
     ∙ ap (λ (fs : List Event). least (all_breaks tree.tokens t fs)) is
     ∙ ap (λ (u : Table). least (all_breaks tree.tokens u (events_of tree))) (named-is tree ts t es is tokens named)
     ∙ sym (names_break-is tree)
+
+-- what both are, where neither wants memory
+pub both-are : (r : Result (Table × Option Break) AllocError) (t : Table) (b : Result (Option Break) AllocError) (u : Table) (m n : Option Break)
+    → IfOk r (λ x. ◌≡◌ {A = Result Table AllocError} (Ok t) (Ok x.0) × (b ≡ Ok x.1)) → t ≡ u → IfOk b (λ y. y ≡ m) → m ≡ n → IfOk r (λ x. (x.0 ≡ u) × (x.1 ≡ n))
+both-are (Err e) t b u m n both named broken least_is = tt
+both-are (Ok x) t b u m n both named broken least_is =
+    let first : ◌≡◌ {A = Result Table AllocError} (Ok t) (Ok x.0) = both.0 in
+    let table : t ≡ x.0 = cc in
+    let break_is : x.1 ≡ m = subst (λ (o : Result (Option Break) AllocError). IfOk o (λ y. y ≡ m)) both.1 broken in
+    (sym table ∙ named, break_is ∙ least_is)

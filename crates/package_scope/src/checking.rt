@@ -104,12 +104,18 @@ fn answer<'t>(
 {
     match broken {
         None => Ok(Scopes::of_names(tree, names)),
-        Some(broken) => match refusal(alloc, tree.tokens.as_slice(), broken) {
-            Ok(refusal) => Err(Fail::Refused(refusal)),
-            Err(_) => Err(Fail::Memory),
-        },
+        Some(broken) => {
+            discard(names);
+            match refusal(alloc, tree.tokens.as_slice(), broken) {
+                Ok(refusal) => Err(Fail::Refused(refusal)),
+                Err(_) => Err(Fail::Memory),
+            }
+        }
     }
 }
+
+/// Drops a table.
+fn discard(_names: NameTable) {}
 
 /// A tree's names, and the break of a rule on them.
 fn names_and_break(
@@ -121,8 +127,8 @@ fn names_and_break(
     let events = events_of(alloc, tree)?;
     let tokens = tree.tokens.as_slice();
     let names = NameTable::of_events(alloc, tokens, events.as_slice())?;
-    let broken = first_break(alloc, tokens, &names, events.as_slice())?;
-    Ok((names, broken))
+    let broken = first_break(alloc, tokens, &names, events.as_slice());
+    pairs::both(Ok(names), broken)
 }
 
 /// The scopes of a tree, with what its names stand for, if no rule on names is broken that its tokens and declarations show:

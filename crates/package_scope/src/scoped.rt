@@ -24,8 +24,8 @@ impl<'t> Scopes<'t> {
         Scopes { tree, names }
     }
 
-    /// The table.
-    pub(crate) fn table(&self) -> &NameTable
+    /// Its names.
+    pub fn table(&self) -> &NameTable
         ensures { result.now ≡ self.now.names }
     {
         &self.names

@@ -1,0 +1,5 @@
+pub mod Placing
+pub mod Naming
+pub mod Standing
+pub mod Hiding
+pub mod Grown
