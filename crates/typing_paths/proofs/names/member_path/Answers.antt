@@ -1,0 +1,14 @@
+use Rattle.expr_type.specs.Typings.{rule}
+use Rattle.typing_steps.proofs.Combining.{rule-types}
+use Rattle.typing_paths.specs.Paths.{member_of}
+use Rattle.typing_paths.proofs.Naming.{by-member}
+use Rattle.typing_paths.proofs.names.member_path.Goals as goal
+
+pub returns-in-Member-clause-value : goal.returns-in-Member-clause-value
+returns-in-Member-clause-value g c =
+    let k = g.S.Names.context c.args.names.now in
+    let found = member_of k c.args.first c.args.interface c.in-Member.name in
+    let fs = c.args.known.now.functions in
+    by-member k c.args.first c.args.interface c.args.selects.now c.select-item.result c.in-Member.dot c.in-Member.name c.path.result fs c.path.new.known.functions
+    c.in-len1-up.len_at_least c.select-item.is c.in-Member.is
+    (c.path.ensures.value (rule found) fs (rule-types c.member-from.result found fs c.member-from.ensures.value))
