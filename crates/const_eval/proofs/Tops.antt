@@ -1,13 +1,14 @@
 -- Numbers that are read from the top of a vector.
-use Rattle.std.proofs.Common.{◌≡◌, ℕ, zero, suc, ◌+◌, ◌*◌, ◌^◌, ◌<◌, ◌≤◌, ◌-◌, Bool, true, false, cond, ℤ, pos, neg_ℤ, ◌+ℤ◌, ◌-ℤ◌, ◌<ℤ◌, List, [], ◌∷◌, length, drop, get_or, inl, inr, None, refl, arith, ap, sym, ◌∙◌, subst}
+use Rattle.std.proofs.Common.{◌≡◌, ℕ, zero, suc, ◌+◌, ◌*◌, ◌^◌, ◌<◌, ◌≤◌, ◌-◌, Bool, true, false, cond, ℤ, pos, neg_ℤ, ◌+ℤ◌, ◌-ℤ◌, ◌<ℤ◌, List, [], ◌∷◌, length, drop, get_or, inl, inr, Option, Some, None, refl, arith, ap, sym, ◌∙◌, subst}
 use Rattle.std.specs.Prelude.{if◌then◌else◌}
 use Rattle.std.proofs.lemmas.Int.{ints}
 use Rattle.std.proofs.lemmas.List.{drop_more}
+use Rattle.std.proofs.Math.Pow.{pow_mono}
 use Rattle.b4_core.specs.declared.bit.Bit4.{Bit4}
 use Rattle.b4_core.specs.declared.bit.Bit4.TheVariants.{Zero, One, X, Z}
 use Rattle.b4_core.specs.Bits.{is_one}
-use Rattle.b4_core.specs.Vectors.{digit, num, number, top_bit}
-use Rattle.const_eval.specs.Numbers.{IsNearBy, IsNearIf, start, from_top}
+use Rattle.b4_core.specs.Vectors.{digit, known, num, number, top_bit}
+use Rattle.const_eval.specs.Numbers.{IsNearBy, IsNearIf, number_if_known, start, from_top}
 
 plain : (v : List Bit4) → from_top (pos 0) v ≡ pos (num v)
 plain [] = refl
@@ -62,5 +63,34 @@ turn signed v i d n m some low is next =
     let same : (i - 1) + 1 ≡ i = omega arith in
     let at : n ≡ from_top (start signed v) (drop (i - 1 + 1) v) = is ∙ ap (λ k. from_top (start signed v) (drop k v)) (sym same) in
     next ∙ ap (λ x. x +ℤ x +ℤ pos (digit (get_or v (i - 1) d))) at ∙ sym (next-top (start signed v) v (i - 1) d (omega arith))
+
+-- a number of at most 64 bits isn't far from 0
+num-short : (v : List Bit4) → num v < 2 ^ length v
+num-short [] = omega arith
+num-short (b ∷ v) = let h = num-short v in let d = digit-small b in let e = pow-suc (length v) in omega arith
+
+near-by : (v : List Bit4) (b : Bool) → length v ≤ 64 → IsNearIf true (if b then pos (num v) -ℤ pos (2 ^ length v) else pos (num v))
+near-by v true h =
+    let a = num-short v in
+    let p : 2 ^ length v ≤ 2 ^ 64 = pow_mono h in
+    record { above = omega (arith, ints); below = omega (arith, ints) }
+near-by v false h =
+    let a = num-short v in
+    let p : 2 ^ length v ≤ 2 ^ 64 = pow_mono h in
+    record { above = omega (arith, ints); below = omega (arith, ints) }
+
+short-near : (signed : Bool) (v : List Bit4) → length v ≤ 64 → IsNearIf true (number signed v)
+short-near true v h = near-by v (is_one (top_bit v)) h
+short-near false v h = near-by v false h
+
+near-not-far : (n : ℤ) → IsNearIf true n → IsNearBy None n → ⊥
+near-not-far n near (inl low) = let a = near.above in omega (arith, ints)
+near-not-far n near (inr high) = let b = near.below in omega (arith, ints)
+
+pub short-number : (r : Option ℤ) (signed : Bool) (v : List Bit4) → length v ≤ 64 → known v ≡ true → IsNearBy r (number signed v) → r ≡ number_if_known signed v
+short-number None signed v short is n = absurd (near-not-far (number signed v) (short-near signed v short) n)
+short-number (Some m) signed v short is n = ap (λ (k : ℤ). Some k) n ∙ sym (ap (λ b. cond b (Some (number signed v)) None) is)
+
+pub ruleset shorts = (short-number)
 
 pub ruleset tops = (number-is)

@@ -48,6 +48,8 @@ same-slots fs ss ts ls ms signals locals = ap (λ xs. by-slots fs xs ls) signals
 pub alone-long : (e : Expr) (fs : List Function) (env : Env) (v : List Bit4) → AloneGives (Ok v) e fs env → length v ≡ width_of e.of
 alone-long e fs env v g = ap length g.0 ∙ length-value e (wide (meaning e)) (signed (meaning e)) (surroundings fs env) ∙ wide-is e
 
+pub ruleset longs = (alone-long)
+
 -- a statement that starts in an environment
 stands-at : (sc : Scope) (env : Env) → sc.depth ≡ length sc.functions.now → IsAt sc env (surroundings sc.functions.now env) (starting env) Normal
 stands-at sc env deep =

@@ -60,6 +60,11 @@ abbrev pub ValueIs : Result Value EvalFail → Expr → List Function → Env �
 ValueIs (Ok v) e fs env = (v ≡ value_of_bits e.of (bits_of e fs env)) × Runs (meaning e) (surroundings fs env) env.budget
 ValueIs (Err f) e fs env = Fails f (run_of e fs env) e.spot.at
 
+-- a number, if no bit is x or z
+abbrev pub NumberIs : Result (Option ℤ) EvalFail → Expr → List Function → Env → Type 0
+NumberIs (Ok n) e fs env = (n ≡ number_if_known (signed (meaning e)) (bits_of e fs env)) × Runs (meaning e) (surroundings fs env) env.budget
+NumberIs (Err f) e fs env = Fails f (run_of e fs env) e.spot.at
+
 -- a number in a range, or none
 abbrev pub SizeIs : Result ℤ SizeFail → Expr → List Function → Env → ℤ → ℤ → Type 0
 SizeIs (Ok n) e fs env low high = (number_if_known (signed (meaning e)) (bits_of e fs env) ≡ Some n) × IsIn n low high × Runs (meaning e) (surroundings fs env) env.budget

@@ -10,4 +10,4 @@ mod valued;
 pub use eval_stmts::{Env, Update};
 pub use fails::{EvalFail, SizeFail};
 pub use runs::{run_function, run_stmt};
-pub use valued::{size, value};
+pub use valued::{number, size, value};

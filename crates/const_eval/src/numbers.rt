@@ -1,6 +1,6 @@
 //! The numbers of vectors (IEEE 1800-2017 clauses 6.9 and 11.8.1).
 
-ghost use Rattle.std.specs.Prelude.{◌≡◌, ◌+ℤ◌, pos, true, Some};
+ghost use Rattle.std.specs.Prelude.{◌≡◌, ◌≤◌, ◌+ℤ◌, length, pos, true, Some};
 ghost use Rattle.b4_core.specs.Bits.{is_one};
 ghost use Rattle.b4_core.specs.Vectors.{digit, number, top_bit};
 ghost use Rattle.const_eval.specs.Numbers.{IsNearBy, IsNearIf, Within, number_if_known, start};
@@ -94,6 +94,19 @@ fn in_range(n: i128, low: i64, high: i64) -> Option<i64>
         return None;
     }
     Some(n as i64)
+}
+
+/// The number of a vector of at most 64 bits, if no bit of it is x or z.
+#[tactic(auto, using(crate::proofs::Tops::shorts))]
+pub fn number_if_known(v: &Vec4, signed: bool) -> Option<i128>
+    requires { length v.now ≤ 64 }
+    ensures { result ≡ number_if_known signed v.now }
+{
+    if is_known(v) {
+        near_number(v.as_slice(), signed)
+    } else {
+        None
+    }
 }
 
 /// The number of a vector, if no bit of it is x or z and it isn't out of range.

@@ -1,16 +1,17 @@
 //! The values of expressions (IEEE 1800-2017 clause 11).
 
-ghost use Rattle.std.specs.Prelude.{◌≡◌};
+ghost use Rattle.std.specs.Prelude.{◌≡◌, ◌≤◌};
 ghost use Rattle.sv_types.specs.Expressions.{meaning};
 ghost use Rattle.sv_types.specs.Functions.{callees_within};
+ghost use Rattle.sv_types.specs.Layouts.{width_of};
 ghost use Rattle.eval_parts.specs.Limits.{FitsAlone};
 ghost use Rattle.eval_forms.specs.Callees.{formals_in};
 ghost use Rattle.eval_exprs.specs.Calls.{CalledGives};
 ghost use Rattle.eval_runs.specs.Functions.{AllCanRun};
-ghost use Rattle.const_eval.specs.Values.{AloneGives, SizeIs, ValueIs};
+ghost use Rattle.const_eval.specs.Values.{AloneGives, NumberIs, SizeIs, ValueIs};
 
 use crate::fails::{EvalFail, SizeFail, fail_of};
-use crate::numbers::number_within;
+use crate::numbers::{number_if_known, number_within};
 use b4_core::Vec4;
 use eval_exprs::{Call, Called, Held, Scope, bits};
 use eval_parts::{Halt, own_sign, own_width};
@@ -57,6 +58,26 @@ pub fn value(alloc: Global, e: &Expr, functions: &Functions, env: &Env) -> Resul
 {
     match alone(alloc, e, functions.as_slice(), env) {
         Ok(v) => Ok(of_bits(alloc, &e.of, &v)?),
+        Err(halt) => Err(fail_of(halt, e.spot.at)),
+    }
+}
+
+/// The number of an expression of at most 64 bits by its own sign, or none where a bit of its value is x or z. It fails as `value`
+/// does.
+#[tactic(auto, using(crate::proofs::Valuing::longs))]
+pub fn number(
+    alloc: Global,
+    e: &Expr,
+    functions: &Functions,
+    env: &Env,
+) -> Result<Option<i128>, EvalFail>
+    requires functions { AllCanRun functions.now }
+    requires fits { FitsAlone (meaning e.now) (formals_in functions.now) }
+    requires short { width_of e.now.of ≤ 64 }
+    ensures { NumberIs result e.now functions.now env.now }
+{
+    match alone(alloc, e, functions.as_slice(), env) {
+        Ok(v) => Ok(number_if_known(&v, own_sign(e))),
         Err(halt) => Err(fail_of(halt, e.spot.at)),
     }
 }

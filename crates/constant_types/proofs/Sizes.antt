@@ -60,21 +60,21 @@ abbrev has_stopped : Option Stop → Bool
 has_stopped None = false
 has_stopped (Some s) = true
 
-goes-on : (e : Expr) (fs : List Function) (env : Env) → HasNoSlots env → Runs (meaning e) (surroundings fs env) env.budget → stops fs e ≡ false
+pub goes-on : (e : Expr) (fs : List Function) (env : Env) → HasNoSlots env → Runs (meaning e) (surroundings fs env) env.budget → stops fs e ≡ false
 goes-on e fs env h r =
     let a : (meaning e).values (nothing_held fs) (running (Some 1048576)) ≡ running r.left =
     subst (λ b. (meaning e).values (nothing_held fs) (running b) ≡ running r.left) h.budget
     (subst (λ k. (meaning e).values k (running env.budget) ≡ running r.left) (around fs env h) r.is) in
     ap (λ (t : Tally). has_stopped t.stop) a
 
-has-stopped : (e : Expr) (fs : List Function) (env : Env) (s : Stop) → HasNoSlots env → (run_of e fs env).stop ≡ Some s → stops fs e ≡ true
+pub has-stopped : (e : Expr) (fs : List Function) (env : Env) (s : Stop) → HasNoSlots env → (run_of e fs env).stop ≡ Some s → stops fs e ≡ true
 has-stopped e fs env s h r =
     let a : ((meaning e).values (nothing_held fs) (running (Some 1048576))).stop ≡ Some s =
     subst (λ b. ((meaning e).values (nothing_held fs) (running b)).stop ≡ Some s) h.budget
     (subst (λ k. ((meaning e).values k (running env.budget)).stop ≡ Some s) (around fs env h) r) in
     ap has_stopped a
 
-the-number : (e : Expr) (fs : List Function) (env : Env) (o : Option ℤ) → HasNoSlots env → number_if_known (signed (meaning e)) (bits_of e fs env) ≡ o → number_of fs e ≡ o
+pub the-number : (e : Expr) (fs : List Function) (env : Env) (o : Option ℤ) → HasNoSlots env → number_if_known (signed (meaning e)) (bits_of e fs env) ≡ o → number_of fs e ≡ o
 the-number e fs env o h n = subst (λ k. number_if_known (signed (meaning e)) (alone (meaning e) k) ≡ o) (around fs env h) n
 
 within : (low high n : ℤ) → IsIn n low high → in_range low high (Some n) ≡ Some n
@@ -117,7 +117,7 @@ size-err k first low high fs e env (S.Eval (V.NotConstant at)) h s = stopped k f
 size-err k first low high fs e env (S.Eval (V.Turns at)) h s = stopped k first low high fs e env Stop.Turns h s.0
 
 -- the rules on a constant before its number
-none-stops : (h : Halt) (r : Option (Option Break)) → HaltsBy h None → HaltsBy h r
+pub none-stops : (h : Halt) (r : Option (Option Break)) → HaltsBy h None → HaltsBy h r
 none-stops H.Memory r s = tt
 none-stops (H.Breaks at rule) r s = cc
 none-stops H.Quiet r s = cc
@@ -125,7 +125,7 @@ none-stops H.Quiet r s = cc
 not-before : (n : ℕ) → nat_lt n n ≡ false
 not-before n = grind (arith, nat_tests)
 
-itself : (p : Position) → position_before p p ≡ false
+pub itself : (p : Position) → position_before p p ≡ false
 itself p =
     ap (λ b. b || ((p.instance == p.instance) && nat_lt p.at p.at)) (not-before p.instance)
     ∙ ap (λ b. (p.instance == p.instance) && b) (not-before p.at)

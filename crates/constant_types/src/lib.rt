@@ -3,10 +3,12 @@
 #![tactic(auto)]
 
 mod exprs;
+mod keys;
 mod marks;
 mod numbers;
 mod stmts;
 
 pub use exprs::uses_of;
+pub use keys::key_number;
 pub use marks::{mark_of, stream_marks};
 pub use numbers::number_in;

@@ -21,8 +21,8 @@ use type_kinds::is_unpacked;
 // How many statements the value of a constant may run.
 const BUDGET: u64 = 1048576;
 
-// What constants are valued in: no signal and no local holds anything.
-fn nothing_held(alloc: Global) -> Env
+/// What constants are valued in: no signal and no local holds anything.
+pub(crate) fn nothing_held(alloc: Global) -> Env
     ensures { HasNoSlots result }
 {
     Env {
@@ -33,8 +33,8 @@ fn nothing_held(alloc: Global) -> Env
     }
 }
 
-// What stops at the first token of a constant that has no number.
-fn halt_for(first: u32, fail: SizeFail) -> Halt
+/// What stops at the first token of a constant that has no number.
+pub(crate) fn halt_for(first: u32, fail: SizeFail) -> Halt
     ensures { result ≡ halt_for first fail }
 {
     match fail {

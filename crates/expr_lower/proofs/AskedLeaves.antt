@@ -1,5 +1,5 @@
 -- The leaves of an expression are those of what it asks.
-use Rattle.std.proofs.Common.{◌≡◌, ℕ, Bool, ℤ, List, [], ◌∷◌, ◌++◌, length, map, flat_map, rules, refl, ap, sym, ◌∙◌, subst}
+use Rattle.std.proofs.Common.{◌≡◌, ℕ, Bool, true, false, ℤ, List, [], ◌∷◌, ◌++◌, length, map, flat_map, rules, refl, ap, sym, ◌∙◌, subst}
 use Rattle.b4_core.specs.declared.bit.Bit4.{Bit4}
 use Rattle.b4_core.specs.declared.operators.UnOp.{UnOp}
 use Rattle.b4_core.specs.declared.operators.BinOp.{BinOp}
@@ -17,11 +17,12 @@ use Rattle.sv_types.specs.Layouts.{Layout, layout}
 use Rattle.sv_types.specs.Surroundings.{Parameter}
 use Rattle.sv_types.specs.Operators.{parts_of}
 use Rattle.sv_types.proofs.Terms.{Steps, by-expr}
+use Rattle.eval_parts.specs.Steps.{is_path}
 use Rattle.eval_parts.specs.Targets.{marks_of_parts, marks_of_formals}
 use Rattle.eval_forms.specs.Asked.{Asked, alone_asked, assigned_asked, choice_asked, form_asked}
 use Rattle.eval_forms.proofs.Alternatives as I
 use Rattle.eval_forms.proofs.Strict as K
-use Rattle.expr_lower.specs.Leaves.{Leaf, Signals, Locals, Calls, Valued, Joined, Unlowered, together, onto, leaves, Each, choice_step, form_step, expr_step}
+use Rattle.expr_lower.specs.Leaves.{Leaf, Signals, Elements, Inside, Locals, Calls, Valued, Joined, Unlowered, together, onto, indexed, leaves, Each, IsLowered, choice_step, form_step, expr_step}
 
 abbrev pub form_leaves : Form → Layout → List Leaf
 form_leaves = fold-Form (List Leaf) (Layout → List Leaf) (List Leaf) choice_step form_step expr_step
@@ -63,18 +64,59 @@ assigned-each P [] es h = tt
 assigned-each P (p ∷ ps) [] h = tt
 assigned-each P (p ∷ ps) (e ∷ es) h = (each-left P (leaves e) (together (map leaves es)) h, assigned-each P ps es (each-right P (leaves e) (together (map leaves es)) h))
 
--- what a select stands on has the leaves that it has alone
-pub off : (P : Leaf → Type 0) (ls : List Leaf) → Each P (onto ls) → Each P ls
-off P [] h = tt
-off P (Signals n of ∷ ls) h = h
-off P (Locals n of ∷ ls) h = h
-off P (Calls f of n ∷ ls) h = h
-off P (Valued ∷ ls) h = h
-off P (Joined ∷ ls) h = h.1
-off P (Unlowered ∷ ls) h = h
+-- what a select stands on has the leaves that it has alone, if a signal is shown whole where members and parts of it are read
+pub off : (P : Leaf → Type 0) → ((n : ℕ) (of : Layout) → P (Inside n of) → P (Signals n of)) → (ls : List Leaf) → Each P (onto ls) → Each P ls
+off P inside [] h = tt
+off P inside (Signals n of ∷ ls) h = (inside n of h.0, h.1)
+off P inside (Elements n of ∷ ls) h = h
+off P inside (Inside n of ∷ ls) h = h
+off P inside (Locals n of ∷ ls) h = h
+off P inside (Calls f of n ∷ ls) h = h
+off P inside (Valued ∷ ls) h = h
+off P inside (Joined ∷ ls) h = h.1
+off P inside (Unlowered ∷ ls) h = h
 
-pub off-left : (P : Leaf → Type 0) (x y : Expr) → Each P (onto (leaves x) ++ leaves y) → Each P (leaves x)
-off-left P x y h = off P (leaves x) (each-left P (onto (leaves x)) (leaves y) h)
+pub off-left : (P : Leaf → Type 0) → ((n : ℕ) (of : Layout) → P (Inside n of) → P (Signals n of)) → (x y : Expr) → Each P (onto (leaves x) ++ leaves y) → Each P (leaves x)
+off-left P inside x y h = off P inside (leaves x) (each-left P (onto (leaves x)) (leaves y) h)
+
+-- so has what an index selects from, if a whole signal is shown whole where its elements are read
+pub off-index : (P : Leaf → Type 0) → ((n : ℕ) (of : Layout) → P (Inside n of) → P (Signals n of)) → (ls : List Leaf) → ((n : ℕ) (of : Layout) → ls ≡ Signals n of ∷ [] → P (Elements n of) → P (Signals n of))
+    → Each P (indexed ls) → Each P ls
+off-index P inside [] elements h = tt
+off-index P inside (Signals n of ∷ []) elements h = (elements n of refl h.0, tt)
+off-index P inside (Signals n of ∷ l ∷ ls) elements h = (inside n of h.0, h.1)
+off-index P inside (Elements n of ∷ ls) elements h = h
+off-index P inside (Inside n of ∷ ls) elements h = h
+off-index P inside (Locals n of ∷ ls) elements h = h
+off-index P inside (Calls f of n ∷ ls) elements h = h
+off-index P inside (Valued ∷ ls) elements h = h
+off-index P inside (Joined ∷ ls) elements h = h.1
+off-index P inside (Unlowered ∷ ls) elements h = h
+
+-- all forms that an index selects from are lowered just where those are that another select stands on
+pub index-lowered : (ls : List Leaf) → Each IsLowered (indexed ls) → Each IsLowered (onto ls)
+index-lowered [] h = h
+index-lowered (Signals n of ∷ []) h = h
+index-lowered (Signals n of ∷ l ∷ ls) h = h
+index-lowered (Elements n of ∷ ls) h = h
+index-lowered (Inside n of ∷ ls) h = h
+index-lowered (Locals n of ∷ ls) h = h
+index-lowered (Calls f of n ∷ ls) h = h
+index-lowered (Valued ∷ ls) h = h
+index-lowered (Joined ∷ ls) h = h
+index-lowered (Unlowered ∷ ls) h = h
+
+pub lowered-index : (ls : List Leaf) → Each IsLowered (onto ls) → Each IsLowered (indexed ls)
+lowered-index [] h = h
+lowered-index (Signals n of ∷ []) h = h
+lowered-index (Signals n of ∷ l ∷ ls) h = h
+lowered-index (Elements n of ∷ ls) h = h
+lowered-index (Inside n of ∷ ls) h = h
+lowered-index (Locals n of ∷ ls) h = h
+lowered-index (Calls f of n ∷ ls) h = h
+lowered-index (Valued ∷ ls) h = h
+lowered-index (Joined ∷ ls) h = h
+lowered-index (Unlowered ∷ ls) h = h
 
 pub off-right : (P : Leaf → Type 0) (x y : Expr) → Each P (onto (leaves x) ++ leaves y) → Each P (leaves y)
 off-right P x y h = each-right P (onto (leaves x)) (leaves y) h
@@ -189,12 +231,34 @@ out-Call f es = search (rules, the_lemmas)
 out-Stream : (reversed : Bool) (n : ℕ) (es : List Expr) → out-Form (V.Stream reversed n es) ≡ Form-F.Stream reversed n es
 out-Stream reversed n es = search (rules, the_lemmas)
 
+-- a select path isn't another form
+path-clash : (e : Expr) (f : Form) (y : Form-F Choice Form Expr) → e.form ≡ f → out-Form f ≡ y → is_path y ≡ true → is_path (out-Form e.form) ≡ false → ⊥
+path-clash e f y is out path kind = (let clash : true ≡ false = sym path ∙ sym (ap (λ g. is_path (out-Form g)) is ∙ ap is_path out) ∙ kind in cc)
+
+pub path-Signal : (e : Expr) (n : ℕ) → e.form ≡ V.Signal n → is_path (out-Form e.form) ≡ false → ⊥
+path-Signal e n is kind = path-clash e (V.Signal n) (Form-F.Signal n) is (out-Signal n) refl kind
+
+pub path-Local : (e : Expr) (n : ℕ) → e.form ≡ V.Local n → is_path (out-Form e.form) ≡ false → ⊥
+path-Local e n is kind = path-clash e (V.Local n) (Form-F.Local n) is (out-Local n) refl kind
+
+pub path-Member : (e x : Expr) (k : ℕ) → e.form ≡ V.Member x k → is_path (out-Form e.form) ≡ false → ⊥
+path-Member e x k is kind = path-clash e (V.Member x k) (Form-F.Member x k) is (out-Member x k) refl kind
+
+pub path-Index : (e x y : Expr) → e.form ≡ V.Index x y → is_path (out-Form e.form) ≡ false → ⊥
+path-Index e x y is kind = path-clash e (V.Index x y) (Form-F.Index x y) is (out-Index x y) refl kind
+
+pub path-Part : (e x : Expr) (left right : ℤ) → e.form ≡ V.Part x left right → is_path (out-Form e.form) ≡ false → ⊥
+path-Part e x left right is kind = path-clash e (V.Part x left right) (Form-F.Part x left right) is (out-Part x left right) refl kind
+
+pub path-Slide : (e x y : Expr) (n : ℕ) (up : Bool) → e.form ≡ V.Slide x y n up → is_path (out-Form e.form) ≡ false → ⊥
+path-Slide e x y n up is kind = path-clash e (V.Slide x y n up) (Form-F.Slide x y n up) is (out-Slide x y n up) refl kind
+
 -- form by form
 abbrev AskedForm : (Leaf → Type 0) → Form → Type 0
 AskedForm P f = (e : Expr) → e.form ≡ f → (fs : ℕ → List Parameter) (w : ℕ) (s : Bool) → Each P (leaves e) → EachAsked P (form_asked (layout e.of) fs w s (out-Form e.form))
 
 abbrev AskedExpr : (Leaf → Type 0) → Expr → Type 0
-AskedExpr P e = (fs : ℕ → List Parameter) (w : ℕ) (s : Bool) → Each P (leaves e) → EachAsked P (form_asked (layout e.of) fs w s (out-Form e.form))
+AskedExpr P e = is_path (out-Form e.form) ≡ false → (fs : ℕ → List Parameter) (w : ℕ) (s : Bool) → Each P (leaves e) → EachAsked P (form_asked (layout e.of) fs w s (out-Form e.form))
 
 abbrev AnyChoice : Choice → Type 0
 AnyChoice c = Unit {0}
@@ -255,19 +319,11 @@ form-Member x k = search (rules, the_lemmas)
 pub leaves-Member : (e : Expr) (x : Expr) (k : ℕ) → e.form ≡ V.Member x k → leaves e ≡ onto (leaves x)
 leaves-Member e x k is = leaves-at e (V.Member x k) _ is (form-Member x k)
 
-of-Member : (P : Leaf → Type 0) (x : Expr) (k : ℕ) → AskedForm P (V.Member x k)
-of-Member P x k e is fs w s all =
-    subst (EachAsked P) (K.asked-by e (V.Member x k) (Form-F.Member x k) fs w s is (out-Member x k)) (let h = off P (leaves x) (subst (Each P) (leaves-Member e x k is) all) in (h, tt))
-
-form-Index : (x : Expr) (y : Expr) → form_leaves (V.Index x y) ≡ (λ (of : Layout). onto (leaves x) ++ leaves y)
+form-Index : (x : Expr) (y : Expr) → form_leaves (V.Index x y) ≡ (λ (of : Layout). indexed (leaves x) ++ leaves y)
 form-Index x y = search (rules, the_lemmas)
 
-pub leaves-Index : (e : Expr) (x : Expr) (y : Expr) → e.form ≡ V.Index x y → leaves e ≡ onto (leaves x) ++ leaves y
+pub leaves-Index : (e : Expr) (x : Expr) (y : Expr) → e.form ≡ V.Index x y → leaves e ≡ indexed (leaves x) ++ leaves y
 leaves-Index e x y is = leaves-at e (V.Index x y) _ is (form-Index x y)
-
-of-Index : (P : Leaf → Type 0) (x : Expr) (y : Expr) → AskedForm P (V.Index x y)
-of-Index P x y e is fs w s all =
-    subst (EachAsked P) (K.asked-by e (V.Index x y) (Form-F.Index x y) fs w s is (out-Index x y)) (let h = subst (Each P) (leaves-Index e x y is) all in (off-left P x y h, (off-right P x y h, tt)))
 
 form-Part : (x : Expr) (left : ℤ) (right : ℤ) → form_leaves (V.Part x left right) ≡ (λ (of : Layout). onto (leaves x))
 form-Part x left right = search (rules, the_lemmas)
@@ -275,19 +331,11 @@ form-Part x left right = search (rules, the_lemmas)
 pub leaves-Part : (e : Expr) (x : Expr) (left : ℤ) (right : ℤ) → e.form ≡ V.Part x left right → leaves e ≡ onto (leaves x)
 leaves-Part e x left right is = leaves-at e (V.Part x left right) _ is (form-Part x left right)
 
-of-Part : (P : Leaf → Type 0) (x : Expr) (left : ℤ) (right : ℤ) → AskedForm P (V.Part x left right)
-of-Part P x left right e is fs w s all =
-    subst (EachAsked P) (K.asked-by e (V.Part x left right) (Form-F.Part x left right) fs w s is (out-Part x left right)) (let h = off P (leaves x) (subst (Each P) (leaves-Part e x left right is) all) in (h, tt))
-
 form-Slide : (x : Expr) (y : Expr) (n : ℕ) (up : Bool) → form_leaves (V.Slide x y n up) ≡ (λ (of : Layout). onto (leaves x) ++ leaves y)
 form-Slide x y n up = search (rules, the_lemmas)
 
 pub leaves-Slide : (e : Expr) (x : Expr) (y : Expr) (n : ℕ) (up : Bool) → e.form ≡ V.Slide x y n up → leaves e ≡ onto (leaves x) ++ leaves y
 leaves-Slide e x y n up is = leaves-at e (V.Slide x y n up) _ is (form-Slide x y n up)
-
-of-Slide : (P : Leaf → Type 0) (x : Expr) (y : Expr) (n : ℕ) (up : Bool) → AskedForm P (V.Slide x y n up)
-of-Slide P x y n up e is fs w s all =
-    subst (EachAsked P) (K.asked-by e (V.Slide x y n up) (Form-F.Slide x y n up) fs w s is (out-Slide x y n up)) (let h = subst (Each P) (leaves-Slide e x y n up is) all in (off-left P x y h, (off-right P x y h, tt)))
 
 form-Unary : (op : UnOp) (x : Expr) → form_leaves (V.Unary op x) ≡ (λ (of : Layout). Valued ∷ leaves x)
 form-Unary op x = search (rules, the_lemmas)
@@ -479,41 +527,44 @@ of-Stream : (P : Leaf → Type 0) (reversed : Bool) (n : ℕ) (es : List Expr) �
 of-Stream P reversed n es e is fs w s all =
     subst (EachAsked P) (K.asked-by e (V.Stream reversed n es) (Form-F.Stream reversed n es) fs w s is (out-Stream reversed n es)) (let h = subst (Each P) (leaves-Stream e reversed n es is) all in alone-each P es h.1)
 
-asked-steps : (P : Leaf → Type 0) → Steps AnyChoice (AskedForm P) (AskedExpr P)
+abbrev AskedPlain : (Leaf → Type 0) → Form → Type 0
+AskedPlain P f = (e : Expr) → e.form ≡ f → AskedExpr P e
+
+asked-steps : (P : Leaf → Type 0) → Steps AnyChoice (AskedPlain P) (AskedExpr P)
 asked-steps P = record {
   value = λ e h. tt;
   range = λ low high h g. tt;
-  expr = λ e h fs w s all. h e refl fs w s all;
-  literal = λ v goes_on. of-Literal P v goes_on;
-  fill = λ b. of-Fill P b;
-  constant = λ v. of-Constant P v;
-  signal = λ n. of-Signal P n;
-  local = λ n. of-Local P n;
-  member = λ x k h0. of-Member P x k;
-  index = λ x y h0 h1. of-Index P x y;
-  part_select = λ x left right h0. of-Part P x left right;
-  sliding = λ x y n up h0 h1. of-Slide P x y n up;
-  unary = λ op x h1. of-Unary P op x;
-  reduce = λ op x h1. of-Reduce P op x;
-  negate = λ x h0. of-Negate P x;
-  binary = λ op x y h1 h2. of-Binary P op x y;
-  shift = λ op x y h1 h2. of-Shift P op x y;
-  power = λ x y h0 h1. of-Power P x y;
-  order = λ op x y h1 h2. of-Order P op x y;
-  equal = λ op negated x y h2 h3. of-Equal P op negated x y;
-  both = λ x y h0 h1. of-Both P x y;
-  either = λ x y h0 h1. of-Either P x y;
-  choose = λ z x y h0 h1 h2. of-Choose P z x y;
-  concat = λ es h0. of-Concat P es;
-  repeat = λ n es h1. of-Repeat P n es;
-  inside = λ x cs h0 h1. of-Inside P x cs;
-  cast = λ x h0. of-Cast P x;
-  clog2 = λ x h0. of-Clog2 P x;
-  pattern = λ es h0. of-Pattern P es;
-  call = λ f es h1. of-Call P f es;
-  stream = λ reversed n es h2. of-Stream P reversed n es;
+  expr = λ e h plain fs w s all. h e refl plain fs w s all;
+  literal = λ v goes_on e is plain. of-Literal P v goes_on e is;
+  fill = λ b e is plain. of-Fill P b e is;
+  constant = λ v e is plain. of-Constant P v e is;
+  signal = λ n e is plain. of-Signal P n e is;
+  local = λ n e is plain. of-Local P n e is;
+  member = λ x k h0 e is plain fs w s all. absurd (path-Member e x k is plain);
+  index = λ x y h0 h1 e is plain fs w s all. absurd (path-Index e x y is plain);
+  part_select = λ x left right h0 e is plain fs w s all. absurd (path-Part e x left right is plain);
+  sliding = λ x y n up h0 h1 e is plain fs w s all. absurd (path-Slide e x y n up is plain);
+  unary = λ op x h1 e is plain. of-Unary P op x e is;
+  reduce = λ op x h1 e is plain. of-Reduce P op x e is;
+  negate = λ x h0 e is plain. of-Negate P x e is;
+  binary = λ op x y h1 h2 e is plain. of-Binary P op x y e is;
+  shift = λ op x y h1 h2 e is plain. of-Shift P op x y e is;
+  power = λ x y h0 h1 e is plain. of-Power P x y e is;
+  order = λ op x y h1 h2 e is plain. of-Order P op x y e is;
+  equal = λ op negated x y h2 h3 e is plain. of-Equal P op negated x y e is;
+  both = λ x y h0 h1 e is plain. of-Both P x y e is;
+  either = λ x y h0 h1 e is plain. of-Either P x y e is;
+  choose = λ z x y h0 h1 h2 e is plain. of-Choose P z x y e is;
+  concat = λ es h0 e is plain. of-Concat P es e is;
+  repeat = λ n es h1 e is plain. of-Repeat P n es e is;
+  inside = λ x cs h0 h1 e is plain. of-Inside P x cs e is;
+  cast = λ x h0 e is plain. of-Cast P x e is;
+  clog2 = λ x h0 e is plain. of-Clog2 P x e is;
+  pattern = λ es h0 e is plain. of-Pattern P es e is;
+  call = λ f es h1 e is plain. of-Call P f es e is;
+  stream = λ reversed n es h2 e is plain. of-Stream P reversed n es e is;
 }
 
--- what an expression asks has no other leaves than it has
+-- what an expression that is no select path asks has no other leaves than it has
 pub asked-leaves : (e : Expr) (P : Leaf → Type 0) → AskedExpr P e
-asked-leaves e P = by-expr AnyChoice (AskedForm P) (AskedExpr P) (asked-steps P) e
+asked-leaves e P = by-expr AnyChoice (AskedPlain P) (AskedExpr P) (asked-steps P) e

@@ -1,5 +1,5 @@
 -- Which forms are lowered, and how many operands each has.
-use Rattle.std.proofs.Common.{◌≡◌, ℕ, suc, ◌≤◌, Bool, true, false, ℤ, List, [], ◌∷◌, length, map, rules, refl, arith, ap, sym, ◌∙◌, subst}
+use Rattle.std.proofs.Common.{◌≡◌, ℕ, suc, ◌≤◌, Bool, true, false, List, [], ◌∷◌, length, map, rules, refl, arith, ap, sym, ◌∙◌, subst}
 use Rattle.b4_core.specs.declared.operators.UnOp.{UnOp}
 use Rattle.b4_core.specs.declared.operators.BinOp.{BinOp}
 use Rattle.b4_core.specs.declared.operators.RedOp.{RedOp}
@@ -71,33 +71,6 @@ unbuilt-Stream e reversed n es is h = (subst (Each IsLowered) (A.leaves-Stream e
 out-Call : (f : ℕ) (es : List Expr) → out-Form (V.Call f es) ≡ Form-F.Call f es
 out-Call f es = search (rules, the_lemmas)
 
-out-Signal : (n : ℕ) → out-Form (V.Signal n) ≡ Form-F.Signal n
-out-Signal n = search (rules, the_lemmas)
-
-out-Local : (n : ℕ) → out-Form (V.Local n) ≡ Form-F.Local n
-out-Local n = search (rules, the_lemmas)
-
-path-clash : (e : Expr) (f : Form) (y : Form-F Choice Form Expr) → e.form ≡ f → out-Form f ≡ y → is_path y ≡ true → is_path (out-Form e.form) ≡ false → ⊥
-path-clash e f y is out path kind = (let clash : true ≡ false = sym path ∙ sym (ap (λ g. is_path (out-Form g)) is ∙ ap is_path out) ∙ kind in cc)
-
-pub path-Signal : (e : Expr) (n : ℕ) → e.form ≡ V.Signal n → is_path (out-Form e.form) ≡ false → ⊥
-path-Signal e n is kind = path-clash e (V.Signal n) (Form-F.Signal n) is (out-Signal n) refl kind
-
-pub path-Local : (e : Expr) (n : ℕ) → e.form ≡ V.Local n → is_path (out-Form e.form) ≡ false → ⊥
-path-Local e n is kind = path-clash e (V.Local n) (Form-F.Local n) is (out-Local n) refl kind
-
-pub path-Member : (e x : Expr) (k : ℕ) → e.form ≡ V.Member x k → is_path (out-Form e.form) ≡ false → ⊥
-path-Member e x k is kind = path-clash e (V.Member x k) (Form-F.Member x k) is (A.out-Member x k) refl kind
-
-pub path-Index : (e x y : Expr) → e.form ≡ V.Index x y → is_path (out-Form e.form) ≡ false → ⊥
-path-Index e x y is kind = path-clash e (V.Index x y) (Form-F.Index x y) is (A.out-Index x y) refl kind
-
-pub path-Part : (e x : Expr) (left right : ℤ) → e.form ≡ V.Part x left right → is_path (out-Form e.form) ≡ false → ⊥
-path-Part e x left right is kind = path-clash e (V.Part x left right) (Form-F.Part x left right) is (A.out-Part x left right) refl kind
-
-pub path-Slide : (e x y : Expr) (n : ℕ) (up : Bool) → e.form ≡ V.Slide x y n up → is_path (out-Form e.form) ≡ false → ⊥
-path-Slide e x y n up is kind = path-clash e (V.Slide x y n up) (Form-F.Slide x y n up) is (A.out-Slide x y n up) refl kind
-
 -- a form with an operator of the target isn't one without
 special-clash : (e : Expr) (f : Form) (y : Form-F Choice Form Expr) → e.form ≡ f → out-Form f ≡ y → is_special y ≡ true → is_special (out-Form e.form) ≡ false → ⊥
 special-clash e f y is out special kind = (let clash : true ≡ false = sym special ∙ sym (ap (λ g. is_special (out-Form g)) is ∙ ap is_special out) ∙ kind in cc)
@@ -139,7 +112,7 @@ AnyChoice c = Unit {0}
 by-operator : (e : Expr) → is_call (out-Form e.form) ≡ false → OperandsExpr e
 by-operator e no_call fs w s kind built fits =
     let laws = asking e (record { no_path = kind; no_call = no_call }) in
-    record { fits = laws.fits fs w s fits; fewer = laws.fewer fs w s; built = A.asked-leaves e IsLowered fs w s built }
+    record { fits = laws.fits fs w s fits; fewer = laws.fewer fs w s; built = A.asked-leaves e IsLowered kind fs w s built }
 
 each-place : (ps : List (List Bool)) (es : List Expr) (fs : ℕ → List Parameter) → AllFitAt ps es fs → AllFitAsked fs (assigned_asked ps es)
 each-place [] es fs f = tt
@@ -158,7 +131,7 @@ by-call f es e is fs w s kind built fits =
     record {
       fits = subst (AllFitAsked fs) asked (each-place marks es fs (N.call-fits e f es fs w is fits));
       fewer = subst (AllFewer (nodes e)) asked (subst (λ k. AllFewer k (assigned_asked marks es)) (sym (nodes-Call e f es is)) (few-assigned marks es (total (map nodes es)) (omega arith)));
-      built = A.asked-leaves e IsLowered fs w s built;
+      built = A.asked-leaves e IsLowered kind fs w s built;
     }
 
 operands-steps : Steps AnyChoice OperandsForm OperandsExpr

@@ -1,5 +1,5 @@
 -- Readings of select paths, step by step.
-use Rattle.std.proofs.Common.{◌≡◌, ℕ, ◌*◌, ◌≤◌, Bool, ℤ, List, [], ◌∷◌, ◌++◌, length, Option, ap, sym, ◌∙◌, subst}
+use Rattle.std.proofs.Common.{◌≡◌, ℕ, ◌*◌, ◌≤◌, Bool, ℤ, List, [], ◌∷◌, ◌++◌, length, Option, Some, None, ap, sym, ◌∙◌, subst}
 use Rattle.row_machine.specs.Valuation.{Valuation}
 use Rattle.picks.specs.Windows.{whole}
 use Rattle.sv_types.specs.declared.types.SvType.{SvType}
@@ -39,17 +39,20 @@ use Rattle.path_flatten.specs.Stepping.{ReadsMember, ReadsElement, ReadsBetween,
 use Rattle.path_flatten.specs.Storing.{ReadsPath}
 use Rattle.path_flatten.proofs.Helping.{helps-before, grows-both}
 use Rattle.path_flatten.proofs.Naming.{same-turned}
-use Rattle.expr_lower.specs.Leaves.{leaves, Each}
+use Rattle.expr_lower.specs.Elements.{StandsInWords, ReadsWordBy, NamesWordBy}
+use Rattle.expr_lower.specs.Leaves.{leaves, indexed, Each}
 use Rattle.expr_lower.specs.Lowering.{IsShown, LeafStands, Lowers}
 use Rattle.expr_lower.specs.Named.{signal_name, local_name}
+use Rattle.memory_words.specs.Readings.{ReadsKnownWord, NamesMemory}
 use Rattle.path_steps.specs.Known.{IsKnown}
 use Rattle.path_steps.specs.Sliding.{ReadsKnownSlide}
 use Rattle.path_steps.specs.Stands.{stand_names}
 use Rattle.path_steps.proofs.PathNames.{NamedStep, images-like, images-of, stands-named, step-images, fixed-images}
 use Rattle.path_steps.proofs.PathSteps as W
 use Rattle.expr_lower.specs.Paths.{Found, Finds, Indexes, LowersAnywhere}
-use Rattle.expr_lower.proofs.AskedLeaves.{off, off-left, off-right, leaves-Signal, leaves-Local, leaves-Member, leaves-Part, leaves-Index, leaves-Slide}
+use Rattle.expr_lower.proofs.AskedLeaves.{each-right, off, off-left, off-right, leaves-Signal, leaves-Local, leaves-Member, leaves-Part, leaves-Index, leaves-Slide}
 use Rattle.expr_lower.proofs.Asking.{lowers-more}
+use Rattle.expr_lower.proofs.Words.{plain-leaves, shown-leaf, word-found, known-word-found}
 use Rattle.expr_lower.proofs.Values.{shown-holds, length-from, one-image}
 
 -- more helpers
@@ -200,32 +203,32 @@ module _ (names : NameMap) (fs : List Function) (hs : List Helper) where
 
   pub finds-Member : (e x : Expr) (k : ℕ) (old r : Reading) → e.form ≡ V.Member x k → (meaning e).misfits ≡ 0 → Finds names fs hs x old → ReadsMember old x.of k r → r.root ≡ old.root → Finds names fs hs e r
   finds-Member e x k old r is typed found reads root im a sc all helps =
-      let from = found im a sc (off (LeafStands names fs im a sc) (leaves x) (subst (Each (LeafStands names fs im a sc)) (leaves-Member e x k is) all)) helps in
+      let from = found im a sc (off (LeafStands names fs im a sc) (λ n of h. h) (leaves x) (subst (Each (LeafStands names fs im a sc)) (leaves-Member e x k is) all)) helps in
       let level = E.same-Member e x k is in
       at-level e _ r im a sc level (member-found im a sc (layout e.of) e.spot.at (meaning x) k x.of old r (heads x).kind (typed-at e _ level typed) from reads root)
 
   pub finds-Part : (e x : Expr) (left right : ℤ) (old r : Reading) → e.form ≡ V.Part x left right → (meaning e).misfits ≡ 0 → Finds names fs hs x old → ReadsBetween old x.of left right r → r.root ≡ old.root
       → Finds names fs hs e r
   finds-Part e x left right old r is typed found reads root im a sc all helps =
-      let from = found im a sc (off (LeafStands names fs im a sc) (leaves x) (subst (Each (LeafStands names fs im a sc)) (leaves-Part e x left right is) all)) helps in
+      let from = found im a sc (off (LeafStands names fs im a sc) (λ n of h. h) (leaves x) (subst (Each (LeafStands names fs im a sc)) (leaves-Part e x left right is) all)) helps in
       let level = E.same-Part e x left right is in
       at-level e _ r im a sc level (part-found im a sc (layout e.of) e.spot.at (meaning x) left right x.of old r (heads x).kind (typed-at e _ level typed) from reads root)
 
-  pub finds-known : (e x i : Expr) (z : Option ℤ) (old r : Reading) → e.form ≡ V.Index x i → (meaning e).misfits ≡ 0 → IsKnown i z → Finds names fs hs x old → ReadsElement old x.of z r → r.root ≡ old.root
+  pub finds-known : (e x i : Expr) (z : Option ℤ) (old r : Reading) → e.form ≡ V.Index x i → (meaning e).misfits ≡ 0 → IsKnown i z → StandsInWords names x None → Finds names fs hs x old → ReadsElement old x.of z r → r.root ≡ old.root
       → Finds names fs hs e r
-  finds-known e x i z old r is typed known found reads root im a sc all helps =
+  finds-known e x i z old r is typed known plain found reads root im a sc all helps =
       let leaf = subst (Each (LeafStands names fs im a sc)) (leaves-Index e x i is) all in
-      let from = found im a sc (off-left (LeafStands names fs im a sc) x i leaf) helps in
+      let from = found im a sc (plain-leaves names fs im a sc x i plain leaf) helps in
       let level = E.same-Index e x i is in
       at-level e _ r im a sc level
       (known-found im a sc (layout e.of) e.spot.at (meaning x) (meaning i) z x.of old r (heads x).kind (typed-at e _ level typed) known.number known.none from reads root)
 
   pub finds-Index : (e x i : Expr) (y : Index) (old r : Reading) → e.form ≡ V.Index x i → (meaning e).misfits ≡ 0 → (meaning x).misfits ≡ 0 → (meaning i).misfits ≡ 0 → Indexes names fs hs i y
-      → Finds names fs hs x old → ReadsIndex old x.of y hs r → RootNamesBoth old.root (T.meaning y.expr) r.root → Finds names fs hs e r
-  finds-Index e x i y old r is typed typed_x typed_i index found reads root im a sc all helps =
+      → StandsInWords names x None → Finds names fs hs x old → ReadsIndex old x.of y hs r → RootNamesBoth old.root (T.meaning y.expr) r.root → Finds names fs hs e r
+  finds-Index e x i y old r is typed typed_x typed_i index plain found reads root im a sc all helps =
       let leaf = subst (Each (LeafStands names fs im a sc)) (leaves-Index e x i is) all in
-      let from = found im a sc (off-left (LeafStands names fs im a sc) x i leaf) helps in
-      let own = off-right (LeafStands names fs im a sc) x i leaf in
+      let from = found im a sc (plain-leaves names fs im a sc x i plain leaf) helps in
+      let own = each-right (LeafStands names fs im a sc) (indexed (leaves x)) (leaves i) leaf in
       let level = E.same-Index e x i is in
       at-level e _ r im a sc level
       (index-found im a sc (layout e.of) e.spot.at (meaning x) (meaning i) y x.of hs old r (heads x).kind (typed-at e _ level typed) (some-at e _ level typed) (has-bits x typed_x)
@@ -233,15 +236,28 @@ module _ (names : NameMap) (fs : List Function) (hs : List Helper) where
 
   -- the same, with fewer helpers for what is selected from and for the index
   pub finds-by-index : (one two : List Helper) (e x i : Expr) (y : Index) (old r : Reading) → Grows one two → Grows two hs → e.form ≡ V.Index x i → (meaning e).misfits ≡ 0 → (meaning x).misfits ≡ 0
-      → (meaning i).misfits ≡ 0 → Indexes names fs two i y → Finds names fs one x old → ReadsIndex old x.of y hs r → RootNamesBoth old.root (T.meaning y.expr) r.root → Finds names fs hs e r
-  finds-by-index one two e x i y old r first second is typed typed_x typed_i index found reads root =
-      finds-Index e x i y old r is typed typed_x typed_i (indexes-more names fs two hs i y second index) (finds-more names fs one hs x old (grows-both one two hs first second) found) reads root
+      → (meaning i).misfits ≡ 0 → Indexes names fs two i y → StandsInWords names x None → Finds names fs one x old → ReadsIndex old x.of y hs r → RootNamesBoth old.root (T.meaning y.expr) r.root → Finds names fs hs e r
+  finds-by-index one two e x i y old r first second is typed typed_x typed_i index plain found reads root =
+      finds-Index e x i y old r is typed typed_x typed_i (indexes-more names fs two hs i y second index) plain (finds-more names fs one hs x old (grows-both one two hs first second) found) reads root
+
+  -- by a word
+  pub finds-word : (e x i : Expr) (n : ℕ) (y : Index) (r : Reading) → e.form ≡ V.Index x i → (meaning e).misfits ≡ 0 → (meaning x).misfits ≡ 0 → (meaning i).misfits ≡ 0 → StandsInWords names x (Some n)
+      → Indexes names fs hs i y → ReadsWordBy (signal_name names.signals n) x.of y r → NamesWordBy (signal_name names.signals n) y r → Finds names fs hs e r
+  finds-word e x i n y r is typed typed_x typed_i stands index reads all_named im a sc all helps =
+      let leaf = shown-leaf names fs im a sc x i n stands (subst (Each (LeafStands names fs im a sc)) (leaves-Index e x i is) all) in
+      word-found names e x i n is typed typed_x stands im a sc leaf.0 y r (index-of names fs hs i y im a sc index (has-bits i typed_i) leaf.1 helps) (index.lowers im a sc leaf.1 helps).names reads all_named
+
+  pub finds-known-word : (e x i : Expr) (n : ℕ) (z : Option ℤ) (r : Reading) → e.form ≡ V.Index x i → (meaning e).misfits ≡ 0 → (meaning x).misfits ≡ 0 → StandsInWords names x (Some n) → IsKnown i z
+      → ReadsKnownWord (signal_name names.signals n) x.of z r → NamesMemory (signal_name names.signals n) r → Finds names fs hs e r
+  finds-known-word e x i n z r is typed typed_x stands known reads all_named im a sc all helps =
+      let leaf = shown-leaf names fs im a sc x i n stands (subst (Each (LeafStands names fs im a sc)) (leaves-Index e x i is) all) in
+      known-word-found names e x i n is typed typed_x stands im a sc leaf.0 z r known reads all_named
 
   pub finds-Slide : (e x i : Expr) (n : ℕ) (up : Bool) (y : Index) (old r : Reading) → e.form ≡ V.Slide x i n up → (meaning e).misfits ≡ 0 → (meaning x).misfits ≡ 0 → (meaning i).misfits ≡ 0
       → Indexes names fs hs i y → Finds names fs hs x old → ReadsSlide old x.of up n y hs r → RootNamesBoth old.root (T.meaning y.expr) r.root → Finds names fs hs e r
   finds-Slide e x i n up y old r is typed typed_x typed_i index found reads root im a sc all helps =
       let leaf = subst (Each (LeafStands names fs im a sc)) (leaves-Slide e x i n up is) all in
-      let from = found im a sc (off-left (LeafStands names fs im a sc) x i leaf) helps in
+      let from = found im a sc (off-left (LeafStands names fs im a sc) (λ n of h. h) x i leaf) helps in
       let own = off-right (LeafStands names fs im a sc) x i leaf in
       let level = E.same-Slide e x i n up is in
       at-level e _ r im a sc level
@@ -252,7 +268,7 @@ module _ (names : NameMap) (fs : List Function) (hs : List Helper) where
       → ReadsKnownSlide old x.of up n z r → r.root ≡ old.root → Finds names fs hs e r
   finds-known-slide e x i n up z old r is typed known found reads root im a sc all helps =
       let leaf = subst (Each (LeafStands names fs im a sc)) (leaves-Slide e x i n up is) all in
-      let from = found im a sc (off-left (LeafStands names fs im a sc) x i leaf) helps in
+      let from = found im a sc (off-left (LeafStands names fs im a sc) (λ n of h. h) x i leaf) helps in
       let level = E.same-Slide e x i n up is in
       at-level e _ r im a sc level
       (known-slide-found im a sc (layout e.of) e.spot.at (meaning x) (meaning i) n up z x.of old r (heads x).kind (typed-at e _ level typed) known.number known.none from reads root)

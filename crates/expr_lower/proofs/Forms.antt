@@ -46,8 +46,8 @@ pub by-same : (names : NameMap) (fs : List Function) (hs : List Helper) (e : Exp
     → ((a : Around) (sc : Scope) (v : Valuation) → Fits (meaning e) (formals_in fs) w → SameEach (asks e (formals_in fs) w s) a parts sc v → Same (meaning e) w s a m sc v)
     → ((image : ℕ → ℕ) (sc : Scope) → NamesEach image (asks e (formals_in fs) w s) parts sc → SameNames image (meaning e) m sc)
     → Combines names fs hs e w s parts m
-by-same names fs hs e w s parts m same naming fits each im a sc all helps =
-    let leaves_asked = asked-leaves e (LeafStands names fs im a sc) (formals_in fs) w s all in
+by-same names fs hs e w s parts m same naming plain fits each im a sc all helps =
+    let leaves_asked = asked-leaves e (LeafStands names fs im a sc) plain (formals_in fs) w s all in
     record {
       stands = λ now v agree. same (record a { now = now }) sc v fits (same-each names fs hs (asks e (formals_in fs) w s) parts im a sc now v each leaves_asked helps agree);
       names = naming im.number sc (names-each names fs hs (asks e (formals_in fs) w s) parts im a sc each leaves_asked helps);

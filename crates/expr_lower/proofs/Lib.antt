@@ -11,4 +11,5 @@ pub mod Alternating
 pub mod Comparisons
 pub mod Rooted
 pub mod Stepwise
+pub mod Words
 pub mod Following

@@ -6,7 +6,7 @@ use Rattle.v_tree.specs.declared.names.FunctionName.{FunctionName}
 use Rattle.std.proofs.lemmas.Bool.Decides.{nat_tests}
 use Rattle.std.proofs.Math.Seq.{drop-cons}
 use Rattle.std.proofs.Math.Numerals.{add-one}
-use Rattle.expr_lower.specs.Named.{signal_name, local_name, function_name}
+use Rattle.expr_lower.specs.Named.{signal_name, is_memory, local_name, function_name}
 
 pub at-front : {A : Type 0} (xs : List A) (i : ℕ) (x : A) → i < length xs → x ≡ get_or xs i x → drop i xs ≡ x ∷ drop (i + 1) xs
 at-front xs i x h is = drop-cons xs i x h ∙ ap (λ y. y ∷ drop (suc i) xs) (sym is) ∙ ap (λ k. x ∷ drop k xs) (sym (add-one i))
@@ -76,3 +76,25 @@ function-past names i n name less is apart all =
 
 pub function-absent : (names : List FunctionName) (i n : ℕ) → length names ≤ i → function_name (drop i names) n ≡ function_name names n → [] ≡ function_name names n
 function-absent names i n many all = sym (function-none names i n many) ∙ all
+
+memory-next : (names : List SignalName) (i n : ℕ) (name : SignalName) → i < length names → name ≡ get_or names i name → is_memory (drop i names) n ≡ cond (name.signal == n) name.memory (is_memory (drop (i + 1) names) n)
+memory-next names i n name less is = ap (λ l. is_memory l n) (at-front names i name less is)
+
+memory-none : (names : List SignalName) (i n : ℕ) → length names ≤ i → is_memory (drop i names) n ≡ false
+memory-none [] zero n many = refl
+memory-none [] (suc i) n many = refl
+memory-none (x ∷ names) zero n many = absurd (omega arith)
+memory-none (x ∷ names) (suc i) n many = memory-none names i n (omega arith)
+
+pub memory-found : (names : List SignalName) (i n : ℕ) (name : SignalName) → i < length names → name ≡ get_or names i name → name.signal ≡ n → is_memory (drop i names) n ≡ is_memory names n → name.memory ≡ is_memory names n
+memory-found names i n name less is same all =
+    let test : (name.signal == n) ≡ true = grind (arith, nat_tests) in
+    sym (ap (λ b. cond b name.memory (is_memory (drop (i + 1) names) n)) test) ∙ sym (memory-next names i n name less is) ∙ all
+
+pub memory-past : (names : List SignalName) (i n : ℕ) (name : SignalName) → i < length names → name ≡ get_or names i name → (name.signal ≡ n → ⊥) → is_memory (drop i names) n ≡ is_memory names n → is_memory (drop (i + 1) names) n ≡ is_memory names n
+memory-past names i n name less is apart all =
+    let test : (name.signal == n) ≡ false = grind (arith, nat_tests) in
+    sym (ap (λ b. cond b name.memory (is_memory (drop (i + 1) names) n)) test) ∙ sym (memory-next names i n name less is) ∙ all
+
+pub memory-absent : (names : List SignalName) (i n : ℕ) → length names ≤ i → is_memory (drop i names) n ≡ is_memory names n → false ≡ is_memory names n
+memory-absent names i n many all = sym (memory-none names i n many) ∙ all

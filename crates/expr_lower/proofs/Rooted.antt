@@ -10,7 +10,6 @@ use Rattle.expr_lower.specs.Leaves.{leaves, onto, Each, IsLowered}
 use Rattle.path_steps.proofs.Alike.{Alike}
 use Rattle.path_steps.proofs.Alike as K
 use Rattle.expr_lower.proofs.AskedLeaves as A
-use Rattle.expr_lower.proofs.Built as B
 
 abbrev AlikeForm : Form → Type 0
 AlikeForm f = (e : Expr) → e.form ≡ f → is_path (out-Form e.form) ≡ false → Each IsLowered (onto (leaves e)) → Alike (meaning e)
@@ -29,12 +28,12 @@ alike-steps = record {
   literal = λ v goes_on e is kind all. K.alike-Literal e v goes_on is;
   fill = λ b e is kind all. K.alike-Fill e b is;
   constant = λ v e is kind all. K.alike-Constant e v is;
-  signal = λ n e is kind all. absurd (B.path-Signal e n is kind);
-  local = λ n e is kind all. absurd (B.path-Local e n is kind);
-  member = λ x k h0 e is kind all. absurd (B.path-Member e x k is kind);
-  index = λ x y h0 h1 e is kind all. absurd (B.path-Index e x y is kind);
-  part_select = λ x left right h0 e is kind all. absurd (B.path-Part e x left right is kind);
-  sliding = λ x y n up h0 h1 e is kind all. absurd (B.path-Slide e x y n up is kind);
+  signal = λ n e is kind all. absurd (A.path-Signal e n is kind);
+  local = λ n e is kind all. absurd (A.path-Local e n is kind);
+  member = λ x k h0 e is kind all. absurd (A.path-Member e x k is kind);
+  index = λ x y h0 h1 e is kind all. absurd (A.path-Index e x y is kind);
+  part_select = λ x left right h0 e is kind all. absurd (A.path-Part e x left right is kind);
+  sliding = λ x y n up h0 h1 e is kind all. absurd (A.path-Slide e x y n up is kind);
   unary = λ op x h1 e is kind all. K.alike-Unary e op x is;
   reduce = λ op x h1 e is kind all. K.alike-Reduce e op x is;
   negate = λ x h0 e is kind all. K.alike-Negate e x is;

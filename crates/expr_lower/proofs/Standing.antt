@@ -57,8 +57,8 @@ pub record Form (names : NameMap) (fs : List Function) (e : Expr) (w : ℕ) (s :
 pub by-helped : (names : NameMap) (fs : List Function) (hs : List Helper) (e : Expr) (w : ℕ) (s : Bool) (parts : List T.Meaning) (m : T.Meaning)
     → ((im : Images) (a : Around) (sc : Scope) → Each (LeafStands names fs im a sc) (leaves e) → EachHelps hs sc → Fits (meaning e) (formals_in fs) w → Form names fs e w s parts m im a sc)
     → Combines names fs hs e w s parts m
-by-helped names fs hs e w s parts m form fits each im a sc all helps =
-    let leaves_asked = asked-leaves e (LeafStands names fs im a sc) (formals_in fs) w s all in
+by-helped names fs hs e w s parts m form plain fits each im a sc all helps =
+    let leaves_asked = asked-leaves e (LeafStands names fs im a sc) plain (formals_in fs) w s all in
     let f = form im a sc all helps fits in
     record {
       stands = λ now v agree. f.same now v (same-each names fs hs (asks e (formals_in fs) w s) parts im a sc now v each leaves_asked helps agree);

@@ -11,8 +11,8 @@ use Rattle.eval_parts.proofs.Lists.{own-narrow}
 use Rattle.eval_parts.proofs.Nodes as N
 use Rattle.eval_parts.proofs.Nodes.{nodes}
 use Rattle.eval_parts.proofs.PathLimits as L
-use Rattle.expr_lower.specs.Leaves.{leaves, onto, Each, IsLowered}
-use Rattle.expr_lower.proofs.AskedLeaves.{each-left, each-right, leaves-Member, leaves-Part, leaves-Index, leaves-Slide}
+use Rattle.expr_lower.specs.Leaves.{leaves, onto, indexed, Each, IsLowered}
+use Rattle.expr_lower.proofs.AskedLeaves.{each-left, each-right, index-lowered, leaves-Member, leaves-Part, leaves-Index, leaves-Slide}
 
 -- what is selected from
 pub record From (e x : Expr) (fs : ℕ → List Parameter) : Type 0 where
@@ -42,14 +42,14 @@ pub from-Index : (e x y : Expr) (fs : ℕ → List Parameter) → e.form ≡ V.I
 from-Index e x y fs is built fits =
     let own = L.index-fits-x e x y fs (wide (meaning e)) is fits in
     let all = subst (Each IsLowered) (leaves-Index e x y is) built in
-    record { fewer = omega (arith, N.nodes-Index e x y is); built = each-left IsLowered (onto (leaves x)) (leaves y) all; fits = own; narrow = own-narrow x fs (wide (meaning x)) own }
+    record { fewer = omega (arith, N.nodes-Index e x y is); built = index-lowered (leaves x) (each-left IsLowered (indexed (leaves x)) (leaves y) all); fits = own; narrow = own-narrow x fs (wide (meaning x)) own }
 
 pub at-Index : (e x y : Expr) (fs : ℕ → List Parameter) → e.form ≡ V.Index x y → Each IsLowered (leaves e) → FitsAlone (meaning e) fs → At e y fs
 at-Index e x y fs is built fits =
     let all = subst (Each IsLowered) (leaves-Index e x y is) built in
     record {
       fewer = omega (arith, N.nodes-Index e x y is);
-      built = each-right IsLowered (onto (leaves x)) (leaves y) all;
+      built = each-right IsLowered (indexed (leaves x)) (leaves y) all;
       fits = L.index-fits-y e x y fs (wide (meaning e)) is fits;
       short = L.index-short e x y fs (wide (meaning e)) is fits;
     }

@@ -31,7 +31,7 @@ use Rattle.v_meaning.specs.Scopes.{Scope, Named, named, all_bits}
 use Rattle.v_meaning.specs.Values as T
 use Rattle.eval_parts.proofs.Steps.{at-form, same-Literal}
 use Rattle.eval_parts.proofs.Selecting.{same-Signal, same-Local}
-use Rattle.lowering_laws.specs.Agreeing.{Images, Agree}
+use Rattle.lowering_laws.specs.Agreeing.{Images, IsInOrder, Agree}
 use Rattle.lowering_laws.specs.Held.{marked}
 use Rattle.lowering_laws.specs.NamedImages.{SameNames, AreImages}
 use Rattle.lowering_laws.specs.Same.{Same, HasBits, AllHaveBits}
@@ -258,9 +258,12 @@ combines-Constant e x names fs hs w s parts n m b is number made sign =
     (λ image sc h. number-names image (meaning e) (O.constant (layout e.of) e.spot.at x) n m b _ sc (at-form e (V.Constant x) _ is (L.form-Constant x)) (constant-names (layout e.of) e.spot.at x) number made)
 
 -- whole signals and locals hold what their images do
-image-bits : (im : Images) (now v : Valuation) (n k r : ℕ) → Agree im now v → k + r ≤ im.width n → bits_from v (im.number n) k r ≡ bits_from now n k r
-image-bits im now v n k zero agree fits = refl
-image-bits im now v n k (suc r) agree fits = λ i. agree.same n k (omega arith) i ∷ image-bits im now v n (suc k) r agree (omega arith) i
+image-bits : (im : Images) (now v : Valuation) (n k r : ℕ) → IsInOrder im n → Agree im now v → k + r ≤ im.width n → bits_from v (im.number n) k r ≡ bits_from now n k r
+image-bits im now v n k zero order agree fits = refl
+image-bits im now v n k (suc r) order agree fits =
+    let one : v (record { signal = im.number n; bit = k }) ≡ now (record { signal = n; bit = k }) = ap (λ c. v (record { signal = im.number n; bit = c })) (sym (order k)) ∙ agree.same n k (omega arith) in
+    let rest = image-bits im now v n (suc k) r order agree (omega arith) in
+    λ i. one i ∷ rest i
 
 stored-already : (im : Images) (now v : Valuation) (ms : List Bool) (n k : ℕ) → Agree im now v → k + length ms ≤ im.width n → ((j : ℕ) → im.two_state n (k + j) ≡ marked ms j)
     → stored ms (bits_from now n k (length ms)) ≡ bits_from now n k (length ms)
@@ -308,7 +311,7 @@ pub shown-holds : (of : Layout) (n : ℕ) (name : Name) (im : Images) (sc : Scop
     → vector_at v (named sc.names name).number (length of.two_state) ≡ vector_at now n (length of.two_state)
 shown-holds of n name im sc now v shown agree =
     let image = shown.image in
-    (λ i. vector_at v (shown.number i) (length of.two_state)) ∙ image-bits im now v n 0 (length of.two_state) agree (omega arith)
+    (λ i. vector_at v (shown.number i) (length of.two_state)) ∙ image-bits im now v n 0 (length of.two_state) shown.in_order agree (omega arith)
 
 root-same : (of : Layout) (at n w : ℕ) (s : Bool) (name : Name) (im : Images) (a : Around) (sc : Scope) (now v : Valuation) (b : Bool) → IsShown name im sc n of → Agree im now v → b ≡ of.signed
     → Same (M.selected of at (P.root_path n of)) w s (record a { now = now }) (signed_as b (T.reference name [])) sc v

@@ -5,11 +5,13 @@ use Rattle.sv_types.specs.declared.expression.Form.{Form-F}
 use Rattle.sv_types.specs.declared.expression.Choice.{Choice-F}
 use Rattle.sv_types.specs.Layouts.{Layout, layout}
 
--- A signal or a local by its number, with the type that the expression has there; a call of a function by its number, with
--- the type that the expression has and the number of its arguments; the value of any other form; a concatenation; or a form
--- that isn't lowered.
+-- A whole signal by its number, with the type that the expression has there; one from which an index selects; one from which a
+-- member or a part is selected; a local by its number, with the type; a call of a function by its number, with the type that the
+-- expression has and the number of its arguments; the value of any other form; a concatenation; or a form that isn't lowered.
 pub data Leaf : Type 0 where
   Signals : ℕ → Layout → Leaf
+  Elements : ℕ → Layout → Leaf
+  Inside : ℕ → Layout → Leaf
   Locals : ℕ → Layout → Leaf
   Calls : ℕ → Layout → ℕ → Leaf
   Valued : Leaf
@@ -21,15 +23,30 @@ abbrev pub together : List (List Leaf) → List Leaf
 together [] = []
 together (l ∷ ls) = l ++ together ls
 
--- what a select stands on, which always has leaves: one of a concatenation isn't lowered
+-- what a select of a member or a part stands on, which always has leaves: one of a concatenation isn't lowered
 abbrev pub onto : List Leaf → List Leaf
 onto [] = Unlowered ∷ []
-onto (Signals n of ∷ ls) = Signals n of ∷ ls
+onto (Signals n of ∷ ls) = Inside n of ∷ ls
+onto (Elements n of ∷ ls) = Elements n of ∷ ls
+onto (Inside n of ∷ ls) = Inside n of ∷ ls
 onto (Locals n of ∷ ls) = Locals n of ∷ ls
 onto (Calls f of n ∷ ls) = Calls f of n ∷ ls
 onto (Valued ∷ ls) = Valued ∷ ls
 onto (Joined ∷ ls) = Unlowered ∷ Joined ∷ ls
 onto (Unlowered ∷ ls) = Unlowered ∷ ls
+
+-- what an index selects from: elements of a signal, if it is a whole one
+abbrev pub indexed : List Leaf → List Leaf
+indexed [] = Unlowered ∷ []
+indexed (Signals n of ∷ []) = Elements n of ∷ []
+indexed (Signals n of ∷ l ∷ ls) = Inside n of ∷ l ∷ ls
+indexed (Elements n of ∷ ls) = Elements n of ∷ ls
+indexed (Inside n of ∷ ls) = Inside n of ∷ ls
+indexed (Locals n of ∷ ls) = Locals n of ∷ ls
+indexed (Calls f of n ∷ ls) = Calls f of n ∷ ls
+indexed (Valued ∷ ls) = Valued ∷ ls
+indexed (Joined ∷ ls) = Unlowered ∷ Joined ∷ ls
+indexed (Unlowered ∷ ls) = Unlowered ∷ ls
 
 abbrev pub choice_step : Choice-F (List Leaf) (Layout → List Leaf) (List Leaf) → List Leaf
 choice_step (Choice-F.Value v) = v
@@ -42,7 +59,7 @@ form_step (Form-F.Constant v) of = Valued ∷ []
 form_step (Form-F.Signal n) of = Signals n of ∷ []
 form_step (Form-F.Local n) of = Locals n of ∷ []
 form_step (Form-F.Member x k) of = onto x
-form_step (Form-F.Index x i) of = onto x ++ i
+form_step (Form-F.Index x i) of = indexed x ++ i
 form_step (Form-F.Part x left right) of = onto x
 form_step (Form-F.Slide x i n up) of = onto x ++ i
 form_step (Form-F.Unary op x) of = Valued ∷ x
@@ -79,6 +96,8 @@ Each P (l ∷ ls) = P l × Each P ls
 -- all forms are lowered
 abbrev pub IsLowered : Leaf → Type 0
 IsLowered (Signals n of) = Unit {0}
+IsLowered (Elements n of) = Unit {0}
+IsLowered (Inside n of) = Unit {0}
 IsLowered (Locals n of) = Unit {0}
 IsLowered (Calls f of n) = Unit {0}
 IsLowered Valued = Unit {0}

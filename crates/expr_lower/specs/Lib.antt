@@ -1,5 +1,6 @@
 pub mod Leaves
 pub mod Named
+pub mod Elements
 pub mod Numbers
 pub mod Lowering
 pub mod Specials

@@ -3,6 +3,7 @@
 #![tactic(auto)]
 
 mod combining;
+mod elements;
 mod formed;
 mod insides;
 mod logarithms;

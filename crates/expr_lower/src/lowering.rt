@@ -1,6 +1,6 @@
 //! The lowering of expressions, from the operands up.
 
-ghost use Rattle.std.specs.Prelude.{◌≡◌, ◌≤◌, false, length, IfOk, OnOk};
+ghost use Rattle.std.specs.Prelude.{◌≡◌, ◌≤◌, false, length, Some, None, IfOk, OnOk};
 ghost use Rattle.sv_types.specs.declared.expression.Form.{out-Form};
 ghost use Rattle.sv_types.specs.declared.expression.Form.TheVariants as forms;
 ghost use Rattle.sv_types.specs.Layouts.{layout};
@@ -14,11 +14,13 @@ ghost use Rattle.eval_forms.specs.Asked.{asked, form_asked, width_asked, sign_as
 ghost use Rattle.eval_forms.specs.Callees.{formals_in, AllFunctionsFit};
 ghost use Rattle.path_flatten.specs.Helping.{Grows};
 ghost use Rattle.path_flatten.specs.Stepping.{IsSound};
+ghost use Rattle.expr_lower.specs.Elements.{StandsInWords};
 ghost use Rattle.expr_lower.specs.Leaves.{leaves, onto, Each, IsLowered};
 ghost use Rattle.expr_lower.specs.Lowering.{Lowers, LowersEach};
 ghost use Rattle.expr_lower.specs.Numbers.{IsWhole};
 ghost use Rattle.expr_lower.specs.Paths.{Finds, Indexes, LowersAnywhere};
 
+use crate::elements::{indexed_word, memory_of, numbered_word};
 use crate::formed::formed;
 use crate::named::{local_text, signal_text};
 use crate::numbers::with_sign;
@@ -206,6 +208,68 @@ fn element(
 ) -> Result<Reading, AllocError>
     requires functions { AllFunctionsFit functions.now }
     requires form { e.now.form ≡ forms.Index from.now i.now }
+    requires built { Each IsLowered (leaves e.now) }
+    requires fits { FitsAlone (meaning e.now) (formals_in functions.now) }
+    ensures grows { OnOk result (Grows helpers.old helpers.new) }
+    ensures sound { IfOk result IsSound }
+    ensures finds { IfOk result (Finds names.now functions.now helpers.new e.now) }
+{
+    match memory_of(names, from) {
+        None => {
+            let inside = selected(alloc, names, functions, e, from, i, helpers)?;
+            Ok(inside)
+        }
+        Some(n) => {
+            let whole = word(alloc, names, functions, e, from, n, i, helpers)?;
+            Ok(whole)
+        }
+    }
+}
+
+/// What reads an element of a signal that is a memory: the word of its index.
+#[cycle(lower)]
+fn word(
+    alloc: Global,
+    names: &NameMap,
+    functions: &[Function],
+    e: &Expr,
+    from: &Expr,
+    n: u32,
+    i: &Expr,
+    helpers: &mut Helpers,
+) -> Result<Reading, AllocError>
+    requires functions { AllFunctionsFit functions.now }
+    requires form { e.now.form ≡ forms.Index from.now i.now }
+    requires memory { StandsInWords names.now from.now (Some n) }
+    requires built { Each IsLowered (leaves e.now) }
+    requires fits { FitsAlone (meaning e.now) (formals_in functions.now) }
+    ensures grows { OnOk result (Grows helpers.old helpers.new) }
+    ensures sound { IfOk result IsSound }
+    ensures finds { IfOk result (Finds names.now functions.now helpers.new e.now) }
+{
+    if let Some(known) = known_index(alloc, functions, i)? {
+        let numbered = numbered_word(alloc, names, n, &from.of, known.number)?;
+        return Ok(numbered);
+    }
+    let at = index(alloc, names, functions, i, helpers)?;
+    let indexed = indexed_word(alloc, names, n, &from.of, at)?;
+    Ok(indexed)
+}
+
+/// What reads an element of what is no memory.
+#[cycle(lower)]
+fn selected(
+    alloc: Global,
+    names: &NameMap,
+    functions: &[Function],
+    e: &Expr,
+    from: &Expr,
+    i: &Expr,
+    helpers: &mut Helpers,
+) -> Result<Reading, AllocError>
+    requires functions { AllFunctionsFit functions.now }
+    requires form { e.now.form ≡ forms.Index from.now i.now }
+    requires plain { StandsInWords names.now from.now None }
     requires built { Each IsLowered (leaves e.now) }
     requires fits { FitsAlone (meaning e.now) (formals_in functions.now) }
     ensures grows { OnOk result (Grows helpers.old helpers.new) }

@@ -2,6 +2,7 @@
 
 use crate::forms::{CASTS, OPERATORS};
 use crate::lowered::text_of;
+use crate::memories::WORDS;
 use crate::paths::{BASES, INDICES, STEPS};
 use std::alloc::{AllocError, Global};
 use std::test::Fail;
@@ -34,6 +35,12 @@ fn other_indices(rt: HostRuntime) -> Result<(), Fail> {
 #[test]
 fn other_bases(rt: HostRuntime) -> Result<(), Fail> {
     assert_eq!(rt; first_wrong(rt.alloc(), BASES)?, None);
+    Ok(())
+}
+
+#[test]
+fn words_of_memories(rt: HostRuntime) -> Result<(), Fail> {
+    assert_eq!(rt; first_wrong(rt.alloc(), WORDS)?, None);
     Ok(())
 }
 

@@ -10,6 +10,8 @@ mod lowered;
 #[cfg(test)]
 mod marks;
 #[cfg(test)]
+mod memories;
+#[cfg(test)]
 mod paths;
 #[cfg(test)]
 mod texts;

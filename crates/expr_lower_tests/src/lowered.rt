@@ -10,7 +10,7 @@ use sv_source::Text;
 use sv_types::Expr;
 use v_tree::{FunctionNames, LocalName, LocalNames, NameMap, SignalName, SignalNames};
 
-/// Names of signals and locals: a, b, c and so on, and t.
+/// Names of signals and locals: a, b, c and so on, the memory m, and t.
 fn names(alloc: Global) -> Result<NameMap, AllocError> {
     let mut signals = SignalNames::new(alloc);
     for (signal, letter) in (0u32..).zip("abcdefgh".bytes()) {
@@ -22,6 +22,13 @@ fn names(alloc: Global) -> Result<NameMap, AllocError> {
             memory: false,
         })?;
     }
+    let name = Text::from_bytes(alloc, b"m")?;
+    signals.push(SignalName {
+        signal: 8,
+        instance: 0,
+        name,
+        memory: true,
+    })?;
     let mut locals = LocalNames::new(alloc);
     let name = Text::from_bytes(alloc, b"t")?;
     locals.push(LocalName { local: 0, name })?;

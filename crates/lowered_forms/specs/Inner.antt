@@ -1,5 +1,5 @@
 -- What an expression is made of, as far as its lowering goes.
-use Rattle.std.specs.Prelude.{◌≡◌, ⊤, ◌<◌, List, [], ◌∷◌, map}
+use Rattle.std.specs.Prelude.{⊤, ◌<◌, List, [], ◌∷◌, map}
 use Rattle.sv_types.specs.declared.expression.Expr.{Expr}
 use Rattle.sv_types.specs.declared.expression.Choice.{Choice, fold-Choice}
 use Rattle.sv_types.specs.Layouts.{Layout}
@@ -30,7 +30,7 @@ Lowered e P = P → AreLowered e
 
 -- it is no concatenation: a select may stand on it
 abbrev pub IsBase : Expr → Type 0
-IsBase e = onto (leaves e) ≡ leaves e
+IsBase e = AreLowered e → Each IsLowered (onto (leaves e))
 
 abbrev pub IsInner : Inner → Expr → Type 0
 IsInner I.Nothing e = AreLowered e × IsBase e

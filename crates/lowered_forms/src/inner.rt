@@ -1,8 +1,7 @@
 //! What an expression is made of, as far as its lowering goes.
 
 ghost use Rattle.std.specs.Prelude.{◌≡◌, false};
-ghost use Rattle.expr_lower.specs.Leaves.{leaves, onto};
-ghost use Rattle.lowered_forms.specs.Inner.{IsInner};
+ghost use Rattle.lowered_forms.specs.Inner.{IsBase, IsInner};
 
 use sv_types::{Choice, Expr, Form};
 
@@ -70,7 +69,7 @@ pub(crate) fn inner_of(e: &Expr) -> Inner<'_>
 
 /// Whether an expression is a concatenation.
 pub(crate) fn is_joined(e: &Expr) -> bool
-    ensures { result ≡ false → onto (leaves e.now) ≡ leaves e.now }
+    ensures { result ≡ false → IsBase e.now }
 {
     match inner_of(e) {
         Inner::Nothing => false,

@@ -189,10 +189,10 @@ pub record IsAssigned (im : Images) (later : Bool) (to : List M.Meaning) (value 
 
 module _ (im : Images) (a : Around) (sc : Scope) (to : List M.Meaning) (value : M.Meaning) (p : Piece) (ps : List Piece) (m : V.Meaning) (ms : List V.Meaning) where
   moved-changes : (c d e : Changes) → ((q : Place) → e q ≡ d q) → SameChanges im c d → SameChanges im c e
-  moved-changes c d e h same = record { same = λ n b less. h (record { signal = im.number n; bit = b }) ∙ same.same n b less; stored = same.stored }
+  moved-changes c d e h same = record { same = λ n b less. h (record { signal = im.number n; bit = im.place n b }) ∙ same.same n b less; stored = same.stored }
 
   moved-agree : (now v w : Valuation) → ((q : Place) → w q ≡ v q) → Agree im now v → Agree im now w
-  moved-agree now v w h agree = record { same = λ n b less. h (record { signal = im.number n; bit = b }) ∙ agree.same n b less; stored = agree.stored }
+  moved-agree now v w h agree = record { same = λ n b less. h (record { signal = im.number n; bit = im.place n b }) ∙ agree.same n b less; stored = agree.stored }
 
   pub assign-same : (later : Bool) → ((now v : Valuation) → Agree im now v → IsAssigned im later to value p ps m ms (record a { now = now }) sc v)
       → SameRun im a sc (S.assign later to value) (D.sequence (assignments later (p ∷ ps) (m ∷ ms))).run

@@ -15,7 +15,7 @@ use Rattle.sv_types.specs.Operators.{puts_all, width_of_all}
 use Rattle.sv_types.specs.Runs as S
 use Rattle.sv_types.proofs.Stored.{length-stored}
 use Rattle.v_meaning.specs.Scopes.{Scope}
-use Rattle.lowering_laws.specs.Agreeing.{Images, AreDistinct, SameChanges}
+use Rattle.lowering_laws.specs.Agreeing.{Images, IsInOrder, AreDistinct, SameChanges}
 use Rattle.lowering_laws.specs.Held.{marked, IsConverted}
 use Rattle.lowering_laws.specs.Placed.{holds}
 use Rattle.lowering_laws.specs.Reached.{Piece, piece_puts, pieces_put, AreWide, AreBelow, IsWritten}
@@ -88,7 +88,7 @@ mark-kept true n b h = subst (λ k. stored_bit true (stored_bit k b) ≡ stored_
 mark-kept false n b h = refl
 
 -- The pieces of one path change the images as a write through the path changes what it stands on.
-module _ (im : Images) (distinct : AreDistinct im) (to : M.Meaning) (a : Around) (r : ℕ) (there : 0 < im.width r) (ps : List Piece) (sc : Scope) (v : Valuation)
+module _ (im : Images) (distinct : AreDistinct im) (to : M.Meaning) (a : Around) (r : ℕ) (there : 0 < im.width r) (in_order : IsInOrder im r) (ps : List Piece) (sc : Scope) (v : Valuation)
     (tight : IsTight (to.window a) (M.wide to)) (converted : IsConverted (im.two_state r) to a) (path_written : IsWritten (to.window a) (M.wide to) (im.number r) ps sc v)
     (bits : List Bit4) (long : length bits ≡ M.wide to) where
   abbrev kept : List Bit4
@@ -97,17 +97,18 @@ module _ (im : Images) (distinct : AreDistinct im) (to : M.Meaning) (a : Around)
   kept-long : length kept ≡ M.wide to
   kept-long = length-stored to.of.two_state bits long
 
-  same-bit : (n b : ℕ) → b < im.width n → pieces_put ps sc v kept (record { signal = im.number n; bit = b }) ≡ written r (to.window a) kept (record { signal = n; bit = b })
-  same-bit n b h = path_written.puts kept kept-long (record { signal = im.number n; bit = b }) ∙ by (n == r) refl
+  same-bit : (n b : ℕ) → b < im.width n → pieces_put ps sc v kept (record { signal = im.number n; bit = im.place n b }) ≡ written r (to.window a) kept (record { signal = n; bit = b })
+  same-bit n b h = path_written.puts kept kept-long (record { signal = im.number n; bit = im.place n b }) ∙ by (n == r) refl
     where
-      by : (c : Bool) → (n == r) ≡ c → written (im.number r) (to.window a) kept (record { signal = im.number n; bit = b }) ≡ written r (to.window a) kept (record { signal = n; bit = b })
+      by : (c : Bool) → (n == r) ≡ c → written (im.number r) (to.window a) kept (record { signal = im.number n; bit = im.place n b }) ≡ written r (to.window a) kept (record { signal = n; bit = b })
       by true e =
           let same : n ≡ r = grind (arith, nat_tests) in
-          ap (λ k. written (im.number r) (to.window a) kept (record { signal = im.number k; bit = b })) same
+          ap (λ k. written (im.number r) (to.window a) kept (record { signal = im.number k; bit = im.place k b })) same
+          ∙ ap (λ c. written (im.number r) (to.window a) kept (record { signal = im.number r; bit = c })) (in_order b)
           ∙ written-bit (im.number r) (to.window a) kept b ∙ sym (written-bit r (to.window a) kept b)
           ∙ ap (λ k. written r (to.window a) kept (record { signal = k; bit = b })) (sym same)
       by false e =
-          written-other (im.number r) (to.window a) kept (im.number n) b (λ f. apart e (distinct n r (omega arith) there f))
+          written-other (im.number r) (to.window a) kept (im.number n) (im.place n b) (λ f. apart e (distinct n r (omega arith) there f))
           ∙ sym (written-other r (to.window a) kept n b (apart e))
         where
           apart : (n == r) ≡ false → n ≡ r → ⊥
@@ -266,4 +267,4 @@ all-changes im (m ∷ ms) (ps ∷ pss) a sc v bits h long =
     ∙ (λ i. later_or ((sym (below-put (width_of_all ms) (all_pieces ms pss) sc v (x ++ y) q (all-below ms pss im a sc v h.1)) ∙ ap (λ u. pieces_put (all_pieces ms pss) sc v u q) (take-front x y (width_of_all ms) x_long)) i)
     ((raised-put (width_of_all ms) ps sc v (x ++ y) q ∙ ap (λ u. pieces_put ps sc v u q) (drop-front x y (width_of_all ms) x_long)) i)) in
     subst (λ (c : Changes). SameChanges im c (pieces_put (all_pieces (m ∷ ms) (ps ∷ pss)) sc v (x ++ y))) left
-    (record { same = λ n b less. right (record { signal = im.number n; bit = b }) ∙ both.same n b less; stored = both.stored })
+    (record { same = λ n b less. right (record { signal = im.number n; bit = im.place n b }) ∙ both.same n b less; stored = both.stored })

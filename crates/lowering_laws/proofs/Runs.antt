@@ -43,7 +43,7 @@ module _ (im : Images) where
   then-agrees c d e f now v same agree =
       let all = put-agrees e f (put c now) (put d v) same agree in
       record {
-        same = λ n b h. over (f (here (im.number n) b)) (d (here (im.number n) b)) (v (here (im.number n) b)) ∙ all.same n b h ∙ sym (over (e (here n b)) (c (here n b)) (now (here n b)));
+        same = λ n b h. over (f (here (im.number n) (im.place n b))) (d (here (im.number n) (im.place n b))) (v (here (im.number n) (im.place n b))) ∙ all.same n b h ∙ sym (over (e (here n b)) (c (here n b)) (now (here n b)));
         stored = λ n b h.
             subst (λ x. stored_bit (im.two_state n b) x ≡ x) (sym (over (e (here n b)) (c (here n b)) (now (here n b)))) (all.stored n b h);
       }

@@ -13,12 +13,17 @@ use Rattle.v_meaning.specs.Statements.{Doing}
 use Rattle.v_meaning.specs.Runs as T
 use Rattle.lowering_laws.specs.Same.{Same}
 
--- The number of the image of each signal and local, how many bits it has, and which of them are of a two-state type. What has
--- no image here has no bits.
+-- The number of the image of each signal and local, which bit of the image each of its bits is, how many bits it has, and which of
+-- them are of a two-state type. What has no image here has no bits.
 pub record Images : Type 0 where
   pub number : ℕ → ℕ
+  pub place : ℕ → ℕ → ℕ
   pub width : ℕ → ℕ
   pub two_state : ℕ → ℕ → Bool
+
+-- each bit of its image is the same bit as in the source
+abbrev pub IsInOrder : Images → ℕ → Type 0
+IsInOrder im n = (b : ℕ) → im.place n b ≡ b
 
 -- no two things with bits have one image
 abbrev pub AreDistinct : Images → Type 0
@@ -26,12 +31,12 @@ AreDistinct im = (n m : ℕ) → 0 < im.width n → 0 < im.width m → im.number
 
 -- images hold what signals and locals hold, and two-state bits hold 0 or 1
 pub record Agree (im : Images) (now v : Valuation) : Type 0 where
-  pub same : (n b : ℕ) → b < im.width n → v (record { signal = im.number n; bit = b }) ≡ now (record { signal = n; bit = b })
+  pub same : (n b : ℕ) → b < im.width n → v (record { signal = im.number n; bit = im.place n b }) ≡ now (record { signal = n; bit = b })
   pub stored : (n b : ℕ) → b < im.width n → stored_bit (im.two_state n b) (now (record { signal = n; bit = b })) ≡ now (record { signal = n; bit = b })
 
 -- images change as signals and locals do, and two-state bits get 0 or 1
 pub record SameChanges (im : Images) (c d : Changes) : Type 0 where
-  pub same : (n b : ℕ) → b < im.width n → d (record { signal = im.number n; bit = b }) ≡ c (record { signal = n; bit = b })
+  pub same : (n b : ℕ) → b < im.width n → d (record { signal = im.number n; bit = im.place n b }) ≡ c (record { signal = n; bit = b })
   pub stored : (n b : ℕ) (x : Bit4) → b < im.width n → c (record { signal = n; bit = b }) ≡ Some x → stored_bit (im.two_state n b) x ≡ x
 
 -- A point of both runs, from which the source's goes on. What a block's locals held before the block is of no account, so that

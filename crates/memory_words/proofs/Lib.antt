@@ -1,3 +1,4 @@
+pub mod Powers
 pub mod Finding
 pub mod Reading
 pub mod Naming

@@ -5,5 +5,5 @@
 mod readings;
 mod words;
 
-pub use readings::word_reading;
-pub use words::word_of;
+pub use readings::{known_reading, word_reading};
+pub use words::{known_word, word_of};

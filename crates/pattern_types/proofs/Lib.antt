@@ -1,5 +1,6 @@
 pub mod Levels
 pub mod Keying
+pub mod Far
 pub mod Numbers
 pub mod Taking
 pub mod Leaves

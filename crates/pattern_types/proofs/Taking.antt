@@ -18,7 +18,7 @@ use Rattle.expr_type.specs.Patterns.{all_keys, count_fits, defaults, has_members
 use Rattle.expr_type.specs.Typings.{Checked, all_of, where_whole}
 use Rattle.pattern_types.specs.declared.operand.ItemKey.{ItemKey}
 use Rattle.pattern_types.specs.Meaning.{Parts}
-use Rattle.pattern_types.specs.Keys.{all_stand, plain_key, reason_of_keys}
+use Rattle.pattern_types.specs.Keys.{all_near, all_stand, plain_key, reason_of_keys}
 use Rattle.pattern_types.specs.Meaning.{item_keys, items_in, key_of, keyed_keys, parts_of, pattern_of, tick_of, times_of, values_of, written_items}
 use Rattle.pattern_types.specs.Places.{default_from, rest_at}
 use Rattle.pattern_types.specs.declared.takes.Taking.{Taking}
@@ -26,6 +26,8 @@ use Rattle.pattern_laws.specs.Reasons.{Reason}
 use Rattle.pattern_types.specs.Reasons.{break_at}
 use Rattle.pattern_types.specs.Takes.{TakesGive, counts_fit, or_unfit, taken_of, takes_in}
 use Rattle.pattern_types.proofs.Numbers.{filled-keys, length-defaults, length-items, length-keyed, rest-is}
+use Rattle.pattern_types.specs.Far.{IsTakenFar, near_bounds}
+use Rattle.pattern_types.proofs.Far.{never-fits}
 use Rattle.pattern_types.proofs.Keying.{keys-all, keys-reason, keys-whole}
 use Rattle.pattern_laws.proofs.Reasons.{where-broken}
 
@@ -152,6 +154,18 @@ covers-give k p t b r m x default count takes res is of fine mis on keys rest d 
     let both = both-true (all_stand b (keyed_keys (item_keys (items_in p)))) (counts_fit t (times_of p) (item_keys (items_in p))) (sym mis ∙ on) in
     takings-give k p t x default count takes res
     (takings-so k p t x b r is of fine both.0 both.1 keys (rest ∙ ap (rest_at (values_of k (items_in p))) d)) rest d c g e
+
+pub beyond-halts : (k : Source) (p : Parts) (t : SvType) (b : Bool) (r : Reason) (m : Bool) (h : Halt)
+    → b ≡ has_members t → r ≡ reason_of_keys b (keyed_keys (item_keys (items_in p))) → r ≡ None
+    → m ≡ (all_stand b (keyed_keys (item_keys (items_in p))) && counts_fit t (times_of p) (item_keys (items_in p))) → m ≡ true
+    → near_bounds t ≡ true → IsTakenFar (all_near b (keyed_keys (item_keys (items_in p)))) (times_of p) → h ≡ H.Breaks (tick_of p) 505 → HaltsBy h (reason (takes_in k (pattern_of k p) t))
+beyond-halts k p t b r m h is of fine mis on near far e =
+    let keys = keyed_keys (item_keys (items_in p)) in
+    let both = both-true (all_stand b keys) (counts_fit t (times_of p) (item_keys (items_in p))) (sym mis ∙ on) in
+    let rest = rest_at (values_of k (items_in p)) (default_from 0 (item_keys (items_in p))) in
+    let x : F.Pattern = record { keys = times_over (times_of p) (map (plain_key k b) keys); rest = rest } in
+    subst (λ y. HaltsBy y (reason (takes_in k (pattern_of k p) t))) (sym e)
+    (ap reason (takings-so k p t x b r is of fine both.0 both.1 refl refl ∙ ap (or_unfit k (tick_of p)) (never-fits k b t (times_of p) keys rest near far.some far.far)))
 
 times-length : (n : ℕ) (ks : List Key) → length (times_over n ks) ≡ n * length ks
 times-length zero ks = omega arith

@@ -1,5 +1,5 @@
 -- Keys by themselves: their breaks, and what they are where they break nothing and stand for something.
-use Rattle.std.specs.Prelude.{Bool, true, false, ◌||◌, cond, ℤ, List, [], ◌∷◌, Option, Some, None, is_some}
+use Rattle.std.specs.Prelude.{◌^◌, Bool, true, false, ◌&&◌, ◌||◌, cond, ℤ, pos, neg_ℤ, ◌-ℤ◌, int_le, List, [], ◌∷◌, Option, Some, None, is_some}
 use Rattle.std.specs.List.{list_all}
 use Rattle.pattern_fit.specs.declared.pattern.Key.{Key}
 use Rattle.pattern_fit.specs.declared.pattern.Key.TheVariants as K
@@ -41,6 +41,23 @@ stands members (I.Numbered n) = is_some n
 
 abbrev pub all_stand : Bool → List ItemKey → Bool
 all_stand members keys = list_all (stands members) keys
+
+-- a number that lies between the bounds that an array may have, which are of 64 bits
+abbrev pub is_near : ℤ → Bool
+is_near n = int_le (neg_ℤ (pos (2 ^ 63))) n && int_le n (pos (2 ^ 63) -ℤ pos 1)
+
+abbrev pub is_near_if : Option ℤ → Bool
+is_near_if None = true
+is_near_if (Some n) = is_near n
+
+abbrev pub is_near_key : Bool → ItemKey → Bool
+is_near_key members I.InPlace = true
+is_near_key members I.ByDefault = true
+is_near_key members (I.Named of otherwise) = members || is_near_if (number_of_name otherwise)
+is_near_key members (I.Numbered n) = is_near_if n
+
+abbrev pub all_near : Bool → List ItemKey → Bool
+all_near members keys = list_all (is_near_key members) keys
 
 abbrev pub index_key : Option ℤ → Key
 index_key None = K.Place

@@ -1,6 +1,7 @@
 pub mod Reasons
 pub mod Meaning
 pub mod Keys
+pub mod Far
 pub mod Places
 pub mod Takes
 pub mod Leaves

@@ -1,6 +1,6 @@
 //! Keys of items in a pattern of a type.
 
-ghost use Rattle.std.specs.Prelude.{◌≡◌, ◌++◌, map, IfOk, OnOk};
+ghost use Rattle.std.specs.Prelude.{◌≡◌, ◌<◌, ◌++◌, map, true, IfOk, OnOk};
 ghost use Rattle.expr_type.specs.Answers.{source};
 ghost use Rattle.expr_type.specs.Names.{word};
 ghost use Rattle.expr_type.specs.Patterns.{times_over};
@@ -61,7 +61,7 @@ pub fn look_at_keys(members: bool, items: &[Item]) -> Look
     seen
 }
 
-fn number_of_name(name: &NameKey) -> Option<i64>
+fn number_of_name(name: &NameKey) -> Option<i128>
     ensures { result ≡ asked.number_of_name name.now }
 {
     match name {
@@ -96,6 +96,46 @@ pub fn all_stand(members: bool, items: &[Item]) -> bool
     true
 }
 
+/// Whether a number lies between the bounds that an array may have, which are of 64 bits.
+pub fn is_near(n: i128) -> bool
+    ensures { result ≡ asked.is_near n }
+{
+    i128::from(i64::MIN) <= n && n <= i128::from(i64::MAX)
+}
+
+fn is_near_if(n: Option<i128>) -> bool
+    ensures { result ≡ asked.is_near_if n }
+{
+    match n {
+        Some(i) => is_near(i),
+        None => true,
+    }
+}
+
+// Whether the index that a key is may lie between the bounds of an array.
+fn is_near_key(members: bool, key: &ItemKey) -> bool
+    ensures { result ≡ asked.is_near_key members key.now }
+{
+    match key {
+        ItemKey::InPlace => true,
+        ItemKey::ByDefault => true,
+        ItemKey::Named { otherwise, .. } => members || is_near_if(number_of_name(otherwise)),
+        ItemKey::Numbered(n) => is_near_if(*n),
+    }
+}
+
+/// Whether each index that is a key may lie between the bounds of an array.
+pub fn all_near(members: bool, items: &[Item]) -> bool
+    ensures { result ≡ asked.all_near members (keyed_keys (item_keys items.now)) }
+{
+    for item in items {
+        if !is_default(&item.key) && !is_near_key(members, &item.key) {
+            return false;
+        }
+    }
+    true
+}
+
 // The word of a token.
 fn word_at(alloc: Global, text: Source<'_>, at: u32) -> Result<Text, AllocError>
     ensures { IfOk result (λ w. w ≡ word (source text.entry) at) }
@@ -106,11 +146,12 @@ fn word_at(alloc: Global, text: Source<'_>, at: u32) -> Result<Text, AllocError>
     }
 }
 
-fn index_key(n: Option<i64>) -> Key
+fn index_key(n: Option<i128>) -> Key
+    requires { asked.is_near_if n ≡ true }
     ensures { result ≡ asked.index_key n }
 {
     match n {
-        Some(i) => Key::Index(i),
+        Some(i) => Key::Index(i as i64),
         None => Key::Place,
     }
 }
@@ -122,6 +163,7 @@ fn plain_key(
     members: bool,
     key: &ItemKey,
 ) -> Result<Key, AllocError>
+    requires { asked.is_near_key members key.now ≡ true }
     ensures { IfOk result (λ k. k ≡ asked.plain_key (source text.entry) members key.now) }
 {
     match key {
@@ -146,6 +188,7 @@ fn add_keys(
     items: &[Item],
     to: &mut Keys,
 ) -> Result<(), AllocError>
+    requires { asked.all_near members (keyed_keys (item_keys items.now)) ≡ true }
     ensures { OnOk result (to.new ≡ to.old ++ map (asked.plain_key (source text.entry) members) (keyed_keys (item_keys items.now))) }
 {
     for item in items {
@@ -165,6 +208,7 @@ pub fn repeated_keys(
     items: &[Item],
     times: u32,
 ) -> Result<Keys, AllocError>
+    requires { 0 < times → asked.all_near members (keyed_keys (item_keys items.now)) ≡ true }
     ensures { IfOk result (λ ks. ks ≡ times_over times (map (asked.plain_key (source text.entry) members) (keyed_keys (item_keys items.now)))) }
 {
     let mut keys = Keys::new(alloc);

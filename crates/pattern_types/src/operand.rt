@@ -12,8 +12,8 @@ pub type Items = sv_source::Items<Item>;
 /// What a name before an item stands for where the type of the pattern has no members.
 #[derive(Clone, Copy)]
 pub enum NameKey {
-    /// A constant with this number, or with none where a bit of it is x or z.
-    Number(Option<i64>),
+    /// A constant with this number, or with none where a bit of it is x or z. An index has at most 64 bits, with or without a sign.
+    Number(Option<i128>),
     /// Nothing.
     Nothing,
     /// Something that breaks a rule there.
@@ -42,7 +42,7 @@ pub enum ItemKey {
         otherwise: NameKey,
     },
     /// A constant index, or none where a bit of it is x or z.
-    Numbered(Option<i64>),
+    Numbered(Option<i128>),
 }
 
 /// An operand whose own parts are typed.

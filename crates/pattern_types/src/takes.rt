@@ -1,15 +1,16 @@
 //! What the members or elements of a type take of a pattern.
 
-ghost use Rattle.std.specs.Prelude.{◌≡◌, ◌<◌, ◌*◌, ◌&&◌, length, map, IfOk, true};
+ghost use Rattle.std.specs.Prelude.{◌≡◌, ◌<◌, ◌*◌, ◌&&◌, length, map, IfOk, true, false};
 ghost use Rattle.expr_type.specs.Answers.{source};
 ghost use Rattle.expr_type.specs.Patterns.{has_members, times_over};
-ghost use Rattle.pattern_types.specs.Keys.{all_stand, plain_key};
+ghost use Rattle.pattern_types.specs.Keys.{all_near, all_stand, plain_key};
 ghost use Rattle.pattern_types.specs.Meaning.{item_keys, items_in, keyed_keys, parts_in, times_of, values_of};
 ghost use Rattle.pattern_types.specs.Places.{default_from, rest_at};
+ghost use Rattle.pattern_types.specs.Far.{IsTakenFar, near_bounds};
 ghost use Rattle.pattern_types.specs.Takes.{counts_fit, default_keys, halt_of, taken_of, TakesGive};
 
 use crate::items::{default_place, has_members, is_default, keyed_count, place_count, rest_at};
-use crate::keys::{all_stand, look_at_keys, repeated_keys};
+use crate::keys::{all_near, all_stand, is_near, look_at_keys, repeated_keys};
 use crate::looks::passes;
 use crate::operand::{Item, Parts};
 use expr_type::{Halt, Source};
@@ -58,6 +59,42 @@ fn may_cover(members: bool, t: &SvType, times: u32, items: &[Item]) -> bool
     all_stand(members, items) && counts_fit(t, times, items)
 }
 
+// Whether the bounds of an array are near, which have 64 bits.
+fn has_near_bounds(t: &SvType) -> bool
+    ensures value { result ≡ near_bounds t.now }
+    ensures always { result ≡ true }
+{
+    match t {
+        SvType::Scalar { .. } => true,
+        SvType::PackedArray { left, right, .. } => {
+            is_near(i128::from(*left)) && is_near(i128::from(*right))
+        }
+        SvType::Struct { .. } => true,
+        SvType::Union { .. } => true,
+        SvType::Enum { .. } => true,
+        SvType::UnpackedArray { left, right, .. } => {
+            is_near(i128::from(*left)) && is_near(i128::from(*right))
+        }
+    }
+}
+
+// Whether an index among the keys that are taken so many times can't be that of an element.
+fn is_any_far(members: bool, times: u32, items: &[Item]) -> bool
+    ensures far { result ≡ true → IsTakenFar (all_near members (keyed_keys (item_keys items.now))) times }
+    ensures near { result ≡ false → 0 < times → all_near members (keyed_keys (item_keys items.now)) ≡ true }
+{
+    times > 0 && !all_near(members, items)
+}
+
+// Whether a pattern has an index that no element of a type can have.
+fn is_beyond(members: bool, t: &SvType, times: u32, items: &[Item]) -> bool
+    ensures bounds { near_bounds t.now ≡ true }
+    ensures far { result ≡ true → IsTakenFar (all_near members (keyed_keys (item_keys items.now))) times }
+    ensures near { result ≡ false → 0 < times → all_near members (keyed_keys (item_keys items.now)) ≡ true }
+{
+    has_near_bounds(t) && is_any_far(members, times, items)
+}
+
 // Whether there are fewer than 2^32 keys.
 fn is_short(times: u32, items: &[Item]) -> bool
     ensures { result ≡ true → times * length (keyed_keys (item_keys items.now)) < 4294967296 }
@@ -73,6 +110,7 @@ fn pattern(
     p: Parts<'_>,
     default: Option<usize>,
 ) -> Result<Pattern, AllocError>
+    requires { 0 < times_of (parts_in p) → all_near members (keyed_keys (item_keys (items_in (parts_in p)))) ≡ true }
     ensures keys { IfOk result (λ r. r.keys ≡ times_over (times_of (parts_in p.entry)) (map (plain_key (source text.entry) members) (keyed_keys (item_keys (items_in (parts_in p.entry)))))) }
     ensures rest { IfOk result (λ r. r.rest ≡ rest_at (values_of (source text.entry) (items_in (parts_in p.entry))) default) }
 {
@@ -136,6 +174,9 @@ pub fn takes_of(alloc: Global, text: Source<'_>, t: &SvType, p: Parts<'_>) -> Re
     let items = p.items;
     passes(look_at_keys(members, items))?;
     if !may_cover(members, t, p.times, items) {
+        return Err(unfit(p.tick));
+    }
+    if is_beyond(members, t, p.times, items) {
         return Err(unfit(p.tick));
     }
     if !is_short(p.times, items) {

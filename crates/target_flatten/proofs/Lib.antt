@@ -3,3 +3,4 @@ pub mod Stands
 pub mod Ranking
 pub mod Writing
 pub mod Naming
+pub mod Owning

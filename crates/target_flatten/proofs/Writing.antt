@@ -17,12 +17,11 @@ use Rattle.sv_types.specs.Windows.{between, rank}
 use Rattle.sv_types.specs.Surroundings.{Around}
 use Rattle.sv_types.specs.Meanings as S
 use Rattle.sv_types.proofs.Picks.{picked-part}
-use Rattle.v_tree.specs.Names.{Name}
 use Rattle.v_tree.specs.declared.expressions.VExtent.TheVariants.{Down}
 use Rattle.v_tree.specs.declared.statements.VLval.{VLval}
-use Rattle.v_meaning.specs.Scopes.{Scope, named}
+use Rattle.v_meaning.specs.Scopes.{Scope, Named}
 use Rattle.v_meaning.specs.Selects.{SelMeaning}
-use Rattle.v_meaning.specs.Statements.{Target, target, name_target}
+use Rattle.v_meaning.specs.Statements.{Target}
 use Rattle.v_meaning.specs.Values as T
 use Rattle.v_meaning.specs.Values.{meaning}
 use Rattle.eval_parts.specs.Places.{window_of}
@@ -46,69 +45,78 @@ use Rattle.target_flatten.specs.declared.spots.Spot.TheVariants as V
 use Rattle.target_flatten.specs.declared.writes.Write.{Write}
 use Rattle.target_laws.specs.Seeing.{IsSeen, IsCut}
 use Rattle.target_flatten.specs.Spots.{IsSpot, IsPlaceIn, StandsInside}
-use Rattle.target_laws.specs.Standing.{IsInside, IsVectorOf}
-use Rattle.target_flatten.specs.Writing.{aimed, pieces, WritesPath, IsAimed, AimsKnown, AimsPlaced, AimsAt, WritesInner, WritesWhole, WritesBetween, MakesWrites, select_at}
+use Rattle.target_laws.specs.Standing.{IsInside}
+use Rattle.target_laws.specs.Vectors.{IsVector, vector_target}
+use Rattle.target_flatten.specs.Owning.{writes_made}
+use Rattle.target_flatten.specs.Writing.{in_vector, aimed_in, pieces_in, Selects, WritesPath, IsAimed, AimsKnown, AimsPlaced, AimsAt, WritesInner, WritesWhole, WritesBetween, select_at}
 use Rattle.target_laws.proofs.Clipping.{clipped, none-clipped}
-use Rattle.target_laws.proofs.Naming.{whole-written, bit-written, range-written, offset-written, bit-offset-written, only-written}
+use Rattle.target_laws.proofs.Vectors.{whole-in, bit-in, range-in, offset-in, bit-offset-in, only-in}
 use Rattle.target_laws.proofs.Seeing.{cut-out, nothing-seen, seen-itself, seen-between}
 use Rattle.target_laws.proofs.Filling.{part-end}
 
 -- a target by its parts
-piece-by : (e : S.Meaning) (a : Around) (name : Name) (sc : Scope) (v : Valuation) (g h : Option T.Meaning) (to of : Target) (n m : ℕ) → g ≡ h → to ≡ of → n ≡ m
-    → WritesPath name e a (record { guard = h; to = of; low = 0; width = m } ∷ []) sc v → WritesPath name e a (record { guard = g; to = to; low = 0; width = n } ∷ []) sc v
-piece-by e a name sc v g h to of n m guard same size w =
-    subst (λ x. WritesPath name e a (record { guard = x; to = to; low = 0; width = n } ∷ []) sc v) (sym guard)
-    (subst (λ (x : Target). WritesPath name e a (record { guard = h; to = x; low = 0; width = n } ∷ []) sc v) (sym same)
-    (subst (λ x. WritesPath name e a (record { guard = h; to = of; low = 0; width = x } ∷ []) sc v) (sym size) w))
+piece-by : (e : S.Meaning) (a : Around) (vec : Named) (sc : Scope) (v : Valuation) (g h : Option T.Meaning) (to of : Target) (n m : ℕ) → g ≡ h → to ≡ of → n ≡ m
+    → WritesPath vec e a (record { guard = h; to = of; low = 0; width = m } ∷ []) sc v → WritesPath vec e a (record { guard = g; to = to; low = 0; width = n } ∷ []) sc v
+piece-by e a vec sc v g h to of n m guard same size w =
+    subst (λ x. WritesPath vec e a (record { guard = x; to = to; low = 0; width = n } ∷ []) sc v) (sym guard)
+    (subst (λ (x : Target). WritesPath vec e a (record { guard = h; to = x; low = 0; width = n } ∷ []) sc v) (sym same)
+    (subst (λ x. WritesPath vec e a (record { guard = h; to = of; low = 0; width = x } ∷ []) sc v) (sym size) w))
 
-tight-path : (name : Name) (bits n : ℕ) (e : S.Meaning) (a : Around) (sc : Scope) → IsAimed name bits n e a sc → IsTight (e.window a) (S.wide e)
-tight-path name bits n e a sc h = subst (IsTight (e.window a)) (sym h.wide) (tight-of (e.window a) n h.stays)
+tight-path : (vec : Named) (bits n : ℕ) (e : S.Meaning) (a : Around) → IsAimed vec bits n e a → IsTight (e.window a) (S.wide e)
+tight-path vec bits n e a h = subst (IsTight (e.window a)) (sym h.wide) (tight-of (e.window a) n h.stays)
 
 -- a known place
-pub known-whole : (name : Name) (bits low n : ℕ) (to : VLval) → n ≡ bits → target to ≡ name_target name [] → AimsKnown name bits low n to
-known-whole name bits low n to all is e a sc v aim known =
+known-all : (bits low n : ℕ) (to : VLval) → n ≡ bits → Selects to [] → AimsKnown bits low n to
+known-all bits low n to all is vec e a sc v aim known =
     let fits = known.fits in
     let wide = aim.wide in
     let some = aim.some in
-    piece-by e a name sc v None None (target to) (name_target name []) n (S.wide e) refl is (sym aim.wide)
-    (whole-written e a name bits sc v aim.vector (tight-path name bits n e a sc aim) low known (omega arith) (omega arith))
+    piece-by e a vec sc v None None (in_vector vec to) (vector_target vec []) n (S.wide e) refl (is vec) (sym aim.wide)
+    (whole-in e a vec bits sc v aim.vector (tight-path vec bits n e a aim) low known (omega arith) (omega arith))
 
-pub known-bit : (name : Name) (bits low n : ℕ) (to : VLval) → n ≡ 1 → target to ≡ name_target name (terms.bit_at_number low ∷ []) → AimsKnown name bits low n to
-known-bit name bits low n to one is e a sc v aim known =
-    piece-by e a name sc v None None (target to) (name_target name (terms.bit_at_number low ∷ [])) n (S.wide e) refl is (sym aim.wide)
-    (bit-written e a name bits sc v aim.vector (tight-path name bits n e a sc aim) low known (aim.wide ∙ one))
+pub known-whole : (bits low n : ℕ) (to : VLval) → (1 ≤ n → n ≤ bits → n ≡ bits) → Selects to [] → AimsKnown bits low n to
+known-whole bits low n to all is vec e a sc v aim known =
+    let fits = known.fits in
+    let wide = aim.wide in
+    let some = aim.some in
+    known-all bits low n to (all some (omega arith)) is vec e a sc v aim known
 
-pub known-range : (name : Name) (bits low n left : ℕ) (to : VLval) → left ≡ min (low + (n - 1)) (2 ^ 32 - 1)
-    → target to ≡ name_target name (T.decimal_base left (Some (Down low)) ∷ []) → AimsKnown name bits low n to
-known-range name bits low n left to end is e a sc v aim known =
+pub known-bit : (bits low n : ℕ) (to : VLval) → n ≡ 1 → Selects to (terms.bit_at_number low ∷ []) → AimsKnown bits low n to
+known-bit bits low n to one is vec e a sc v aim known =
+    piece-by e a vec sc v None None (in_vector vec to) (vector_target vec (terms.bit_at_number low ∷ [])) n (S.wide e) refl (is vec) (sym aim.wide)
+    (bit-in e a vec bits sc v aim.vector (tight-path vec bits n e a aim) low known (aim.wide ∙ one))
+
+pub known-range : (bits low n left : ℕ) (to : VLval) → left ≡ min (low + (n - 1)) (2 ^ 32 - 1)
+    → Selects to (T.decimal_base left (Some (Down low)) ∷ []) → AimsKnown bits low n to
+known-range bits low n left to end is vec e a sc v aim known =
     let fits = known.fits in
     let wide = aim.wide in
     let some = aim.some in
     let small = aim.small in
     let same : left ≡ low + S.wide e - 1 = omega arith in
-    piece-by e a name sc v None None (target to) (name_target name (terms.range low (S.wide e) ∷ [])) n (S.wide e) refl
-    (is ∙ ap (λ k. name_target name (T.decimal_base k (Some (Down low)) ∷ [])) same) (sym aim.wide)
-    (range-written e a name bits sc v aim.vector (tight-path name bits n e a sc aim) low known (omega arith))
+    piece-by e a vec sc v None None (in_vector vec to) (vector_target vec (terms.range low (S.wide e) ∷ [])) n (S.wide e) refl
+    (is vec ∙ ap (λ k. vector_target vec (T.decimal_base k (Some (Down low)) ∷ [])) same) (sym aim.wide)
+    (range-in e a vec bits sc v aim.vector (tight-path vec bits n e a aim) low known (omega arith))
 
 -- an offset
-pub placed-select : (name : Name) (bits : ℕ) (p : Place) (n w : ℕ) (x : Aim) → guard_meaning x.guard ≡ guard_meaning p.guard → target x.to ≡ name_target name (select_at (meaning p.offset) n ∷ [])
-    → AimsPlaced name bits p n w x
-placed-select name bits p n w x guard is e a sc v aim few placed = by (n == 1) refl
+pub placed-select : (bits : ℕ) (p : Place) (n w : ℕ) (x : Aim) → guard_meaning x.guard ≡ guard_meaning p.guard → Selects x.to (select_at (meaning p.offset) n ∷ [])
+    → AimsPlaced bits p n w x
+placed-select bits p n w x guard is vec e a sc v aim few placed = by (n == 1) refl
   where
     tight : IsTight (e.window a) (S.wide e)
-    tight = tight-path name bits n e a sc aim
+    tight = tight-path vec bits n e a aim
 
-    by : (b : Bool) → (n == 1) ≡ b → WritesPath name e a (aimed x n ∷ []) sc v
+    by : (b : Bool) → (n == 1) ≡ b → WritesPath vec e a (aimed_in vec x n ∷ []) sc v
     by true one =
         let is_one_bit : n ≡ 1 = grind (arith, nat_tests) in
-        piece-by e a name sc v (guard_meaning x.guard) (guard_meaning p.guard) (target x.to) (name_target name (terms.bit_at_offset (meaning p.offset) ∷ [])) n (S.wide e) guard
-        (is ∙ ap (λ c. name_target name (cond c (terms.bit_at_offset (meaning p.offset)) (terms.slide (meaning p.offset) n) ∷ [])) one) (sym aim.wide)
-        (bit-offset-written e a name bits sc v aim.vector tight (guard_meaning p.guard) (meaning p.offset) w placed (aim.wide ∙ is_one_bit))
+        piece-by e a vec sc v (guard_meaning x.guard) (guard_meaning p.guard) (in_vector vec x.to) (vector_target vec (terms.bit_at_offset (meaning p.offset) ∷ [])) n (S.wide e) guard
+        (is vec ∙ ap (λ c. vector_target vec (cond c (terms.bit_at_offset (meaning p.offset)) (terms.slide (meaning p.offset) n) ∷ [])) one) (sym aim.wide)
+        (bit-offset-in e a vec bits sc v aim.vector tight (guard_meaning p.guard) (meaning p.offset) w placed (aim.wide ∙ is_one_bit))
     by false more =
-        piece-by e a name sc v (guard_meaning x.guard) (guard_meaning p.guard) (target x.to) (name_target name (terms.slide (meaning p.offset) (S.wide e) ∷ [])) n (S.wide e) guard
-        (is ∙ ap (λ c. name_target name (cond c (terms.bit_at_offset (meaning p.offset)) (terms.slide (meaning p.offset) n) ∷ [])) more
-        ∙ ap (λ k. name_target name (terms.slide (meaning p.offset) k ∷ [])) (sym aim.wide)) (sym aim.wide)
-        (offset-written e a name bits sc v aim.vector tight (guard_meaning p.guard) (meaning p.offset) w placed)
+        piece-by e a vec sc v (guard_meaning x.guard) (guard_meaning p.guard) (in_vector vec x.to) (vector_target vec (terms.slide (meaning p.offset) (S.wide e) ∷ [])) n (S.wide e) guard
+        (is vec ∙ ap (λ c. vector_target vec (cond c (terms.bit_at_offset (meaning p.offset)) (terms.slide (meaning p.offset) n) ∷ [])) more
+        ∙ ap (λ k. vector_target vec (terms.slide (meaning p.offset) k ∷ [])) (sym aim.wide)) (sym aim.wide)
+        (offset-in e a vec bits sc v aim.vector tight (guard_meaning p.guard) (meaning p.offset) w placed)
 
 -- the select of an offset
 pub select-bit : (o : T.Meaning) (n : ℕ) (s : SelMeaning) → n ≡ 1 → s ≡ terms.bit_at_offset o → s ≡ select_at o n
@@ -194,9 +202,9 @@ module _ (e : S.Meaning) (a : Around) (g : Option T.Meaning) (o : T.Meaning) (w 
   pub first-sure : IsSure guard o sc v
   first-sure h = (both-are h).1
 
-pub placed-only : (name : Name) (bits : ℕ) (p : Place) (n w : ℕ) (x : Aim) → bits ≡ 1 → guard_meaning x.guard ≡ and_guard (guard_meaning p.guard) (Some (at_most (meaning p.offset) w 0))
-    → target x.to ≡ name_target name [] → AimsPlaced name bits p n w x
-placed-only name bits p n w x one guard is e a sc v aim few placed =
+pub placed-only : (bits : ℕ) (p : Place) (n w : ℕ) (x : Aim) → bits ≡ 1 → guard_meaning x.guard ≡ and_guard (guard_meaning p.guard) (Some (at_most (meaning p.offset) w 0))
+    → Selects x.to [] → AimsPlaced bits p n w x
+placed-only bits p n w x one guard is vec e a sc v aim few placed =
     let wide = aim.wide in
     let some = aim.some in
     let one_bit : S.wide e ≡ bits = omega arith in
@@ -204,29 +212,29 @@ placed-only name bits p n w x one guard is e a sc v aim few placed =
     let g = guard_meaning p.guard in
     let o = meaning p.offset in
     let here = first-placed e a (guard_meaning p.guard) (meaning p.offset) w sc v (omega arith) there in
-    piece-by e a name sc v (guard_meaning x.guard) (and_guard (guard_meaning p.guard) (Some (at_most (meaning p.offset) w 0))) (target x.to) (name_target name []) n (S.wide e) guard is (sym aim.wide)
-    (only-written e a name bits sc v aim.vector (tight-path name bits n e a sc aim) (and_guard (guard_meaning p.guard) (Some (at_most (meaning p.offset) w 0))) (meaning p.offset) w
+    piece-by e a vec sc v (guard_meaning x.guard) (and_guard (guard_meaning p.guard) (Some (at_most (meaning p.offset) w 0))) (in_vector vec x.to) (vector_target vec []) n (S.wide e) guard (is vec) (sym aim.wide)
+    (only-in e a vec bits sc v aim.vector (tight-path vec bits n e a aim) (and_guard (guard_meaning p.guard) (Some (at_most (meaning p.offset) w 0))) (meaning p.offset) w
     (subst (λ b. IsPlaced e a (and_guard (guard_meaning p.guard) (Some (at_most (meaning p.offset) w 0))) (meaning p.offset) w b sc v) (sym one) here)
     one_bit (first-sure e a (guard_meaning p.guard) (meaning p.offset) w sc v (omega arith) there))
 
 -- one that stands somewhere
-pub at-known : (name : Name) (bits below n w : ℕ) (x : Aim) → guard_meaning x.guard ≡ None → AimsKnown name bits below n x.to → AimsAt name bits (V.Known below) n w (Some x)
-at-known name bits below n w x guard aims e a sc v aim some small spot =
-    subst (λ g. WritesPath name e a (record { guard = g; to = target x.to; low = 0; width = n } ∷ []) sc v) (sym guard) (aims e a sc v aim spot)
+pub at-known : (bits below n w : ℕ) (x : Aim) → guard_meaning x.guard ≡ None → AimsKnown bits below n x.to → AimsAt bits (V.Known below) n w (Some x)
+at-known bits below n w x guard aims vec e a sc v aim some small spot =
+    subst (λ g. WritesPath vec e a (record { guard = g; to = in_vector vec x.to; low = 0; width = n } ∷ []) sc v) (sym guard) (aims vec e a sc v aim spot)
 
-pub at-place : (name : Name) (bits n w : ℕ) (s : Spot) (p : Place) (x : Aim) → IsPlaceIn s w (Some p) → AimsPlaced name bits p n w x → AimsAt name bits s n w (Some x)
-at-place name bits n w s p x there aims e a sc v aim some small spot =
+pub at-place : (bits n w : ℕ) (s : Spot) (p : Place) (x : Aim) → IsPlaceIn s w (Some p) → AimsPlaced bits p n w x → AimsAt bits s n w (Some x)
+at-place bits n w s p x there aims vec e a sc v aim some small spot =
     let placed = there e a bits sc v some small spot in
     let less = placed.1 in
     let wide = aim.wide in
-    aims e a sc v aim (omega arith) placed.0
+    aims vec e a sc v aim (omega arith) placed.0
 
-pub at-none : (name : Name) (bits n w : ℕ) (s : Spot) → IsPlaceIn s w None → AimsAt name bits s n w None
-at-none name bits n w s there e a sc v spot = there e a bits sc v spot
+pub at-none : (bits n w : ℕ) (s : Spot) → IsPlaceIn s w None → AimsAt bits s n w None
+at-none bits n w s there e a sc v spot = there e a bits sc v spot
 
 -- The bits in range of a path that goes on from another one.
-module _ (name : Name) (bits : ℕ) (s t : Spot) (inner : Span) (w : ℕ) (some : inner.low < inner.high) (stands : StandsInside s inner.low t)
-    (e from : S.Meaning) (a : Around) (sc : Scope) (v : Valuation) (vector : IsVectorOf name bits sc) (small : bits < 2 ^ 32) (one : 1 ≤ w) (room : bits < 2 ^ w)
+module _ (vec : Named) (bits : ℕ) (s t : Spot) (inner : Span) (w : ℕ) (some : inner.low < inner.high) (stands : StandsInside s inner.low t)
+    (e from : S.Meaning) (a : Around) (sc : Scope) (v : Valuation) (vector : IsVector vec bits) (small : bits < 2 ^ 32) (one : 1 ≤ w) (room : bits < 2 ^ w)
     (seen : IsSeen (e.window a) (from.window a) (window_of inner)) (stays : StaysIn (window_of inner) (S.wide e)) (path_stays : StaysIn (e.window a) (S.wide e))
     (end : inner.high ≤ S.wide from) (spot : IsSpot s from a w bits sc v) where
   abbrev k : ℕ
@@ -257,24 +265,24 @@ module _ (name : Name) (bits : ℕ) (s t : Spot) (inner : Span) (w : ℕ) (some 
   middle-spot : IsSpot t middle a w bits sc v
   middle-spot = stands middle from a w bits sc v small middle-inside spot
 
-  pub inner-some : (x : Aim) (low : ℕ) → low ≡ k → AimsAt name bits t m w (Some x) → WritesPath name e a (record (aimed x m) { low = low } ∷ []) sc v
+  pub inner-some : (x : Aim) (low : ℕ) → low ≡ k → AimsAt bits t m w (Some x) → WritesPath vec e a (record (aimed_in vec x m) { low = low } ∷ []) sc v
   inner-some x low first aims =
-      let aim : IsAimed name bits m middle a sc = record {
+      let aim : IsAimed vec bits m middle a = record {
         wide = middle-wide;
         some = omega arith;
         stays = stays-of (part (pos k) m (e.window a)) m (part-tight (pos k) m (e.window a));
         vector = vector;
         small = small;
       } in
-      let written = aims middle a sc v aim one room middle-spot in
+      let written = aims vec middle a sc v aim one room middle-spot in
       let sum : k + 0 ≡ low = omega arith in
-      subst (λ l. WritesPath name e a (record (aimed x m) { low = l } ∷ []) sc v) sum
-      (clipped (e.window a) (from.window a) (S.wide e) k inner.low m path-tight cut (named sc.names name).number (aimed x m ∷ []) sc v
-      (subst (λ n. IsWritten (part (pos k) m (e.window a)) n (named sc.names name).number (aimed x m ∷ []) sc v) middle-wide written))
+      subst (λ l. WritesPath vec e a (record (aimed_in vec x m) { low = l } ∷ []) sc v) sum
+      (clipped (e.window a) (from.window a) (S.wide e) k inner.low m path-tight cut vec.number (aimed_in vec x m ∷ []) sc v
+      (subst (λ n. IsWritten (part (pos k) m (e.window a)) n vec.number (aimed_in vec x m ∷ []) sc v) middle-wide written))
 
-  pub inner-nowhere : AimsAt name bits t m w None → WritesPath name e a [] sc v
+  pub inner-nowhere : AimsAt bits t m w None → WritesPath vec e a [] sc v
   inner-nowhere aims =
-      none-clipped (e.window a) (S.wide e) (named sc.names name).number sc v path-tight
+      none-clipped (e.window a) (S.wide e) vec.number sc v path-tight
       (λ j less. by j less (nat_lt j k) (nat_lt j (k + m)) refl refl)
     where
       by : (j : ℕ) → j < S.wide e → (b c : Bool) → nat_lt j k ≡ b → nat_lt j (k + m) ≡ c → picked (e.window a) j ≡ None
@@ -288,43 +296,43 @@ module _ (name : Name) (bits : ℕ) (s t : Spot) (inner : Span) (w : ℕ) (some 
           ap (picked (e.window a)) at ∙ sym (picked-part k m (e.window a) (j - k) (omega arith)) ∙ aims middle a sc v middle-spot (j - k) (omega arith)
 
 -- no bit in range
-pub inner-none : (name : Name) (bits : ℕ) (s : Spot) (inner : Span) (w : ℕ) (xs : List Write) → inner.high ≤ inner.low → pieces xs ≡ [] → WritesInner name bits s inner w xs
-inner-none name bits s inner w xs none is e from a sc v vector small one room seen stays path_stays end short spot =
-    subst (λ ps. WritesPath name e a ps sc v) (sym is)
-    (none-clipped (e.window a) (S.wide e) (named sc.names name).number sc v (tight-of (e.window a) (S.wide e) path_stays)
+pub inner-none : (bits : ℕ) (s : Spot) (inner : Span) (w : ℕ) (xs : List Write) → inner.high ≤ inner.low → xs ≡ [] → WritesInner bits s inner w xs
+inner-none bits s inner w xs none is vec e from a sc v vector small one room seen stays path_stays end short spot =
+    subst (λ ys. WritesPath vec e a (pieces_in vec ys) sc v) (sym is)
+    (none-clipped (e.window a) (S.wide e) vec.number sc v (tight-of (e.window a) (S.wide e) path_stays)
     (λ j less. nothing-seen (e.window a) (from.window a) (window_of inner) seen none j))
 
-pub inner-made : (name : Name) (bits : ℕ) (s t : Spot) (inner : Span) (w low n : ℕ) (x : Option Aim) (xs : List Write) → inner.low < inner.high → n ≡ inner.high - inner.low
-    → low ≡ min (at_least_0 (pos inner.low -ℤ inner.shift)) (2 ^ 32 - 1) → StandsInside s inner.low t → AimsAt name bits t n w x → MakesWrites x low n xs → WritesInner name bits s inner w xs
-inner-made name bits s t inner w low n None xs some size first stands aims made e from a sc v vector small one room seen stays path_stays end short spot =
-    subst (λ ps. WritesPath name e a ps sc v) (sym made)
-    (inner-nowhere name bits s t inner w some stands e from a sc v vector small one room seen stays path_stays end spot (subst (λ k. AimsAt name bits t k w None) size aims))
-inner-made name bits s t inner w low n (Some x) xs some size first stands aims made e from a sc v vector small one room seen stays path_stays end short spot =
+pub inner-made : (bits : ℕ) (s t : Spot) (inner : Span) (w low n : ℕ) (x : Option Aim) (xs : List Write) → inner.low < inner.high → n ≡ inner.high - inner.low
+    → low ≡ min (at_least_0 (pos inner.low -ℤ inner.shift)) (2 ^ 32 - 1) → StandsInside s inner.low t → AimsAt bits t n w x → xs ≡ writes_made x low n → WritesInner bits s inner w xs
+inner-made bits s t inner w low n None xs some size first stands aims made vec e from a sc v vector small one room seen stays path_stays end short spot =
+    subst (λ ys. WritesPath vec e a (pieces_in vec ys) sc v) (sym made)
+    (inner-nowhere vec bits s t inner w some stands e from a sc v vector small one room seen stays path_stays end spot (subst (λ k. AimsAt bits t k w None) size aims))
+inner-made bits s t inner w low n (Some x) xs some size first stands aims made vec e from a sc v vector small one room seen stays path_stays end short spot =
     let k = at_least_0 (pos inner.low -ℤ inner.shift) in
     let inside = (cut-out (e.window a) (from.window a) (window_of inner) (S.wide e) seen (tight-of (window_of inner) (S.wide e) stays) some).within in
     let same : low ≡ at_least_0 (pos inner.low -ℤ inner.shift) = omega arith in
-    subst (λ ps. WritesPath name e a ps sc v) (sym made)
-    (subst (λ k. WritesPath name e a (record (aimed x k) { low = low } ∷ []) sc v) (sym size)
-    (inner-some name bits s t inner w some stands e from a sc v vector small one room seen stays path_stays end spot x low same (subst (λ k. AimsAt name bits t k w (Some x)) size aims)))
+    subst (λ ys. WritesPath vec e a (pieces_in vec ys) sc v) (sym made)
+    (subst (λ k. WritesPath vec e a (record (aimed_in vec x k) { low = low } ∷ []) sc v) (sym size)
+    (inner-some vec bits s t inner w some stands e from a sc v vector small one room seen stays path_stays end spot x low same (subst (λ k. AimsAt bits t k w (Some x)) size aims)))
 
 -- all of a path, and the elements between two bounds
-pub whole-inner : (name : Name) (bits : ℕ) (s : Spot) (n w : ℕ) (inner : Span) (xs : List Write) → window_of inner ≡ whole n → n < 2 ^ 32 → WritesInner name bits s inner w xs → WritesWhole name bits s n w xs
-whole-inner name bits s n w inner xs window few writes e a sc v vector small one room wide stays spot =
+pub whole-inner : (bits : ℕ) (s : Spot) (n w : ℕ) (inner : Span) (xs : List Write) → window_of inner ≡ whole n → n < 2 ^ 32 → WritesInner bits s inner w xs → WritesWhole bits s n w xs
+whole-inner bits s n w inner xs window few writes vec e a sc v vector small one room wide stays spot =
     let same : window_of inner ≡ whole (S.wide e) = window ∙ ap whole (sym wide) in
     let end : inner.high ≡ S.wide e = ap (λ (p : Window). p.high) same in
-    writes e e a sc v vector small one room
+    writes vec e e a sc v vector small one room
     (subst (IsSeen (e.window a) (e.window a)) (sym same) (seen-itself (e.window a) (S.wide e) (tight-of (e.window a) (S.wide e) stays)))
     (subst (λ p. StaysIn p (S.wide e)) (sym same) (stays-of (whole (S.wide e)) (S.wide e) (whole-tight (S.wide e))))
     stays (omega arith) (omega arith) spot
 
-pub between-inner : (name : Name) (bits : ℕ) (s : Spot) (t : SvType) (left right : ℤ) (w : ℕ) (inner : Span) (xs : List Write) → window_of inner ≡ between (layout t) left right (whole (width_of t))
-    → WritesInner name bits s inner w xs → WritesBetween name bits s t left right w xs
-between-inner name bits s t left right w inner xs window writes e from a sc v vector small one room of is wide short some stays spot =
+pub between-inner : (bits : ℕ) (s : Spot) (t : SvType) (left right : ℤ) (w : ℕ) (inner : Span) (xs : List Write) → window_of inner ≡ between (layout t) left right (whole (width_of t))
+    → WritesInner bits s inner w xs → WritesBetween bits s t left right w xs
+between-inner bits s t left right w inner xs window writes vec e from a sc v vector small one room of is wide short some stays spot =
     let same : window_of inner ≡ between from.of left right (whole (S.wide from)) = window ∙ sym (λ i. between (of i) left right (whole (length (of i).two_state))) in
     let item = length from.of.element.two_state in
     let tight : (p : Window) → IsTight (between from.of left right p) (S.wide e) = λ p.
     subst (IsTight (between from.of left right p)) (sym wide) (part-tight (rank from.of right *ℤ pos (length from.of.element.two_state)) (count_of left right * length from.of.element.two_state) p) in
-    writes e from a sc v vector small one room
+    writes vec e from a sc v vector small one room
     (subst (IsSeen (e.window a) (from.window a)) (sym same)
     (subst (λ p. IsSeen p (from.window a) (between from.of left right (whole (S.wide from)))) (sym is.window)
     (seen-between (from.window a) (from.window a) (whole (S.wide from)) from.of left right (seen-itself (from.window a) (S.wide from) (tight-of (from.window a) (S.wide from) stays)))))

@@ -1,3 +1,4 @@
 pub mod Spots
 pub mod Writing
 pub mod Naming
+pub mod Owning

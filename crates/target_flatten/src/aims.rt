@@ -1,23 +1,27 @@
 //! Names with selects as targets (IEEE 1364-2005 clause 9.2).
 
-ghost use Rattle.std.specs.Prelude.{◌≡◌, ◌≤◌, [], ◌∷◌, Some, IfOk};
+ghost use Rattle.std.specs.Prelude.{◌≡◌, ◌≤◌, [], ◌∷◌, None, Some, IfOk};
+ghost use Rattle.v_tree.specs.declared.expressions.VExtent.TheVariants.{Down};
+ghost use Rattle.v_tree.specs.declared.expressions.VSel.TheVariants as sels;
+ghost use Rattle.v_tree.specs.declared.statements.VLval.TheVariants as lvals;
 ghost use Rattle.v_meaning.specs.Statements.{target, name_target};
-ghost use Rattle.v_meaning.specs.Values.{meaning, sel_meaning};
+ghost use Rattle.v_meaning.specs.Values.{meaning, sel_meaning, decimal_base};
 ghost use Rattle.v_build.specs.Trees.{sel_meanings};
 ghost use Rattle.lowering_laws.specs.Terms as terms;
 ghost use Rattle.path_flatten.specs.Guards.{guard_meaning};
 ghost use Rattle.target_flatten.specs.Writing.{select_at, AimsKnown, AimsPlaced, AimsAt};
 ghost use Rattle.target_flatten.specs.Naming.{NamesNoOther, NamesAim, NamesAimAt};
+ghost use Rattle.target_flatten.specs.Owning.{HasDecimals, IsOwn, IsSelected, OwnAim, PlainAim};
 
-use crate::places::{joined, place_in};
+use crate::places::{joined, moved_place};
 use crate::spots::Spot;
 use crate::writes::Image;
 use b4_core::OrdOp;
 use path_flatten::{Place, number};
 use std::alloc::{AllocError, Global};
 use sv_source::{Items, Text};
-use v_build::{bit_select, decimal_bit, decimal_part, order, slide};
-use v_tree::{VExpr, VLval, VSel, VSels};
+use v_build::{bit_select, order, slide};
+use v_tree::{VExpr, VExtent, VLval, VSel, VSels};
 
 /// A target for all bits of a value, which is written where its guard is 1.
 #[derive(Drop)]
@@ -30,7 +34,8 @@ pub struct Aim {
 
 /// A name alone.
 fn bare(alloc: Global, name: &Text) -> Result<VLval, AllocError>
-    ensures { IfOk result (λ t. target t ≡ name_target name.now []) }
+    ensures means { IfOk result (λ t. target t ≡ name_target name.now []) }
+    ensures is { IfOk result (λ t. t ≡ lvals.Name name.now []) }
 {
     let name = name.copy(alloc)?;
     Ok(VLval::Name {
@@ -39,9 +44,29 @@ fn bare(alloc: Global, name: &Text) -> Result<VLval, AllocError>
     })
 }
 
+/// `[base]`, by a number.
+fn decimal_bit(base: u32) -> VSel
+    ensures means { sel_meaning result ≡ decimal_base base None }
+    ensures is { result ≡ sels.Decimal base None }
+{
+    VSel::Decimal { base, extent: None }
+}
+
+/// `[left:right]`
+fn decimal_part(left: u32, right: u32) -> VSel
+    ensures means { sel_meaning result ≡ decimal_base left (Some (Down right)) }
+    ensures is { result ≡ sels.Decimal left (Some (Down right)) }
+{
+    VSel::Decimal {
+        base: left,
+        extent: Some(VExtent::Down(right)),
+    }
+}
+
 /// One select.
 fn one_select(alloc: Global, sel: VSel) -> Result<VSels, AllocError>
-    ensures { IfOk result (λ ss. sel_meanings ss ≡ sel_meaning sel ∷ []) }
+    ensures means { IfOk result (λ ss. sel_meanings ss ≡ sel_meaning sel ∷ []) }
+    ensures is { IfOk result (λ ss. ss ≡ sel ∷ []) }
 {
     let mut sels: VSels = Items::from_vec(Vec::new(alloc));
     sels.push(sel)?;
@@ -50,7 +75,8 @@ fn one_select(alloc: Global, sel: VSel) -> Result<VSels, AllocError>
 
 /// A name with one select.
 fn selected(alloc: Global, name: &Text, sel: VSel) -> Result<VLval, AllocError>
-    ensures { IfOk result (λ t. target t ≡ name_target name.now (sel_meaning sel ∷ [])) }
+    ensures means { IfOk result (λ t. target t ≡ name_target name.now (sel_meaning sel ∷ [])) }
+    ensures is { IfOk result (λ t. t ≡ lvals.Name name.now (sel ∷ [])) }
 {
     let (sels, name) = pairs::both(one_select(alloc, sel), name.copy(alloc))?;
     Ok(VLval::Name { name, sels })
@@ -64,10 +90,12 @@ pub fn known_target(
     low: u32,
     n: u32,
 ) -> Result<VLval, AllocError>
-    ensures aims { IfOk result (AimsKnown name.now bits low n) }
+    ensures aims { IfOk result (AimsKnown bits low n) }
     ensures names { IfOk result NamesNoOther }
+    ensures own { IfOk result (IsOwn name.now bits) }
+    ensures plain { IfOk result (HasDecimals name.now) }
 {
-    if n == bits {
+    if bits == 1 || n == bits {
         let made = bare(alloc, name)?;
         Ok(made)
     } else if n == 1 {
@@ -93,6 +121,7 @@ fn is_first(alloc: Global, offset: VExpr, width: u32) -> Result<VExpr, AllocErro
 fn only_bit(alloc: Global, name: &Text, place: Place, width: u32) -> Result<Aim, AllocError>
     ensures guard { IfOk result (λ x. guard_meaning x.guard ≡ terms.and_guard (guard_meaning place.guard) (Some (terms.at_most (meaning place.offset) width 0))) }
     ensures to { IfOk result (λ x. target x.to ≡ name_target name.now []) }
+    ensures is { IfOk result (λ x. x.to ≡ lvals.Name name.now []) }
 {
     let first = is_first(alloc, place.offset, width);
     let (guard, first) = pairs::both(Ok(place.guard), first)?;
@@ -116,7 +145,8 @@ fn offset_select(alloc: Global, offset: VExpr, n: u32) -> Result<VSel, AllocErro
 
 /// So many bits of a name, from an offset on.
 fn offset_target(alloc: Global, name: &Text, offset: VExpr, n: u32) -> Result<VLval, AllocError>
-    ensures { IfOk result (λ t. target t ≡ name_target name.now (select_at (meaning offset) n ∷ [])) }
+    ensures means { IfOk result (λ t. target t ≡ name_target name.now (select_at (meaning offset) n ∷ [])) }
+    ensures is { IfOk result (IsSelected name.now (select_at (meaning offset) n)) }
 {
     let sel = offset_select(alloc, offset, n)?;
     let made = selected(alloc, name, sel)?;
@@ -127,6 +157,7 @@ fn offset_target(alloc: Global, name: &Text, offset: VExpr, n: u32) -> Result<VL
 fn placed_target(alloc: Global, name: &Text, place: Place, n: u32) -> Result<Aim, AllocError>
     ensures guard { IfOk result (λ x. guard_meaning x.guard ≡ guard_meaning place.guard) }
     ensures to { IfOk result (λ x. target x.to ≡ name_target name.now (select_at (meaning place.offset) n ∷ [])) }
+    ensures is { IfOk result (λ x. IsSelected name.now (select_at (meaning place.offset) n) x.to) }
 {
     let to = offset_target(alloc, name, place.offset, n);
     let (guard, to) = pairs::both(Ok(place.guard), to)?;
@@ -140,8 +171,9 @@ pub(crate) fn aim_at_place(
     place: Place,
     n: u32,
 ) -> Result<Aim, AllocError>
-    ensures aims { IfOk result (AimsPlaced image.now.name image.now.bits place n image.now.room) }
+    ensures aims { IfOk result (AimsPlaced image.now.bits place n image.now.room) }
     ensures names { IfOk result (NamesAim place) }
+    ensures own { IfOk result (λ x. IsOwn image.now.name image.now.bits x.to) }
 {
     if image.bits == 1 {
         let made = only_bit(alloc, &image.name, place, image.room)?;
@@ -155,16 +187,19 @@ pub(crate) fn aim_at_place(
 /// So many bits of an image, from where a path stands on, or none where it stands nowhere. Or want of memory.
 pub fn aim_at(alloc: Global, image: &Image, spot: Spot, n: u32) -> Result<Option<Aim>, AllocError>
     requires room { image.now.room ≤ 128 }
-    ensures aims { IfOk result (AimsAt image.now.name image.now.bits spot n image.now.room) }
+    ensures aims { IfOk result (AimsAt image.now.bits spot n image.now.room) }
     ensures names { IfOk result (NamesAimAt spot) }
+    ensures own { IfOk result (OwnAim image.now.name image.now.bits) }
+    ensures plain { IfOk result (PlainAim image.now.name spot) }
 {
-    if let Spot::Known(below) = spot {
-        let to = known_target(alloc, &image.name, image.bits, below, n)?;
-        return Ok(Some(Aim { guard: None, to }));
-    }
-    match place_in(alloc, spot, image.room)? {
-        None => Ok(None),
-        Some(place) => {
+    match spot {
+        Spot::Nowhere => Ok(None),
+        Spot::Known(below) => {
+            let to = known_target(alloc, &image.name, image.bits, below, n)?;
+            Ok(Some(Aim { guard: None, to }))
+        }
+        Spot::Moved { place, below } => {
+            let place = moved_place(alloc, place, below, image.room)?;
             let made = aim_at_place(alloc, image, place, n)?;
             Ok(Some(made))
         }

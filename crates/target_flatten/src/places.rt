@@ -7,6 +7,7 @@ ghost use Rattle.v_meaning.specs.Values.{meaning};
 ghost use Rattle.lowering_laws.specs.Terms as terms;
 ghost use Rattle.path_flatten.specs.Guards.{guard_meaning};
 ghost use Rattle.target_flatten.specs.Spots.{IsPlaceIn};
+ghost use Rattle.target_flatten.specs.declared.spots.Spot.TheVariants as spots;
 ghost use Rattle.target_flatten.specs.Naming.{NamesPlaceIn};
 
 use crate::spots::Spot;
@@ -94,6 +95,24 @@ fn advanced_place(alloc: Global, place: Place, below: u32, width: u32) -> Result
     Ok(Place { guard, offset })
 }
 
+/// The place of a path so many bits above a place, by numbers of so many bits.
+pub(crate) fn moved_place(
+    alloc: Global,
+    place: Place,
+    below: u32,
+    width: u32,
+) -> Result<Place, AllocError>
+    requires narrow { width ≤ 128 }
+    ensures place { IfOk result (λ p. IsPlaceIn (spots.Moved place below) width (Some p)) }
+    ensures names { IfOk result (λ p. NamesPlaceIn (spots.Moved place below) (Some p)) }
+{
+    if below == 0 {
+        return Ok(place);
+    }
+    let made = advanced_place(alloc, place, below, width)?;
+    Ok(made)
+}
+
 /// The place of a path that stands somewhere, by numbers of so many bits.
 pub(crate) fn place_in(alloc: Global, spot: Spot, width: u32) -> Result<Option<Place>, AllocError>
     requires narrow { width ≤ 128 }
@@ -110,10 +129,7 @@ pub(crate) fn place_in(alloc: Global, spot: Spot, width: u32) -> Result<Option<P
             }))
         }
         Spot::Moved { place, below } => {
-            if below == 0 {
-                return Ok(Some(place));
-            }
-            let made = advanced_place(alloc, place, below, width)?;
+            let made = moved_place(alloc, place, below, width)?;
             Ok(Some(made))
         }
     }

@@ -5,6 +5,7 @@ ghost use Rattle.std.specs.Prelude.{◌≡◌, ◌≤◌, ◌^◌, unsigned_abs,
 ghost use Rattle.sv_types.specs.Layouts.{width_of};
 ghost use Rattle.target_flatten.specs.Spots.{StandsWhole, StandsInside, Narrows, SpotsMember, SpotsElement};
 ghost use Rattle.target_flatten.specs.Naming.{NamesOn, NamesNothing};
+ghost use Rattle.target_flatten.specs.Owning.{IsSteady, StaysSteady};
 
 use eval_parts::{Window, element_at, entire, member_at};
 use path_flatten::Place;
@@ -30,6 +31,7 @@ pub enum Spot {
 pub fn whole_spot() -> Spot
     ensures stands { StandsWhole result }
     ensures names { NamesNothing result }
+    ensures steady { IsSteady result }
 {
     Spot::Known(0)
 }
@@ -38,6 +40,7 @@ pub fn whole_spot() -> Spot
 pub(crate) fn inside(spot: Spot, low: u32) -> Spot
     ensures stands { StandsInside spot low result }
     ensures names { NamesOn spot result }
+    ensures steady { StaysSteady spot result }
 {
     match spot {
         Spot::Nowhere => Spot::Nowhere,
@@ -53,6 +56,7 @@ pub(crate) fn inside(spot: Spot, low: u32) -> Spot
 fn narrowed(spot: Spot, inner: Window) -> Spot
     ensures stands { Narrows spot inner result }
     ensures names { NamesOn spot result }
+    ensures steady { StaysSteady spot result }
 {
     if inner.high <= inner.low {
         return Spot::Nowhere;
@@ -65,6 +69,7 @@ pub fn member_spot(spot: Spot, of: &SvType, k: u32) -> Spot
     requires narrow { width_of of.now ≤ 4194304 }
     ensures stands { SpotsMember spot of.now k result }
     ensures names { NamesOn spot result }
+    ensures steady { StaysSteady spot result }
 {
     narrowed(spot, member_at(of, k, entire(width(of))))
 }
@@ -75,6 +80,7 @@ pub fn element_spot(spot: Spot, of: &SvType, index: Option<i128>) -> Spot
     requires index { IfSome index (λ k. unsigned_abs k ≤ 2 ^ 65) }
     ensures stands { SpotsElement spot of.now index result }
     ensures names { NamesOn spot result }
+    ensures steady { StaysSteady spot result }
 {
     narrowed(spot, element_at(of, index, entire(width(of))))
 }

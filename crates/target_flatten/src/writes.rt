@@ -7,6 +7,7 @@ ghost use Rattle.sv_types.specs.Layouts.{width_of};
 ghost use Rattle.eval_parts.specs.Places.{IsNear};
 ghost use Rattle.target_flatten.specs.Writing.{WritesInner, WritesWhole, WritesBetween, MakesWrites};
 ghost use Rattle.target_flatten.specs.Naming.{NamesWrites};
+ghost use Rattle.target_flatten.specs.Owning.{AllOwn, PlainWrites, writes_made};
 
 use crate::aims::{Aim, aim_at};
 use crate::spots::{Spot, inside};
@@ -54,7 +55,8 @@ fn first_bit(inner: Window) -> u32
 
 /// At most one target, for so many bits of a value from bit `low` on.
 fn writes_of(alloc: Global, aim: Option<Aim>, low: u32, n: u32) -> Result<Writes, AllocError>
-    ensures { IfOk result (MakesWrites aim low n) }
+    ensures makes { IfOk result (MakesWrites aim low n) }
+    ensures is { IfOk result (λ xs. xs ≡ writes_made aim low n) }
 {
     let mut made: Writes = Items::from_vec(Vec::new(alloc));
     if let Some(aim) = aim {
@@ -77,8 +79,10 @@ fn inner_writes(
 ) -> Result<Writes, AllocError>
     requires near { IsNear inner.shift }
     requires room { image.now.room ≤ 128 }
-    ensures writes { IfOk result (WritesInner image.now.name image.now.bits spot inner image.now.room) }
+    ensures writes { IfOk result (WritesInner image.now.bits spot inner image.now.room) }
     ensures names { IfOk result (NamesWrites spot) }
+    ensures own { IfOk result (AllOwn image.now.name image.now.bits) }
+    ensures plain { IfOk result (PlainWrites image.now.name spot) }
 {
     if inner.high <= inner.low {
         return Ok(Items::from_vec(Vec::new(alloc)));
@@ -92,8 +96,10 @@ fn inner_writes(
 /// What is written of all of a path of so many bits that stands somewhere. Or want of memory.
 pub fn whole_writes(alloc: Global, image: &Image, spot: Spot, n: u32) -> Result<Writes, AllocError>
     requires room { image.now.room ≤ 128 }
-    ensures writes { IfOk result (WritesWhole image.now.name image.now.bits spot n image.now.room) }
+    ensures writes { IfOk result (WritesWhole image.now.bits spot n image.now.room) }
     ensures names { IfOk result (NamesWrites spot) }
+    ensures own { IfOk result (AllOwn image.now.name image.now.bits) }
+    ensures plain { IfOk result (PlainWrites image.now.name spot) }
 {
     let made = inner_writes(alloc, image, spot, entire(n))?;
     Ok(made)
@@ -110,8 +116,10 @@ pub fn between_writes(
 ) -> Result<Writes, AllocError>
     requires narrow { width_of of.now ≤ 4194304 }
     requires room { image.now.room ≤ 128 }
-    ensures writes { IfOk result (WritesBetween image.now.name image.now.bits spot of.now left right image.now.room) }
+    ensures writes { IfOk result (WritesBetween image.now.bits spot of.now left right image.now.room) }
     ensures names { IfOk result (NamesWrites spot) }
+    ensures own { IfOk result (AllOwn image.now.name image.now.bits) }
+    ensures plain { IfOk result (PlainWrites image.now.name spot) }
 {
     let inner = between_at(of, left, right, entire(width(of)));
     let made = inner_writes(alloc, image, spot, inner)?;

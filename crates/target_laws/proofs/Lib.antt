@@ -7,3 +7,4 @@ pub mod Rows
 pub mod Entire
 pub mod Elements
 pub mod Cells
+pub mod Vectors

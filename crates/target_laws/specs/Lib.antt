@@ -2,3 +2,4 @@ pub mod Seeing
 pub mod Standing
 pub mod Distances
 pub mod Elements
+pub mod Vectors

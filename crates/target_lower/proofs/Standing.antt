@@ -98,6 +98,7 @@ module _ (names : NameMap) (fs : List Function) (hs : List Helper) (e : Expr) (g
     root = stands;
     some = (let w = shown.image in let b = bits-are in let o = one in omega arith);
     number = sym shown.number;
+    in_order = shown.in_order;
     converted = converted (im.two_state typed.number) typed.number typed.of e typed.indices typed.part (record a { now = now }) typed.path fits shown.marks;
   }
 

@@ -76,7 +76,7 @@ changes-as im e gs x flattens ims r a sc v part shown vector small bits one room
       changes = λ bs long.
           subst (λ c. SameChanges ims c (pieces_put (pieces x.writes) sc v (stored (meaning e).of.two_state bs)))
           (sym (path-puts im.room im.bits a sc v e gs part path a bs ∙ ap (λ o. written_at o ((meaning e).window a) (stored (meaning e).of.two_state bs)) shown.root))
-          (path-changes ims shown.distinct (meaning e) a r shown.some (pieces x.writes) sc v own.tight shown.converted image bs long);
+          (path-changes ims shown.distinct (meaning e) a r shown.some shown.in_order (pieces x.writes) sc v own.tight shown.converted image bs long);
     }
 
 pub changes-all : (im : Image) (e : Expr) (gs : List Given) (q : Result Targets AllocError) → IfOk q (FlattensTo im e gs) → IfOk q (λ x. ChangesAs im e gs x.writes)

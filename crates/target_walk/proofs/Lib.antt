@@ -10,3 +10,4 @@ pub mod Changing
 pub mod Limiting
 pub mod Ways
 pub mod Ending
+pub mod Owning

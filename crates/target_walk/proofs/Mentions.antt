@@ -2,41 +2,34 @@
 use Rattle.std.proofs.Math.Seq.{drop-cons}
 use Rattle.std.proofs.Math.Numerals.{add-one}
 use Rattle.v_tree.specs.declared.expressions.VExpr.{VExpr}
-use Rattle.std.proofs.Common.{◌≡◌, ℕ, suc, get_or, IfOk, ◌+◌, ◌<◌, ◌≤◌, ◌^◌, Bool, true, false, ◌&&◌, ◌||◌, cond, ℤ, pos, length, take, drop, List, [], ◌∷◌, ◌++◌, append-nil, Option, Some, None, Result, Ok, Err, refl, arith, ap, sym, ◌∙◌, subst, true≢false}
+use Rattle.std.proofs.Common.{◌≡◌, ℕ, suc, get_or, IfOk, ◌+◌, ◌<◌, true, false, ◌&&◌, ◌||◌, ℤ, length, drop, List, [], ◌∷◌, ◌++◌, append-nil, Option, Some, None, Result, Ok, Err, refl, ap, sym, ◌∙◌, subst, true≢false}
 use Rattle.std.specs.declared.alloc.AllocError.{AllocError}
-use Rattle.b4_core.specs.declared.bit.Bit4.{Bit4}
 use Rattle.b4_core.specs.declared.bit.Bit4.TheVariants.{Zero}
 use Rattle.b4_core.specs.Bits.{is_one}
-use Rattle.row_machine.specs.Valuation.{Valuation, Place}
-use Rattle.row_machine.specs.Steps.{unchanged, later_or}
-use Rattle.picks.specs.Windows.{whole, part}
+use Rattle.row_machine.specs.Valuation.{Valuation}
 use Rattle.sv_types.specs.declared.expression.Expr.{Expr}
 use Rattle.sv_types.specs.Surroundings.{Around}
 use Rattle.sv_types.specs.Meanings as S
 use Rattle.sv_types.specs.Expressions.{meaning}
-use Rattle.sv_types.proofs.Picks.{picked-part}
 use Rattle.v_meaning.specs.Scopes.{Scope, named}
-use Rattle.v_meaning.specs.Statements.{target}
 use Rattle.v_meaning.specs.Values as T
-use Rattle.lowering_laws.specs.Reached.{Piece, pieces_put, IsWritten}
+use Rattle.lowering_laws.specs.Reached.{Piece}
 use Rattle.lowering_laws.proofs.Offsets.{holds-both}
-use Rattle.lowering_laws.proofs.WriteAt.{part-tight}
 use Rattle.path_flatten.specs.Naming.{SameNumbers}
 use Rattle.path_flatten.proofs.Naming.{same-itself, same-by, same-then, same-joined, same-twice}
-use Rattle.path_flatten.proofs.Sees.{stays-of}
-use Rattle.target_laws.specs.Standing.{IsVectorOf, IsKnown}
 use Rattle.target_flatten.specs.declared.writes.Image.{Image}
 use Rattle.target_flatten.specs.declared.writes.Write.{Write}
 use Rattle.target_flatten.specs.Naming.{piece_names, EachNames}
-use Rattle.target_flatten.specs.Writing.{piece as write_piece, pieces, WritesPath, IsAimed}
+use Rattle.target_flatten.specs.Owning.{AllOwn}
+use Rattle.target_flatten.specs.Writing.{piece as write_piece, pieces, pieces_in, WritesPath}
+use Rattle.target_flatten.proofs.Owning.{written-by-name}
 use Rattle.target_flatten.proofs.Naming.{both-guards, same-middle}
 use Rattle.target_walk.specs.declared.given.Given.{Given}
 use Rattle.target_walk.specs.declared.given.Given.TheVariants as G
 use Rattle.target_walk.specs.declared.never.Targets.{Targets}
 use Rattle.target_walk.specs.Giving.{all_names, given_names}
-use Rattle.target_walk.specs.Naming.{NamesAlso, IsNever, is_lowered, has_lowered, NamedApart, NamesFrom, all_piece_names, apart_names, Flattened, FlattensTo}
-use Rattle.target_walk.specs.Walking.{WritesAll}
-use Rattle.target_walk.proofs.Taking.{Steady, steady}
+use Rattle.target_walk.specs.Naming.{NamesAlso, IsNever, is_lowered, has_lowered, NamedApart, NamesFrom, all_piece_names, apart_names, FlattensTo, FlattensIn}
+use Rattle.target_walk.specs.Walking.{Written, WritesAll}
 
 -- conditions that are never 1
 zero-never : (sc : Scope) (v : Valuation) → is_one (T.truth (T.literal (Zero ∷ [])) sc v) ≡ false
@@ -115,15 +108,20 @@ each-all ns p [] sc h = same-then ns (piece_names p sc) (piece_names p sc ++ [])
 each-all ns p (q ∷ ps) sc h = same-twice ns (piece_names p sc) (all_piece_names (q ∷ ps) sc) h.0 (each-all ns q ps sc h.1)
 
 -- what is written in the end
-flattened-some : (im : Image) (e : Expr) (gs : List Given) (y : Write) (ys : List Write) (r : Targets) → WritesAll im e gs (y ∷ ys) → r.writes ≡ y ∷ ys → r.named ≡ None → FlattensTo im e gs r
-flattened-some im e gs y ys r writes all none a sc v p vector small bits one room typed path =
-    let h = writes p a sc v vector small one room typed path in
+-- by a name that stands for a vector
+by-name : (im : Image) (e : Expr) (gs : List Given) (xs : List Write) (a : Around) (sc : Scope) (v : Valuation) → AllOwn im.name im.bits xs → Written (named sc.names im.name) e gs xs a sc v
+    → WritesPath (named sc.names im.name) (meaning e) a (pieces xs) sc v
+by-name im e gs xs a sc v own h = written-by-name im.name im.bits sc ((meaning e).window a) (S.wide (meaning e)) xs v own h.path
+
+flattened-some : (im : Image) (e : Expr) (gs : List Given) (y : Write) (ys : List Write) (r : Targets) → WritesAll im e gs (y ∷ ys) → AllOwn im.name im.bits (y ∷ ys) → r.writes ≡ y ∷ ys → r.named ≡ None → FlattensTo im e gs r
+flattened-some im e gs y ys r writes own all none a sc v p vector small bits one room typed path =
+    let h = writes p (named sc.names im.name) a sc v (record { vector = vector.vector; width = vector.width }) small one room typed path in
     let ns = all_piece_names (pieces (y ∷ ys)) sc in
     let names : SameNumbers (all_names gs sc) (all_piece_names (pieces (y ∷ ys)) sc ++ []) =
     same-then (all_names gs sc) (all_piece_names (pieces (y ∷ ys)) sc) (all_piece_names (pieces (y ∷ ys)) sc ++ []) (each-all (all_names gs sc) (write_piece y) (pieces ys) sc h.names)
     (same-by ns (ns ++ []) (sym (append-nil ns))) in
     record {
-      path = subst (λ (zs : List Write). WritesPath im.name (meaning e) a (pieces zs) sc v) (sym all) h.path;
+      path = subst (λ (zs : List Write). WritesPath (named sc.names im.name) (meaning e) a (pieces zs) sc v) (sym all) (by-name im e gs (y ∷ ys) a sc v own h);
       names = subst (λ (zs : List Write). SameNumbers (all_names gs sc) (all_piece_names (pieces zs) sc ++ apart_names r.named sc)) (sym all)
           (subst (λ (o : Option VExpr). SameNumbers (all_names gs sc) (all_piece_names (pieces (y ∷ ys)) sc ++ apart_names o sc)) (sym none) names);
     }
@@ -136,23 +134,34 @@ apart-named : (gs : List Given) (o : Option VExpr) (sc : Scope) → NamedApart g
 apart-named gs None sc none = same-by (all_names gs sc) [] (none-lowered gs sc none)
 apart-named gs (Some m) sc never = never.names sc
 
-flattened-none : (im : Image) (e : Expr) (gs : List Given) (r : Targets) → WritesAll im e gs [] → r.writes ≡ [] → NamedApart gs [] r.named → FlattensTo im e gs r
-flattened-none im e gs r writes all apart a sc v p vector small bits one room typed path =
-    let h = writes p a sc v vector small one room typed path in
+flattened-none : (im : Image) (e : Expr) (gs : List Given) (r : Targets) → WritesAll im e gs [] → AllOwn im.name im.bits [] → r.writes ≡ [] → NamedApart gs [] r.named → FlattensTo im e gs r
+flattened-none im e gs r writes own all apart a sc v p vector small bits one room typed path =
+    let h = writes p (named sc.names im.name) a sc v (record { vector = vector.vector; width = vector.width }) small one room typed path in
     record {
-      path = subst (λ (zs : List Write). WritesPath im.name (meaning e) a (pieces zs) sc v) (sym all) h.path;
+      path = subst (λ (zs : List Write). WritesPath (named sc.names im.name) (meaning e) a (pieces zs) sc v) (sym all) (by-name im e gs [] a sc v own h);
       names = subst (λ (zs : List Write). SameNumbers (all_names gs sc) (all_piece_names (pieces zs) sc ++ apart_names r.named sc)) (sym all) (apart-named gs r.named sc apart);
     }
 
-pub flattened : (im : Image) (e : Expr) (gs : List Given) (q : Result (List Write) AllocError) (r : Targets) → IfOk q (WritesAll im e gs) → NamesFrom gs q r → FlattensTo im e gs r
-flattened im e gs (Err x) r writes names = absurd names
-flattened im e gs (Ok (y ∷ ys)) r writes names = flattened-some im e gs y ys r writes names.0 (none-apart gs y ys r.named names.1)
-flattened im e gs (Ok []) r writes names = flattened-none im e gs r writes names.0 names.1
+pub flattened : (im : Image) (e : Expr) (gs : List Given) (q : Result (List Write) AllocError) (r : Targets) → IfOk q (WritesAll im e gs) → IfOk q (AllOwn im.name im.bits) → NamesFrom gs q r
+    → FlattensTo im e gs r
+flattened im e gs (Err x) r writes own names = absurd names
+flattened im e gs (Ok (y ∷ ys)) r writes own names = flattened-some im e gs y ys r writes own names.0 (none-apart gs y ys r.named names.1)
+flattened im e gs (Ok []) r writes own names = flattened-none im e gs r writes own names.0 names.1
+
+flattened-in : (im : Image) (e : Expr) (gs : List Given) (q : Result (List Write) AllocError) (r : Targets) → IfOk q (WritesAll im e gs) → NamesFrom gs q r → FlattensIn im e gs r
+flattened-in im e gs (Err x) r writes names vec a sc v p vector small one room typed path = absurd names
+flattened-in im e gs (Ok xs) r writes names vec a sc v p vector small one room typed path =
+    subst (λ (zs : List Write). WritesPath vec (meaning e) a (pieces_in vec zs) sc v) (sym names.0) (writes p vec a sc v vector small one room typed path).path
 
 -- and from what may want memory
-pub flattened-all : (im : Image) (e : Expr) (gs : List Given) (q : Result (List Write) AllocError) (r : Result Targets AllocError) → IfOk q (WritesAll im e gs) → IfOk r (NamesFrom gs q) → IfOk r (FlattensTo im e gs)
-flattened-all im e gs q (Ok x) writes names = flattened im e gs q x writes names
-flattened-all im e gs q (Err x) writes names = tt
+pub flattened-all : (im : Image) (e : Expr) (gs : List Given) (q : Result (List Write) AllocError) (r : Result Targets AllocError) → IfOk q (WritesAll im e gs) → IfOk q (AllOwn im.name im.bits)
+    → IfOk r (NamesFrom gs q) → IfOk r (FlattensTo im e gs)
+flattened-all im e gs q (Ok x) writes own names = flattened im e gs q x writes own names
+flattened-all im e gs q (Err x) writes own names = tt
+
+pub all-flattened-in : (im : Image) (e : Expr) (gs : List Given) (q : Result (List Write) AllocError) (r : Result Targets AllocError) → IfOk q (WritesAll im e gs) → IfOk r (NamesFrom gs q) → IfOk r (FlattensIn im e gs)
+all-flattened-in im e gs q (Ok x) writes names = flattened-in im e gs q x writes names
+all-flattened-in im e gs q (Err x) writes names = tt
 
 -- a list of indices from one on
 pub at-front : (gs : List Given) (i : ℕ) (g : Given) → i < length gs → g ≡ get_or gs i g → drop i gs ≡ g ∷ drop (i + 1) gs

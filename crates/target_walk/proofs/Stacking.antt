@@ -12,13 +12,13 @@ use Rattle.sv_types.specs.Surroundings.{Around}
 use Rattle.sv_types.specs.Meanings as S
 use Rattle.sv_types.specs.Expressions.{meaning}
 use Rattle.sv_types.proofs.Heads.{heads}
-use Rattle.v_meaning.specs.Scopes.{Scope, named}
+use Rattle.v_meaning.specs.Scopes.{Scope, Named}
 use Rattle.eval_parts.specs.declared.layouts.Bounds.{Bounds}
 use Rattle.lowering_laws.specs.Reached.{Piece, IsWritten}
 use Rattle.lowering_laws.proofs.Changes.{raised}
 use Rattle.lowering_laws.proofs.WriteAt.{IsTight}
 use Rattle.path_flatten.proofs.Sees.{stays-of}
-use Rattle.target_laws.specs.Standing.{IsVectorOf}
+use Rattle.target_laws.specs.Vectors.{IsVector}
 use Rattle.target_laws.proofs.Cells.{lowest_bits, no-cells, next-cell, all-cells}
 use Rattle.target_laws.proofs.Clipping.{none-clipped}
 use Rattle.target_laws.proofs.Filling.{element-stays}
@@ -28,14 +28,34 @@ use Rattle.target_flatten.specs.declared.writes.Image.{Image}
 use Rattle.target_flatten.specs.declared.writes.Write.{Write}
 use Rattle.target_flatten.specs.Naming.{SpotNames, EachNames, NamesAimAt}
 use Rattle.target_flatten.specs.Spots.{IsSpot}
-use Rattle.target_flatten.specs.Writing.{pieces, aimed, IsAimed, AimsAt}
+use Rattle.target_flatten.specs.Owning.{writes_made}
+use Rattle.target_flatten.specs.Writing.{piece, piece_in, pieces, pieces_in, aimed, aimed_in, IsAimed, AimsAt}
 use Rattle.target_walk.specs.declared.given.Given.{Given}
 use Rattle.target_walk.specs.declared.given.Given.TheVariants as G
 use Rattle.target_walk.specs.Giving.{all_names}
 use Rattle.target_walk.specs.Walking.{Indexed, StandsAt, WritesAs}
-use Rattle.target_walk.specs.Cells.{counts_at_most, HasRankIn, cell_pieces, AddsCell, AddsElement, LowestWritten, WritesLowest}
+use Rattle.target_walk.specs.Cells.{counts_at_most, HasRankIn, AddsCell, AddsElement, LowestWritten, WritesLowest}
 use Rattle.target_walk.proofs.Taking.{Steady, steady, whole-of}
 use Rattle.target_walk.proofs.Arms.{element-path}
+
+-- the target of an element, and what is added to others
+abbrev pub cell_pieces : Option Aim → ℕ → ℕ → List Piece
+cell_pieces None low n = []
+cell_pieces (Some x) low n = record (aimed x n) { low = low } ∷ []
+
+abbrev pub cell_in : Named → Option Aim → ℕ → ℕ → List Piece
+cell_in vec None low n = []
+cell_in vec (Some x) low n = record (aimed_in vec x n) { low = low } ∷ []
+
+added : (xs : List Write) (x : Option Aim) (low n : ℕ) → pieces (xs ++ writes_made x low n) ≡ pieces xs ++ cell_pieces x low n
+added [] None low n = refl
+added [] (Some x) low n = refl
+added (y ∷ xs) x low n = ap (λ ps. piece y ∷ ps) (added xs x low n)
+
+added-in : (vec : Named) (xs : List Write) (x : Option Aim) (low n : ℕ) → pieces_in vec (xs ++ writes_made x low n) ≡ pieces_in vec xs ++ cell_in vec x low n
+added-in vec [] None low n = refl
+added-in vec [] (Some x) low n = refl
+added-in vec (y ∷ xs) x low n = ap (λ ps. piece_in vec y ∷ ps) (added-in vec xs x low n)
 
 -- lists of targets
 pub each-append : (ns : List ℕ) (ps qs : List Piece) (sc : Scope) → EachNames ns ps sc → EachNames ns qs sc → EachNames ns (ps ++ qs) sc
@@ -55,8 +75,8 @@ rank-is of b t k left right h = sym (λ i. cond (int_le (right i) (left i)) (k -
 
 -- no elements
 pub lowest-none : (im : Image) (e : Expr) (gs : List Given) → WritesLowest im e gs 0 []
-lowest-none im e gs a sc v vector small one room typed path few =
-    record { path = no-cells (length (layout e.of).element.two_state) ((meaning e).window a) (named sc.names im.name).number sc v; names = tt }
+lowest-none im e gs vec a sc v vector small one room typed path few =
+    record { path = no-cells (length (layout e.of).element.two_state) ((meaning e).window a) vec.number sc v; names = tt }
 
 -- one more
 module _ (im : Image) (e : Expr) (gs : List Given) (t low item : ℕ) (k : ℤ) (b : Bounds) (s : Spot) (xs ys : List Write) (left : b.left ≡ (layout e.of).left) (right : b.right ≡ (layout e.of).right)
@@ -65,10 +85,10 @@ module _ (im : Image) (e : Expr) (gs : List Given) (t low item : ℕ) (k : ℤ) 
   abbrev w : ℕ
   w = length (layout e.of).element.two_state
 
-  module _ (a : Around) (sc : Scope) (v : Valuation) (vector : IsVectorOf im.name im.bits sc) (small : im.bits < 2 ^ 32) (one : 1 ≤ im.room) (room : im.bits < 2 ^ im.room) (typed : (meaning e).misfits ≡ 0)
+  module _ (vec : Named) (a : Around) (sc : Scope) (v : Valuation) (vector : IsVector vec im.bits) (small : im.bits < 2 ^ 32) (one : 1 ≤ im.room) (room : im.bits < 2 ^ im.room) (typed : (meaning e).misfits ≡ 0)
       (path : Indexed im.room im.bits a sc v e gs true) (few : suc t ≤ count_of (layout e.of).left (layout e.of).right) where
     abbrev image : ℕ
-    image = (named sc.names im.name).number
+    image = vec.number
 
     abbrev d : S.Meaning
     d = element-path (meaning e) (Some k)
@@ -100,54 +120,55 @@ module _ (im : Image) (e : Expr) (gs : List Given) (t low item : ℕ) (k : ℤ) 
             absurd (omega arith)
         by (suc n) is = omega arith
 
-    here : (x : Option Aim) → AimsAt im.name im.bits s item im.room x → IsWritten (d.window a) w image (cell_pieces x 0 item) sc v
+    here : (x : Option Aim) → AimsAt im.bits s item im.room x → IsWritten (d.window a) w image (cell_in vec x 0 item) sc v
     here None aims =
         none-clipped (d.window a) w image sc v (subst (λ (l : Layout). IsTight (element_of l (Some k) ((meaning e).window a)) w) (sym (heads e).kind) (element-stays (layout e.of) (Some k) ((meaning e).window a)))
         (λ j less. aims d a sc v spot.0 j (let same = kind-wide in omega arith))
     here (Some x) aims =
         let tight : IsTight (d.window a) w = subst (λ (l : Layout). IsTight (element_of l (Some k) ((meaning e).window a)) w) (sym (heads e).kind) (element-stays (layout e.of) (Some k) ((meaning e).window a)) in
-        let aim : IsAimed im.name im.bits item d a sc = record {
+        let aim : IsAimed vec im.bits item d a = record {
           wide = kind-wide ∙ sym size;
           some = (let more = some in omega arith);
           stays = stays-of (d.window a) item (subst (IsTight (d.window a)) (sym size) tight);
           vector = vector;
           small = small;
         } in
-        subst (λ n. IsWritten (d.window a) n image (aimed x item ∷ []) sc v) kind-wide (aims d a sc v aim one room spot.0)
+        subst (λ n. IsWritten (d.window a) n image (aimed_in vec x item ∷ []) sc v) kind-wide (aims vec d a sc v aim one room spot.0)
 
     low-is : t * w + 0 ≡ low
     low-is = (let less = fits in omega arith)
 
-    raised-is : (x : Option Aim) → raised (t * w) (cell_pieces x 0 item) ≡ cell_pieces x low item
+    raised-is : (x : Option Aim) → raised (t * w) (cell_in vec x 0 item) ≡ cell_in vec x low item
     raised-is None = refl
-    raised-is (Some x) = ap (λ n. record (aimed x item) { low = n } ∷ []) low-is
+    raised-is (Some x) = ap (λ n. record (aimed_in vec x item) { low = n } ∷ []) low-is
 
     names-of : (x : Option Aim) → NamesAimAt s x → EachNames (all_names gs sc) (cell_pieces x low item) sc
     names-of None h = tt
     names-of (Some x) h = (h (all_names gs sc) sc spot.1, tt)
 
-    pub next-written : LowestWritten im e gs (suc t) ys a sc v
+    pub next-written : LowestWritten im e gs (suc t) ys vec a sc v
     next-written =
-        let old = before a sc v vector small one room typed path (omega arith) in
+        let old = before vec a sc v vector small one room typed path (omega arith) in
         let at = rank-is (layout e.of) b t k left right ranked in
         let inside : (int_le (pos 0) (rank (layout e.of) k) && int_lt (rank (layout e.of) k) (pos (count_of (layout e.of).left (layout e.of).right))) ≡ true =
         ap (λ r. int_le (pos 0) r && int_lt r (pos (count_of (layout e.of).left (layout e.of).right))) at ∙ there t (count_of (layout e.of).left (layout e.of).right) (omega arith) in
-        let cell : IsWritten (element_of (layout e.of) (Some k) ((meaning e).window a)) w image (cell_pieces adds.aim 0 item) sc v =
-        subst (λ (l : Layout). IsWritten (element_of l (Some k) ((meaning e).window a)) w image (cell_pieces adds.aim 0 item) sc v) (heads e).kind (here adds.aim adds.aims) in
-        let all = next-cell (layout e.of) t k ((meaning e).window a) image (pieces xs) (cell_pieces adds.aim 0 item) sc v at inside old.path cell in
-        let same : pieces xs ++ raised (t * w) (cell_pieces adds.aim 0 item) ≡ pieces ys = ap (λ qs. pieces xs ++ qs) (raised-is adds.aim) ∙ sym adds.is in
+        let cell : IsWritten (element_of (layout e.of) (Some k) ((meaning e).window a)) w image (cell_in vec adds.aim 0 item) sc v =
+        subst (λ (l : Layout). IsWritten (element_of l (Some k) ((meaning e).window a)) w image (cell_in vec adds.aim 0 item) sc v) (heads e).kind (here adds.aim adds.aims) in
+        let all = next-cell (layout e.of) t k ((meaning e).window a) image (pieces_in vec xs) (cell_in vec adds.aim 0 item) sc v at inside old.path cell in
+        let same : pieces_in vec xs ++ raised (t * w) (cell_in vec adds.aim 0 item) ≡ pieces_in vec ys = ap (λ qs. pieces_in vec xs ++ qs) (raised-is adds.aim) ∙ sym (ap (pieces_in vec) adds.is ∙ added-in vec xs adds.aim low item) in
+        let also : pieces xs ++ cell_pieces adds.aim low item ≡ pieces ys = sym (ap pieces adds.is ∙ added xs adds.aim low item) in
         record {
           path = subst (λ ps. IsWritten (lowest_bits (suc t * w) ((meaning e).window a)) (suc t * w) image ps sc v) same all;
-          names = subst (λ ps. EachNames (all_names gs sc) ps sc) (sym adds.is) (each-append (all_names gs sc) (pieces xs) (cell_pieces adds.aim low item) sc old.names (names-of adds.aim adds.names));
+          names = subst (λ ps. EachNames (all_names gs sc) ps sc) also (each-append (all_names gs sc) (pieces xs) (cell_pieces adds.aim low item) sc old.names (names-of adds.aim adds.names));
         }
 
   pub lowest-next : WritesLowest im e gs (suc t) ys
-  lowest-next a sc v vector small one room typed path few = next-written a sc v vector small one room typed path few
+  lowest-next vec a sc v vector small one room typed path few = next-written vec a sc v vector small one room typed path few
 
 -- all of them
 pub lowest-all : (im : Image) (e : Expr) (gs : List Given) (n : ℕ) (l r : ℤ) (xs : List Write) → l ≡ (layout e.of).left → r ≡ (layout e.of).right → n ≡ counts_at_most l r → S.wide (meaning e) ≤ 4194304
     → WritesLowest im e gs n xs → WritesAs im e gs true xs
-lowest-all im e gs n l r xs left right count narrow lowest a sc v vector small one room typed path =
+lowest-all im e gs n l r xs left right count narrow lowest vec a sc v vector small one room typed path =
     let own = steady im.room im.bits a sc v e gs true path typed in
     let w = length (layout e.of).element.two_state in
     let c = count_of (layout e.of).left (layout e.of).right in
@@ -155,11 +176,11 @@ lowest-all im e gs n l r xs left right count narrow lowest a sc v vector small o
     let few = counts (count_of (layout e.of).left (layout e.of).right) (length (layout e.of).element.two_state) (S.wide (meaning e)) all own.some in
     let far : unsigned_abs (l -ℤ r) + 1 ≡ count_of (layout e.of).left (layout e.of).right = λ i. count_of (left i) (right i) in
     let same : n ≡ count_of (layout e.of).left (layout e.of).right = omega arith in
-    let h = lowest a sc v vector small one room typed path (omega arith) in
+    let h = lowest vec a sc v vector small one room typed path (omega arith) in
     let full : n * length (layout e.of).element.two_state ≡ S.wide (meaning e) = ap (λ k. k * length (layout e.of).element.two_state) same ∙ all in
     record {
-      path = all-cells (S.wide (meaning e)) ((meaning e).window a) (named sc.names im.name).number (pieces xs) sc v own.tight
-          (subst (λ k. IsWritten (lowest_bits k ((meaning e).window a)) k (named sc.names im.name).number (pieces xs) sc v) full h.path);
+      path = all-cells (S.wide (meaning e)) ((meaning e).window a) vec.number (pieces_in vec xs) sc v own.tight
+          (subst (λ k. IsWritten (lowest_bits k ((meaning e).window a)) k vec.number (pieces_in vec xs) sc v) full h.path);
       names = h.names;
     }
   where

@@ -5,7 +5,7 @@ use Rattle.sv_types.specs.declared.expression.Expr.{Expr}
 use Rattle.sv_types.specs.Surroundings.{Around}
 use Rattle.sv_types.specs.Expressions.{meaning}
 use Rattle.v_meaning.specs.Scopes.{Scope, named}
-use Rattle.lowering_laws.specs.Agreeing.{Images, AreDistinct}
+use Rattle.lowering_laws.specs.Agreeing.{Images, IsInOrder, AreDistinct}
 use Rattle.lowering_laws.specs.Held.{IsConverted}
 use Rattle.lowering_laws.proofs.Changes.{HasPieces}
 use Rattle.target_laws.specs.Standing.{IsVectorOf}
@@ -20,6 +20,7 @@ pub record IsShownBy (im : Image) (ims : Images) (r : ℕ) (e : Expr) (a : Aroun
   pub distinct : AreDistinct ims
   pub root : (meaning e).root ≡ Some r
   pub some : 0 < ims.width r
+  pub in_order : IsInOrder ims r
   pub number : ims.number r ≡ (named sc.names im.name).number
   pub converted : IsConverted (ims.two_state r) (meaning e) a
 

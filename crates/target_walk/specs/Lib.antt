@@ -4,3 +4,4 @@ pub mod Cells
 pub mod Naming
 pub mod Rooms
 pub mod Changing
+pub mod Owning

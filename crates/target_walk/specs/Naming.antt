@@ -7,15 +7,16 @@ use Rattle.sv_types.specs.declared.expression.Expr.{Expr}
 use Rattle.sv_types.specs.Surroundings.{Around}
 use Rattle.sv_types.specs.Expressions.{meaning}
 use Rattle.v_tree.specs.declared.expressions.VExpr.{VExpr}
-use Rattle.v_meaning.specs.Scopes.{Scope}
+use Rattle.v_meaning.specs.Scopes.{Scope, Named, named}
 use Rattle.v_meaning.specs.Values as T
 use Rattle.lowering_laws.specs.Reached.{Piece}
 use Rattle.path_flatten.specs.Naming.{SameNumbers}
 use Rattle.target_laws.specs.Standing.{IsVectorOf}
+use Rattle.target_laws.specs.Vectors.{IsVector}
 use Rattle.target_flatten.specs.declared.writes.Image.{Image}
 use Rattle.target_flatten.specs.declared.writes.Write.{Write}
 use Rattle.target_flatten.specs.Naming.{piece_names}
-use Rattle.target_flatten.specs.Writing.{pieces, WritesPath}
+use Rattle.target_flatten.specs.Writing.{pieces, pieces_in, WritesPath}
 use Rattle.target_walk.specs.declared.given.Given.{Given}
 use Rattle.target_walk.specs.declared.given.Given.TheVariants as G
 use Rattle.target_walk.specs.declared.never.Targets.{Targets}
@@ -66,10 +67,15 @@ target_names r sc = all_piece_names (pieces r.writes) sc ++ apart_names r.named 
 
 -- Targets write a path, and they and an expression apart name what its indices do.
 pub record Flattened (im : Image) (e : Expr) (gs : List Given) (r : Targets) (a : Around) (sc : Scope) (v : Valuation) : Type 0 where
-  pub path : WritesPath im.name (meaning e) a (pieces r.writes) sc v
+  pub path : WritesPath (named sc.names im.name) (meaning e) a (pieces r.writes) sc v
   pub names : SameNumbers (all_names gs sc) (target_names r sc)
 
 -- so they do for each path with these indices
 abbrev pub FlattensTo : Image → Expr → List Given → Targets → Type 0
 FlattensTo im e gs r = (a : Around) (sc : Scope) (v : Valuation) (part : Bool) → IsVectorOf im.name im.bits sc → im.bits < 2 ^ 32 → 1 ≤ im.bits → 1 ≤ im.room → im.bits < 2 ^ im.room
     → (meaning e).misfits ≡ 0 → Indexed im.room im.bits a sc v e gs part → Flattened im e gs r a sc v
+
+-- The selects of targets write a path in each vector of the image's bits, whatever the name: so they do in a word of a memory.
+abbrev pub FlattensIn : Image → Expr → List Given → Targets → Type 0
+FlattensIn im e gs r = (vec : Named) (a : Around) (sc : Scope) (v : Valuation) (part : Bool) → IsVector vec im.bits → im.bits < 2 ^ 32 → 1 ≤ im.room → im.bits < 2 ^ im.room
+    → (meaning e).misfits ≡ 0 → Indexed im.room im.bits a sc v e gs part → WritesPath vec (meaning e) a (pieces_in vec r.writes) sc v

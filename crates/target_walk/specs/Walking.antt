@@ -11,17 +11,17 @@ use Rattle.sv_types.specs.Surroundings.{Around}
 use Rattle.sv_types.specs.Meanings as S
 use Rattle.sv_types.specs.Paths as P
 use Rattle.sv_types.specs.Expressions.{meaning}
-use Rattle.v_meaning.specs.Scopes.{Scope}
+use Rattle.v_meaning.specs.Scopes.{Scope, Named}
 use Rattle.v_meaning.specs.Values as T
 use Rattle.path_flatten.specs.Reading.{StaysIn}
 use Rattle.target_laws.specs.Elements.{IsElementOf, IsPartOf, IsSlideOf, far_from}
-use Rattle.target_laws.specs.Standing.{IsVectorOf}
+use Rattle.target_laws.specs.Vectors.{IsVector}
 use Rattle.target_flatten.specs.declared.spots.Spot.{Spot}
 use Rattle.target_flatten.specs.declared.writes.Image.{Image}
 use Rattle.target_flatten.specs.declared.writes.Write.{Write}
 use Rattle.target_flatten.specs.Naming.{SpotNames, EachNames, NamesOn}
 use Rattle.target_flatten.specs.Spots.{IsSpot, SpotsMember}
-use Rattle.target_flatten.specs.Writing.{pieces, WritesPath}
+use Rattle.target_flatten.specs.Writing.{pieces, pieces_in, WritesPath}
 use Rattle.target_walk.specs.declared.given.Given.{Given}
 use Rattle.target_walk.specs.declared.given.Given.TheVariants as G
 use Rattle.target_walk.specs.Giving.{IsGiven, all_names, moved_given, FitsAt}
@@ -78,15 +78,15 @@ IsMemberFrom (Err x) t k s = ⊥
 abbrev pub TellsPart : Bool → Expr → Type 0
 TellsPart b e = (w bits : ℕ) (a : Around) (sc : Scope) (v : Valuation) (gs : List Given) (part : Bool) → Indexed w bits a sc v e gs part → part ≡ b
 
--- targets write a path, and each of them names what its indices do
-pub record Written (im : Image) (e : Expr) (gs : List Given) (xs : List Write) (a : Around) (sc : Scope) (v : Valuation) : Type 0 where
-  pub path : WritesPath im.name (meaning e) a (pieces xs) sc v
+-- targets write a path in a vector, and each of them names what its indices do
+pub record Written (vec : Named) (e : Expr) (gs : List Given) (xs : List Write) (a : Around) (sc : Scope) (v : Valuation) : Type 0 where
+  pub path : WritesPath vec (meaning e) a (pieces_in vec xs) sc v
   pub names : EachNames (all_names gs sc) (pieces xs) sc
 
 -- the same of each path whose last step is a part-select, or isn't
 abbrev pub WritesAs : Image → Expr → List Given → Bool → List Write → Type 0
-WritesAs im e gs part xs = (a : Around) (sc : Scope) (v : Valuation) → IsVectorOf im.name im.bits sc → im.bits < 2 ^ 32 → 1 ≤ im.room → im.bits < 2 ^ im.room → (meaning e).misfits ≡ 0
-    → Indexed im.room im.bits a sc v e gs part → Written im e gs xs a sc v
+WritesAs im e gs part xs = (vec : Named) (a : Around) (sc : Scope) (v : Valuation) → IsVector vec im.bits → im.bits < 2 ^ 32 → 1 ≤ im.room → im.bits < 2 ^ im.room → (meaning e).misfits ≡ 0
+    → Indexed im.room im.bits a sc v e gs part → Written vec e gs xs a sc v
 
 abbrev pub WritesAll : Image → Expr → List Given → List Write → Type 0
 WritesAll im e gs xs = (part : Bool) → WritesAs im e gs part xs

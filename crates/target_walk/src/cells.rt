@@ -2,9 +2,11 @@
 
 ghost use Rattle.std.specs.Prelude.{◌≡◌, ◌≤◌, ◌^◌, unsigned_abs, true, Some, IfOk, OnOk};
 ghost use Rattle.sv_types.specs.Expressions.{meaning};
+ghost use Rattle.target_flatten.specs.Owning.{AllOwn};
 ghost use Rattle.target_walk.specs.Giving.{AllSmall};
 ghost use Rattle.target_walk.specs.Cells.{AddsCell, AddsElement, HasRankIn, counts_at_most};
 ghost use Rattle.target_walk.specs.declared.given.Given.TheVariants as givens;
+ghost use Rattle.target_walk.specs.Owning.{KeepsOwn, KeepsPlain, KeepsPlainOf, PlainOf, SteadyAt};
 ghost use Rattle.target_walk.specs.Walking.{StandsAt, WritesAs};
 
 use crate::given::{Element, Given};
@@ -45,7 +47,9 @@ fn add_cell(
     writes: &mut Writes,
 ) -> Result<(), AllocError>
     requires room { image.now.room ≤ 128 }
-    ensures { OnOk result (AddsCell image.now spot low n writes.old writes.new) }
+    ensures adds { OnOk result (AddsCell image.now spot low n writes.old writes.new) }
+    ensures own { OnOk result (KeepsOwn image.now writes.old writes.new) }
+    ensures plain { OnOk result (KeepsPlain image.now spot writes.old writes.new) }
 {
     if let Some(aim) = aim_at(alloc, image, spot, n)? {
         writes.push(Write {
@@ -70,7 +74,8 @@ fn element_place(
     requires room { room ≤ 128 }
     requires small { AllSmall indices.now }
     requires near { unsigned_abs k ≤ 2 ^ 64 }
-    ensures { IfOk result (StandsAt e.now indices.now (Some (givens.Known (Some k))) room) }
+    ensures stands { IfOk result (StandsAt e.now indices.now (Some (givens.Known (Some k))) room) }
+    ensures steady { IfOk result (SteadyAt indices.now (Some (givens.Known (Some k)))) }
 {
     spot_at(alloc, e, indices, Some(Element::Known(k)), room)
 }
@@ -90,7 +95,9 @@ fn add_element(
     requires room { image.now.room ≤ 128 }
     requires small { AllSmall indices.now }
     requires near { unsigned_abs k ≤ 2 ^ 64 }
-    ensures { OnOk result (AddsElement image.now e.now indices.now k low n writes.old writes.new) }
+    ensures adds { OnOk result (AddsElement image.now e.now indices.now k low n writes.old writes.new) }
+    ensures own { OnOk result (KeepsOwn image.now writes.old writes.new) }
+    ensures plain { OnOk result (KeepsPlainOf image.now indices.now writes.old writes.new) }
 {
     let spot = element_place(alloc, e, indices, k, image.room)?;
     add_cell(alloc, image, spot, low, n, writes)
@@ -106,7 +113,9 @@ pub(crate) fn cells(
     requires narrow { (meaning e.now).widest ≤ 4194304 }
     requires room { image.now.room ≤ 128 }
     requires small { AllSmall indices.now }
-    ensures { IfOk result (WritesAs image.now e.now indices.now true) }
+    ensures writes { IfOk result (WritesAs image.now e.now indices.now true) }
+    ensures own { IfOk result (AllOwn image.now.name image.now.bits) }
+    ensures plain { IfOk result (PlainOf image.now indices.now) }
 {
     let bounds = bounds_of(&e.of);
     let mut writes: Writes = Writes::new(alloc);

@@ -1,10 +1,11 @@
 //! What is named by a path of which nothing is written (IEEE 1800-2017 clause 9.4.2.2).
 
-ghost use Rattle.std.specs.Prelude.{◌≡◌, [], ◌∷◌, IfOk};
+ghost use Rattle.std.specs.Prelude.{◌≡◌, [], ◌∷◌, None, IfOk};
 ghost use Rattle.b4_core.specs.declared.bit.Bit4.TheVariants.{Zero};
 ghost use Rattle.v_meaning.specs.Values as means;
 ghost use Rattle.v_meaning.specs.Values.{meaning};
 ghost use Rattle.target_walk.specs.Naming.{IsNever, NamesAlso, is_lowered, has_lowered, NamesFrom};
+ghost use Rattle.target_walk.specs.Owning.{AllFixed};
 
 use crate::given::Given;
 use b4_core::{Bit4, Vec4};
@@ -88,7 +89,8 @@ pub(crate) fn with_names(
     indices: &[Given],
     writes: Result<Writes, AllocError>,
 ) -> Result<Targets, AllocError>
-    ensures { IfOk result (NamesFrom indices.now writes) }
+    ensures names { IfOk result (NamesFrom indices.now writes) }
+    ensures bare { IfOk result (λ r. AllFixed indices.now → r.named ≡ None) }
 {
     let writes = writes?;
     if writes.is_empty() && any_lowered(indices) {

@@ -2,10 +2,12 @@
 
 ghost use Rattle.std.specs.Prelude.{◌≤◌, false, IfOk};
 ghost use Rattle.sv_types.specs.Expressions.{meaning};
+ghost use Rattle.target_flatten.specs.Owning.{AllOwn};
 ghost use Rattle.target_walk.specs.Giving.{AllSmall};
 ghost use Rattle.target_walk.specs.Walking.{WritesAs, WritesAll, TellsPart};
-ghost use Rattle.target_walk.specs.Naming.{FlattensTo};
+ghost use Rattle.target_walk.specs.Naming.{FlattensIn, FlattensTo};
 ghost use Rattle.target_walk.specs.Changing.{ChangesAs};
+ghost use Rattle.target_walk.specs.Owning.{BareOf, PlainOf};
 
 use crate::cells::cells;
 use crate::given::Given;
@@ -41,7 +43,9 @@ fn whole_path(
     requires narrow { (meaning e.now).widest ≤ 4194304 }
     requires room { image.now.room ≤ 128 }
     requires small { AllSmall indices.now }
-    ensures { IfOk result (WritesAs image.now e.now indices.now false) }
+    ensures writes { IfOk result (WritesAs image.now e.now indices.now false) }
+    ensures own { IfOk result (AllOwn image.now.name image.now.bits) }
+    ensures plain { IfOk result (PlainOf image.now indices.now) }
 {
     let spot = spot_at(alloc, e, indices, None, image.room)?;
     whole_writes(alloc, image, spot, width(&e.of))
@@ -57,7 +61,9 @@ fn path_writes(
     requires narrow { (meaning e.now).widest ≤ 4194304 }
     requires room { image.now.room ≤ 128 }
     requires small { AllSmall indices.now }
-    ensures { IfOk result (WritesAll image.now e.now indices.now) }
+    ensures writes { IfOk result (WritesAll image.now e.now indices.now) }
+    ensures own { IfOk result (AllOwn image.now.name image.now.bits) }
+    ensures plain { IfOk result (PlainOf image.now indices.now) }
 {
     if let Some(Step::Part { from, left, right }) = step_of(e) {
         if !ends_in_part(from) {
@@ -85,7 +91,10 @@ pub fn flatten_target(
     requires room { image.now.room ≤ 128 }
     requires small { AllSmall indices.now }
     ensures writes { IfOk result (FlattensTo image.now e.now indices.now) }
+    ensures inside { IfOk result (FlattensIn image.now e.now indices.now) }
     ensures changes { IfOk result (λ r. ChangesAs image.now e.now indices.now r.writes) }
+    ensures own { IfOk result (λ r. AllOwn image.now.name image.now.bits r.writes) }
+    ensures plain { IfOk result (BareOf image.now indices.now) }
 {
     with_names(alloc, indices, path_writes(alloc, image, e, indices))
 }

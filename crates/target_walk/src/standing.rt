@@ -4,6 +4,7 @@ ghost use Rattle.std.specs.Prelude.{◌≤◌, Some, IfOk};
 ghost use Rattle.sv_types.specs.Layouts.{width_of};
 ghost use Rattle.sv_types.specs.Expressions.{meaning};
 ghost use Rattle.target_walk.specs.Giving.{AllSmall, IsClose, IsCloseIf, given_of, given_if};
+ghost use Rattle.target_walk.specs.Owning.{SteadyAt, SteadyChosen, SteadyElement, SteadyMember};
 ghost use Rattle.target_walk.specs.Walking.{StandsAt, Chooses, ChoosesFrom, IsMemberFrom};
 
 use crate::given::{Element, Given, element_of, gone_on, kept};
@@ -23,7 +24,8 @@ fn element_in(
     requires narrow { width_of of.now ≤ 4194304 }
     requires room { room ≤ 128 }
     requires close { IsClose (given_of given) }
-    ensures { IfOk result (Chooses spot of.now (Some (given_of given.entry)) room) }
+    ensures chooses { IfOk result (Chooses spot of.now (Some (given_of given.entry)) room) }
+    ensures steady { IfOk result (SteadyElement spot (given_of given.entry)) }
 {
     match given {
         Element::Known(k) => Ok(element_spot(spot, of, Some(k))),
@@ -42,7 +44,8 @@ fn chosen(
     requires narrow { width_of of.now ≤ 4194304 }
     requires room { room ≤ 128 }
     requires close { IsCloseIf (given_if given) }
-    ensures { IfOk result (ChoosesFrom spot of.now (given_if given.entry) room) }
+    ensures chooses { IfOk result (ChoosesFrom spot of.now (given_if given.entry) room) }
+    ensures steady { IfOk result (SteadyChosen spot (given_if given.entry)) }
 {
     match given {
         None => spot,
@@ -53,7 +56,8 @@ fn chosen(
 /// A member of what stands somewhere and has this type.
 fn member(spot: Result<Spot, AllocError>, of: &SvType, k: u32) -> Result<Spot, AllocError>
     requires narrow { width_of of.now ≤ 4194304 }
-    ensures { IfOk result (IsMemberFrom spot of.now k) }
+    ensures member { IfOk result (IsMemberFrom spot of.now k) }
+    ensures steady { IfOk result (SteadyMember spot) }
 {
     let spot = spot?;
     Ok(member_spot(spot, of, k))
@@ -72,7 +76,8 @@ pub(crate) fn spot_at(
     requires room { room ≤ 128 }
     requires small { AllSmall indices.now }
     requires close { IsCloseIf (given_if given) }
-    ensures { IfOk result (StandsAt e.now indices.now (given_if given.entry) room) }
+    ensures stands { IfOk result (StandsAt e.now indices.now (given_if given.entry) room) }
+    ensures steady { IfOk result (SteadyAt indices.now (given_if given.entry)) }
 {
     match step_of(e) {
         None => Ok(Spot::Nowhere),

@@ -25,6 +25,7 @@ use Rattle.path_flatten.specs.Stepping.{ReadsBetween}
 use Rattle.path_flatten.proofs.Helping.{grows-none, grows-both}
 use Rattle.path_steps.specs.declared.known.KnownIndex.{KnownIndex}
 use Rattle.path_steps.specs.Known.{IsKnown}
+use Rattle.expr_lower.specs.Elements.{StandsInWords}
 use Rattle.expr_lower.specs.Leaves.{IsLowered}
 use Rattle.expr_lower.specs.Named.{signal_name, local_name}
 use Rattle.expr_lower.specs.Lowering.{Lowers}
@@ -32,7 +33,7 @@ use Rattle.expr_lower.specs.Paths.{Finds, Indexes}
 use Rattle.expr_lower.proofs.AskedLeaves.{EachAsked}
 use Rattle.expr_lower.proofs.Asking.{Made, made-none, made-more, made-next, each-long, each-more, length-meanings}
 use Rattle.expr_lower.proofs.Built.{operands-of}
-use Rattle.expr_lower.proofs.Following.{lowers-path, finds-Signal, finds-Local, finds-value, finds-Member, finds-Part, finds-known, finds-known-slide, finds-by-index, finds-by-slide, slide-size}
+use Rattle.expr_lower.proofs.Following.{lowers-path, finds-Signal, finds-Local, finds-value, finds-Member, finds-Part, finds-known, finds-word, finds-known-word, finds-known-slide, finds-by-index, finds-by-slide, slide-size}
 use Rattle.expr_lower.proofs.NameLists.{at-front}
 use Rattle.expr_lower.proofs.Rooted.{alike}
 use Rattle.expr_lower.proofs.Stepwise as W
@@ -69,7 +70,7 @@ pub lower-returns-in_ok-form-in-None-clause-lowers : goal.lower-returns-in_ok-fo
 lower-returns-in_ok-form-in-None-clause-lowers t c =
     let e = c.args.e.now in
     let fs = formals_in c.args.functions.now in
-    c.in_ok-form-in-None.ensures.combines c.requires.fits
+    c.in_ok-form-in-None.ensures.combines c.in-None.ensures.plain c.requires.fits
     (each-more c.args.names.now c.args.functions.now c.parts.new.helpers c.formed.new.helpers (form_asked (layout e.of) fs c.args.width c.args.signed (out-Form e.form)) (meanings c.in_ok-lowered-in-None.lowered)
     c.in_ok-form-in-None.ensures.grows c.in_ok-lowered-in-None.ensures.lowers)
 
@@ -220,49 +221,109 @@ follow-returns-in_ok-found-in-Part-clause-finds t c =
     finds-Part c.args.names.now c.args.functions.now c.find-in-Part.new.helpers c.args.e.now c.in-Part.from.now c.in-Part.left c.in-Part.right old c.between_step.result is c.requires.fits.typed
     c.in_ok-found-in-Part.ensures.finds reads c.between_step.ensures.root
 
--- elements
-pub element-known_index-requires-clause-fits : goal.element-known_index-requires-clause-fits
-element-known_index-requires-clause-fits t c = (W.at-Index c.args.e.now c.args.from.now c.args.i.now (formals_in c.args.functions.now) c.requires.form c.requires.built c.requires.fits).fits
+-- elements in words
+pub element-selected-requires : goal.element-selected-requires
+element-selected-requires t c =
+    (omega (arith, c.decreases), (c.requires.functions, (c.requires.form, (subst (StandsInWords c.args.names.now c.args.from.now) c.in-None.is c.memory_of.ensures, (c.requires.built, c.requires.fits)))))
 
-pub element-known_index-requires-clause-short : goal.element-known_index-requires-clause-short
-element-known_index-requires-clause-short t c = (W.at-Index c.args.e.now c.args.from.now c.args.i.now (formals_in c.args.functions.now) c.requires.form c.requires.built c.requires.fits).short
+pub element-word-requires : goal.element-word-requires
+element-word-requires t c =
+    (omega (arith, c.decreases), (c.requires.functions, (c.requires.form, (subst (StandsInWords c.args.names.now c.args.from.now) c.in-Some.is c.memory_of.ensures, (c.requires.built, c.requires.fits)))))
 
-pub element-find-requires : goal.element-find-requires
-element-find-requires t c =
+pub word-known_index-requires-clause-fits : goal.word-known_index-requires-clause-fits
+word-known_index-requires-clause-fits t c = (W.at-Index c.args.e.now c.args.from.now c.args.i.now (formals_in c.args.functions.now) c.requires.form c.requires.built c.requires.fits).fits
+
+pub word-known_index-requires-clause-short : goal.word-known_index-requires-clause-short
+word-known_index-requires-clause-short t c = (W.at-Index c.args.e.now c.args.from.now c.args.i.now (formals_in c.args.functions.now) c.requires.form c.requires.built c.requires.fits).short
+
+pub word-numbered_word-requires-clause-narrow : goal.word-numbered_word-requires-clause-narrow
+word-numbered_word-requires-clause-narrow t c = (W.from-Index c.args.e.now c.args.from.now c.args.i.now (formals_in c.args.functions.now) c.requires.form c.requires.built c.requires.fits).narrow
+
+pub word-numbered_word-requires-clause-some : goal.word-numbered_word-requires-clause-some
+word-numbered_word-requires-clause-some t c =
     let from = W.from-Index c.args.e.now c.args.from.now c.args.i.now (formals_in c.args.functions.now) c.requires.form c.requires.built c.requires.fits in
-    (omega (arith, c.decreases, from.fewer), (c.requires.functions, (from.built, from.fits)))
+    let some = has-bits c.args.from.now from.fits.typed in
+    omega (arith, some, wide-is c.args.from.now)
 
-pub element-element_step-requires-clause-narrow : goal.element-element_step-requires-clause-narrow
-element-element_step-requires-clause-narrow t c = (W.from-Index c.args.e.now c.args.from.now c.args.i.now (formals_in c.args.functions.now) c.requires.form c.requires.built c.requires.fits).narrow
-
-pub element-returns-in-Some-clause-finds : goal.element-returns-in-Some-clause-finds
-element-returns-in-Some-clause-finds t c =
+pub word-returns-in-Some-clause-finds : goal.word-returns-in-Some-clause-finds
+word-returns-in-Some-clause-finds t c =
     let i = c.args.i.now in
-    let known = subst (λ o. IfSome o (λ (k : KnownIndex). IsKnown i k.number)) c.in-Some.is c.in_ok-known.ensures.known in
-    finds-known c.args.names.now c.args.functions.now c.find.new.helpers c.args.e.now c.args.from.now i c.in-Some.known.number c.in_ok-found.found c.element_step.result c.requires.form c.requires.fits.typed known
-    c.in_ok-found.ensures.finds c.element_step.ensures.reads c.element_step.ensures.root
-
-pub element-find-found-requires : goal.element-find-found-requires
-element-find-found-requires t c =
     let from = W.from-Index c.args.e.now c.args.from.now c.args.i.now (formals_in c.args.functions.now) c.requires.form c.requires.built c.requires.fits in
-    (omega (arith, c.decreases, from.fewer), (c.requires.functions, (from.built, from.fits)))
+    let known = subst (λ o. IfSome o (λ (k : KnownIndex). IsKnown i k.number)) c.in-Some.is c.in_ok-known.ensures.known in
+    finds-known-word c.args.names.now c.args.functions.now c.args.helpers.now c.args.e.now c.args.from.now i c.args.n c.in-Some.known.number c.in_ok-numbered.numbered c.requires.form c.requires.fits.typed from.fits.typed
+    c.requires.memory known c.in_ok-numbered.ensures.reads c.in_ok-numbered.ensures.names
 
-pub element-index-at-requires : goal.element-index-at-requires
-element-index-at-requires t c =
+pub word-index-requires : goal.word-index-requires
+word-index-requires t c =
     let at = W.at-Index c.args.e.now c.args.from.now c.args.i.now (formals_in c.args.functions.now) c.requires.form c.requires.built c.requires.fits in
     (omega (arith, c.decreases, at.fewer), (c.requires.functions, (at.built, at.fits)))
 
-pub element-index_step-requires-clause-narrow : goal.element-index_step-requires-clause-narrow
-element-index_step-requires-clause-narrow t c = (W.from-Index c.args.e.now c.args.from.now c.args.i.now (formals_in c.args.functions.now) c.requires.form c.requires.built c.requires.fits).narrow
+pub word-indexed_word-requires-clause-narrow : goal.word-indexed_word-requires-clause-narrow
+word-indexed_word-requires-clause-narrow t c = (W.from-Index c.args.e.now c.args.from.now c.args.i.now (formals_in c.args.functions.now) c.requires.form c.requires.built c.requires.fits).narrow
 
-pub element-index_step-requires-clause-index : goal.element-index_step-requires-clause-index
-element-index_step-requires-clause-index t c =
+pub word-indexed_word-requires-clause-some : goal.word-indexed_word-requires-clause-some
+word-indexed_word-requires-clause-some t c =
+    let from = W.from-Index c.args.e.now c.args.from.now c.args.i.now (formals_in c.args.functions.now) c.requires.form c.requires.built c.requires.fits in
+    let some = has-bits c.args.from.now from.fits.typed in
+    omega (arith, some, wide-is c.args.from.now)
+
+pub word-indexed_word-requires-clause-short : goal.word-indexed_word-requires-clause-short
+word-indexed_word-requires-clause-short t c =
+    let at = W.at-Index c.args.e.now c.args.from.now c.args.i.now (formals_in c.args.functions.now) c.requires.form c.requires.built c.requires.fits in
+    let index = c.in_ok-at.ensures.indexes in
+    omega (arith, index.width, at.short)
+
+pub word-returns-clause-finds : goal.word-returns-clause-finds
+word-returns-clause-finds t c =
+    let i = c.args.i.now in
+    let from = W.from-Index c.args.e.now c.args.from.now c.args.i.now (formals_in c.args.functions.now) c.requires.form c.requires.built c.requires.fits in
+    let at = W.at-Index c.args.e.now c.args.from.now c.args.i.now (formals_in c.args.functions.now) c.requires.form c.requires.built c.requires.fits in
+    finds-word c.args.names.now c.args.functions.now c.index.new.helpers c.args.e.now c.args.from.now i c.args.n c.in_ok-at.at c.in_ok-indexed.indexed c.requires.form c.requires.fits.typed from.fits.typed at.fits.typed
+    c.requires.memory c.in_ok-at.ensures.indexes c.in_ok-indexed.ensures.reads c.in_ok-indexed.ensures.names
+
+-- elements
+pub selected-known_index-requires-clause-fits : goal.selected-known_index-requires-clause-fits
+selected-known_index-requires-clause-fits t c = (W.at-Index c.args.e.now c.args.from.now c.args.i.now (formals_in c.args.functions.now) c.requires.form c.requires.built c.requires.fits).fits
+
+pub selected-known_index-requires-clause-short : goal.selected-known_index-requires-clause-short
+selected-known_index-requires-clause-short t c = (W.at-Index c.args.e.now c.args.from.now c.args.i.now (formals_in c.args.functions.now) c.requires.form c.requires.built c.requires.fits).short
+
+pub selected-find-requires : goal.selected-find-requires
+selected-find-requires t c =
+    let from = W.from-Index c.args.e.now c.args.from.now c.args.i.now (formals_in c.args.functions.now) c.requires.form c.requires.built c.requires.fits in
+    (omega (arith, c.decreases, from.fewer), (c.requires.functions, (from.built, from.fits)))
+
+pub selected-element_step-requires-clause-narrow : goal.selected-element_step-requires-clause-narrow
+selected-element_step-requires-clause-narrow t c = (W.from-Index c.args.e.now c.args.from.now c.args.i.now (formals_in c.args.functions.now) c.requires.form c.requires.built c.requires.fits).narrow
+
+pub selected-returns-in-Some-clause-finds : goal.selected-returns-in-Some-clause-finds
+selected-returns-in-Some-clause-finds t c =
+    let i = c.args.i.now in
+    let known = subst (λ o. IfSome o (λ (k : KnownIndex). IsKnown i k.number)) c.in-Some.is c.in_ok-known.ensures.known in
+    finds-known c.args.names.now c.args.functions.now c.find.new.helpers c.args.e.now c.args.from.now i c.in-Some.known.number c.in_ok-found.found c.element_step.result c.requires.form c.requires.fits.typed known c.requires.plain
+    c.in_ok-found.ensures.finds c.element_step.ensures.reads c.element_step.ensures.root
+
+pub selected-find-found-requires : goal.selected-find-found-requires
+selected-find-found-requires t c =
+    let from = W.from-Index c.args.e.now c.args.from.now c.args.i.now (formals_in c.args.functions.now) c.requires.form c.requires.built c.requires.fits in
+    (omega (arith, c.decreases, from.fewer), (c.requires.functions, (from.built, from.fits)))
+
+pub selected-index-at-requires : goal.selected-index-at-requires
+selected-index-at-requires t c =
+    let at = W.at-Index c.args.e.now c.args.from.now c.args.i.now (formals_in c.args.functions.now) c.requires.form c.requires.built c.requires.fits in
+    (omega (arith, c.decreases, at.fewer), (c.requires.functions, (at.built, at.fits)))
+
+pub selected-index_step-requires-clause-narrow : goal.selected-index_step-requires-clause-narrow
+selected-index_step-requires-clause-narrow t c = (W.from-Index c.args.e.now c.args.from.now c.args.i.now (formals_in c.args.functions.now) c.requires.form c.requires.built c.requires.fits).narrow
+
+pub selected-index_step-requires-clause-index : goal.selected-index_step-requires-clause-index
+selected-index_step-requires-clause-index t c =
     let at = W.at-Index c.args.e.now c.args.from.now c.args.i.now (formals_in c.args.functions.now) c.requires.form c.requires.built c.requires.fits in
     let index = subst (λ r. IfOk r (λ (x : Index). Indexes c.args.names.now c.args.functions.now c.index-at.new.helpers c.args.i.now x)) c.in_ok-found-2.ensures.1 c.index-at.ensures.indexes in
     omega (arith, index.width, at.short)
 
-pub element-returns-clause-finds : goal.element-returns-clause-finds
-element-returns-clause-finds t c =
+pub selected-returns-clause-finds : goal.selected-returns-clause-finds
+selected-returns-clause-finds t c =
     let names = c.args.names.now in
     let functions = c.args.functions.now in
     let from = W.from-Index c.args.e.now c.args.from.now c.args.i.now (formals_in functions) c.requires.form c.requires.built c.requires.fits in
@@ -273,7 +334,7 @@ element-returns-clause-finds t c =
     let index = subst (λ r. IfOk r (λ (x : Index). Indexes names functions two c.args.i.now x)) c.in_ok-found-2.ensures.1 c.index-at.ensures.indexes in
     let grows = subst (λ r. OnOk r (Grows one two)) c.in_ok-found-2.ensures.1 c.index-at.ensures.grows in
     finds-by-index names functions c.index_step.new.helpers one two c.args.e.now c.args.from.now c.args.i.now c.in_ok-found-2.at c.in_ok-found-2.found c.in_ok-made.made grows c.in_ok-made.ensures.grows c.requires.form
-    c.requires.fits.typed from.fits.typed at.fits.typed index found c.in_ok-made.ensures.reads c.in_ok-made.ensures.names
+    c.requires.fits.typed from.fits.typed at.fits.typed index c.requires.plain found c.in_ok-made.ensures.reads c.in_ok-made.ensures.names
 
 -- indexed part-selects
 pub slid-known_index-requires-clause-fits : goal.slid-known_index-requires-clause-fits

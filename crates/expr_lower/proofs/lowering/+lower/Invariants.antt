@@ -13,31 +13,37 @@ use Rattle.expr_lower.proofs.Asking.{Made}
 use Rattle.expr_lower.proofs.lowering.+lower.Given as goal
 
 abbrev pub decreases-lower : goal.decreases-lower
-decreases-lower l = 5 * nodes l.e.now + 3
+decreases-lower l = 6 * nodes l.e.now + 4
 
 abbrev pub decreases-path : goal.decreases-path
-decreases-path l = 5 * nodes l.e.now + 2
+decreases-path l = 6 * nodes l.e.now + 3
 
 abbrev pub decreases-find : goal.decreases-find
-decreases-find l = 5 * nodes l.e.now + 4
+decreases-find l = 6 * nodes l.e.now + 5
 
 abbrev pub decreases-follow : goal.decreases-follow
-decreases-follow l = 5 * nodes l.e.now + 1
+decreases-follow l = 6 * nodes l.e.now + 2
 
 abbrev pub decreases-element : goal.decreases-element
-decreases-element l = 5 * nodes l.e.now
+decreases-element l = 6 * nodes l.e.now + 1
+
+abbrev pub decreases-word : goal.decreases-word
+decreases-word l = 6 * nodes l.e.now
+
+abbrev pub decreases-selected : goal.decreases-selected
+decreases-selected l = 6 * nodes l.e.now
 
 abbrev pub decreases-slid : goal.decreases-slid
-decreases-slid l = 5 * nodes l.e.now
+decreases-slid l = 6 * nodes l.e.now
 
 abbrev pub decreases-index : goal.decreases-index
-decreases-index l = 5 * nodes l.i.now + 4
+decreases-index l = 6 * nodes l.i.now + 5
 
 abbrev pub decreases-parts : goal.decreases-parts
-decreases-parts l = 5 * nodes l.e.now + 2
+decreases-parts l = 6 * nodes l.e.now + 3
 
 abbrev pub decreases-answer : goal.decreases-answer
-decreases-answer l = 5 * nodes l.operand.of.now + 4
+decreases-answer l = 6 * nodes l.operand.of.now + 5
 
 abbrev pub invariant-parts-loop-operand : goal.invariant-parts-loop-operand
 invariant-parts-loop-operand l =

@@ -6,9 +6,9 @@ use Rattle.v_meaning.specs.Values as T
 use Rattle.v_meaning.specs.Values.{meaning}
 use Rattle.lowering_laws.specs.Terms.{above, between}
 use Rattle.path_flatten.specs.Placing.{RanksSigned}
-use Rattle.target_flatten.proofs.Naming.{between-ranked, index-ranked}
 use Rattle.memory_words.specs.Words.{lowest, highest}
 use Rattle.memory_words.proofs.Finding.{finds-between}
+use Rattle.memory_words.proofs.Naming.{between-rank-names}
 use Rattle.memory_words.proofs.words.word_between.Goals as goal
 
 pub returns-clause-word : goal.returns-clause-word
@@ -31,6 +31,5 @@ returns-clause-word c =
 
 pub returns-clause-names : goal.returns-clause-names
 returns-clause-names c =
-    index-ranked c.args.index (meaning c.in_ok-number.number.expr) c.in_ok-made.made c.in_ok-number.ensures.names
-    (between-ranked (meaning c.in_ok-number.number.expr) 66 (to_z w64 (of_z w64 c.lowest.result)) (to_z w64 (of_z w64 c.highest.result)) (to_z w64 (of_z w64 c.lowest.result)) true
-    c.in_ok-made.made c.in_ok-made.ensures.guard c.in_ok-made.ensures.rank)
+    between-rank-names c.args.index (meaning c.in_ok-number.number.expr) 66 (to_z w64 (of_z w64 c.lowest.result)) (to_z w64 (of_z w64 c.highest.result)) (to_z w64 (of_z w64 c.lowest.result)) c.in_ok-made.made
+    c.in_ok-number.ensures.names c.in_ok-made.ensures.guard c.in_ok-made.ensures.rank

@@ -1,17 +1,24 @@
-use Rattle.std.proofs.Common.{rules, ◌≡◌, sym, refl, false, pos, None}
-use Rattle.std.proofs.lemmas.Result.{IfOk-weaker}
-use Rattle.sv_types.specs.Layouts.{layout}
-use Rattle.memory_words.specs.Words.{lowest, FindsWord, FindsWordBetween}
-use Rattle.memory_words.proofs.Finding.{plain-finds}
+use Rattle.std.proofs.Common.{rules, ◌≡◌, ◌≤◌, suc, pos, arith, sym, ◌∙◌, subst}
+use Rattle.sv_types.specs.Layouts.{layout, count_of}
+use Rattle.memory_words.specs.Words.{lowest}
+use Rattle.memory_words.proofs.Finding.{few-elements, lower-is}
 use Rattle.memory_words.proofs.words.word_of.Goals as goal
 
+pub last_word-requires : goal.last_word-requires
+last_word-requires c = record {
+  few =
+      (let count = few-elements c.args.of.now c.requires.some in
+      let narrow = c.requires.narrow in
+      subst (λ n. n ≤ 4194304) (sym (λ i. count_of (c.bounds_of-bounds.ensures.left i) (c.bounds_of-bounds.ensures.right i))) (omega arith));
+}
+
 pub returns-then-lowest-eq0-clause-word : goal.returns-then-lowest-eq0-clause-word
-returns-then-lowest-eq0-clause-word c =
-    let unsigned : c.args.index.signed ≡ false = search rules in
+returns-then-lowest-eq0-clause-word c i a sc v is =
     let zero : lowest c.bounds_of-bounds.result ≡ pos 0 = search rules in
-    plain-finds c.args.index c.args.of.now c.bounds_of-bounds.result (record { guard = None; rank = c.args.index.expr }) c.bounds_of-bounds.ensures.left c.bounds_of-bounds.ensures.right unsigned zero refl refl
+    let count : count_of (layout c.args.of.now).left (layout c.args.of.now).right ≡ suc c.last_word.result =
+    sym (λ j. count_of (c.bounds_of-bounds.ensures.left j) (c.bounds_of-bounds.ensures.right j)) ∙ c.last_word.ensures.last in
+    c.in_ok-made.ensures.word (layout c.args.of.now) i a sc v
+    (lower-is (layout c.args.of.now) c.bounds_of-bounds.result (sym c.bounds_of-bounds.ensures.left) (sym c.bounds_of-bounds.ensures.right) ∙ zero) count is
 
 pub returns-clause-word : goal.returns-clause-word
-returns-clause-word c =
-    IfOk-weaker c.word_between.result (FindsWordBetween c.args.index c.bounds_of-bounds.result) (FindsWord c.args.index c.args.of.now)
-    (λ r h i a sc v. h (layout c.args.of.now) i a sc v (sym c.bounds_of-bounds.ensures.left) (sym c.bounds_of-bounds.ensures.right)) c.word_between.ensures.word
+returns-clause-word c i a sc v is = c.in_ok-made-2.ensures.word (layout c.args.of.now) i a sc v (sym c.bounds_of-bounds.ensures.left) (sym c.bounds_of-bounds.ensures.right) is

@@ -4,7 +4,7 @@ use Rattle.expr_type.specs.Answers.{source}
 use Rattle.pattern_types.specs.Meaning.{parts_in}
 use Rattle.pattern_types.specs.Reasons.{reason_of}
 use Rattle.pattern_types.specs.Takes.{TakesGive}
-use Rattle.pattern_types.proofs.Taking.{covers-give, keys-halt, keys-short, never-covers}
+use Rattle.pattern_types.proofs.Taking.{beyond-halts, covers-give, keys-halt, keys-short, never-covers}
 use Rattle.pattern_types.proofs.takes.takes_of.Goals as goal
 
 pub returns-in_err-passes : goal.returns-in_err-passes
@@ -19,6 +19,11 @@ pub returns-then-not-may_cover : goal.returns-then-not-may_cover
 returns-then-not-may_cover c =
     never-covers (source c.args.text) (parts_in c.args.p) c.args.t.now c.has_members-members.result (reason_of c.look_at_keys.result) c.may_cover.result c.unfit.result c.has_members-members.ensures c.look_at_keys.ensures
     c.in_ok-passes.ensures c.may_cover.ensures c.if-not-may_cover.true c.unfit.ensures
+
+pub returns-then-is_beyond : goal.returns-then-is_beyond
+returns-then-is_beyond c =
+    beyond-halts (source c.args.text) (parts_in c.args.p) c.args.t.now c.has_members-members.result (reason_of c.look_at_keys.result) c.may_cover.result c.unfit-then-is_beyond.result c.has_members-members.ensures c.look_at_keys.ensures
+    c.in_ok-passes.ensures c.may_cover.ensures c.if-not-may_cover.false c.is_beyond.ensures.bounds (c.is_beyond.ensures.far c.if-is_beyond.true) c.unfit-then-is_beyond.ensures
 
 pub fit-takes-requires : goal.fit-takes-requires
 fit-takes-requires c = keys-short (source c.args.text) c.args.p.times c.has_members-members.result _ c.in_ok-pattern.pattern.keys c.in_ok-pattern.ensures.keys (c.is_short.ensures c.if-not-is_short.false)

@@ -3,8 +3,8 @@ use Rattle.path_flatten.specs.declared.places.Place.{Place}
 use Rattle.target_flatten.specs.declared.spots.Spot.{Spot}
 use Rattle.target_flatten.specs.Naming.{NamesPlaceIn}
 use Rattle.target_flatten.specs.Spots.{IsPlaceIn}
-use Rattle.target_flatten.proofs.Naming.{place-of-known, place-of-moved}
-use Rattle.target_flatten.proofs.Stands.{place-known, place-moved}
+use Rattle.target_flatten.proofs.Naming.{place-of-known}
+use Rattle.target_flatten.proofs.Stands.{place-known}
 use Rattle.target_flatten.proofs.places.place_in.Goals as goal
 
 pub returns-in_ok-offset-in-Known-clause-place : goal.returns-in_ok-offset-in-Known-clause-place
@@ -13,9 +13,7 @@ returns-in_ok-offset-in-Known-clause-place c =
     subst (λ (s : Spot). IsPlaceIn s c.args.width (Some p)) (sym c.in-Known.is) (place-known c.in-Known.below c.args.width p refl c.in_ok-offset-in-Known.ensures)
 
 pub returns-in_ok-made-in-Moved-clause-place : goal.returns-in_ok-made-in-Moved-clause-place
-returns-in_ok-made-in-Moved-clause-place c =
-    subst (λ (s : Spot). IsPlaceIn s c.args.width (Some c.in_ok-made-in-Moved.made)) (sym c.in-Moved.is)
-    (place-moved c.in-Moved.place c.in-Moved.below c.args.width c.in_ok-made-in-Moved.made c.requires.narrow c.in_ok-made-in-Moved.ensures.guard c.in_ok-made-in-Moved.ensures.offset)
+returns-in_ok-made-in-Moved-clause-place c = subst (λ (s : Spot). IsPlaceIn s c.args.width (Some c.in_ok-made-in-Moved.made)) (sym c.in-Moved.is) c.in_ok-made-in-Moved.ensures.place
 
 pub returns-in_ok-offset-in-Known-clause-names : goal.returns-in_ok-offset-in-Known-clause-names
 returns-in_ok-offset-in-Known-clause-names c =
@@ -23,6 +21,4 @@ returns-in_ok-offset-in-Known-clause-names c =
     subst (λ (s : Spot). NamesPlaceIn s (Some p)) (sym c.in-Known.is) (place-of-known c.in-Known.below c.args.width p refl c.in_ok-offset-in-Known.ensures)
 
 pub returns-in_ok-made-in-Moved-clause-names : goal.returns-in_ok-made-in-Moved-clause-names
-returns-in_ok-made-in-Moved-clause-names c =
-    subst (λ (s : Spot). NamesPlaceIn s (Some c.in_ok-made-in-Moved.made)) (sym c.in-Moved.is)
-    (place-of-moved c.in-Moved.place c.in-Moved.below c.args.width c.in_ok-made-in-Moved.made c.in_ok-made-in-Moved.ensures.guard c.in_ok-made-in-Moved.ensures.offset)
+returns-in_ok-made-in-Moved-clause-names c = subst (λ (s : Spot). NamesPlaceIn s (Some c.in_ok-made-in-Moved.made)) (sym c.in-Moved.is) c.in_ok-made-in-Moved.ensures.names

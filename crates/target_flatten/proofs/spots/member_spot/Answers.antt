@@ -16,3 +16,6 @@ returns-clause-stands c =
 
 pub returns-clause-names : goal.returns-clause-names
 returns-clause-names c = c.narrowed.ensures.names
+
+pub returns-clause-steady : goal.returns-clause-steady
+returns-clause-steady c = c.narrowed.ensures.steady

@@ -14,3 +14,6 @@ returns-then-inner-clause-names c = on-nowhere c.args.spot
 
 pub returns-clause-names : goal.returns-clause-names
 returns-clause-names c = c.inside.ensures.names
+
+pub returns-clause-steady : goal.returns-clause-steady
+returns-clause-steady c = c.inside.ensures.steady

@@ -12,6 +12,7 @@ use Rattle.target_walk.specs.Walking.{StandsAt}
 use Rattle.target_walk.proofs.Arms.{lost-stands, part-some, slide-some}
 use Rattle.target_walk.proofs.Limiting.{own-narrow, member-narrow, index-narrow, part-narrow, slide-narrow, small-first, small-close, kept-close, on-close}
 use Rattle.target_walk.proofs.Telling.{plain-stands}
+use Rattle.target_walk.proofs.Owning.{root-steady, member-steady, index-steady, part-steady, slide-steady}
 use Rattle.target_walk.proofs.Ways.{signal-arm, local-arm, member-arm, index-arm, part-arm, slide-arm, index-lacks, slide-lacks, no-given}
 use Rattle.target_walk.proofs.standing.+spot_at.Goals as goal
 
@@ -80,45 +81,45 @@ spot_at-requires-in-Some-gone_on t c =
       ),
     )
 
-pub returns-in-None : goal.returns-in-None
-returns-in-None t c = plain-stands c.args.e.now c.args.indices.now (given_if c.args.given) c.args.room W.Nowhere c.in-None.ensures.plain
+pub returns-in-None-clause-stands : goal.returns-in-None-clause-stands
+returns-in-None-clause-stands t c = plain-stands c.args.e.now c.args.indices.now (given_if c.args.given) c.args.room W.Nowhere c.in-None.ensures.plain
 
-pub returns-in-Some-Signal : goal.returns-in-Some-Signal
-returns-in-Some-Signal t c =
+pub returns-in-Some-Signal-clause-stands : goal.returns-in-Some-Signal-clause-stands
+returns-in-Some-Signal-clause-stands t c =
     let h = rw c.in-Some-Signal.field-0-is at c.in-Some-Signal.ensures.step in
-    signal-arm c.args.e.now c.args.indices.now (given_if c.args.given) c.args.room c.chosen.result _ c.whole_spot.result h c.whole_spot.ensures.stands c.whole_spot.ensures.names c.chosen.ensures
+    signal-arm c.args.e.now c.args.indices.now (given_if c.args.given) c.args.room c.chosen.result _ c.whole_spot.result h c.whole_spot.ensures.stands c.whole_spot.ensures.names c.chosen.ensures.chooses
 
-pub returns-in-Some-Local : goal.returns-in-Some-Local
-returns-in-Some-Local t c =
+pub returns-in-Some-Local-clause-stands : goal.returns-in-Some-Local-clause-stands
+returns-in-Some-Local-clause-stands t c =
     let h = rw c.in-Some-Local.field-0-is at c.in-Some-Local.ensures.step in
     local-arm c.args.e.now c.args.indices.now (given_if c.args.given) c.args.room c.chosen-in-Some-Local.result _ c.whole_spot-in-Some-Local.result h c.whole_spot-in-Some-Local.ensures.stands
-    c.whole_spot-in-Some-Local.ensures.names c.chosen-in-Some-Local.ensures
+    c.whole_spot-in-Some-Local.ensures.names c.chosen-in-Some-Local.ensures.chooses
 
-pub returns-in-Some-Member : goal.returns-in-Some-Member
-returns-in-Some-Member t c =
+pub returns-in-Some-Member-clause-stands : goal.returns-in-Some-Member-clause-stands
+returns-in-Some-Member-clause-stands t c =
     let h = rw c.in-Some-Member.field-0-is at c.in-Some-Member.ensures.step in
-    member-arm c.args.e.now c.args.indices.now (given_if c.args.given) c.args.room c.chosen-in-Some-Member.result c.in-Some-Member.from.now _ c.spot_at.result c.member-spot.result h c.spot_at.ensures c.member-spot.ensures
-    c.chosen-in-Some-Member.ensures
+    member-arm c.args.e.now c.args.indices.now (given_if c.args.given) c.args.room c.chosen-in-Some-Member.result c.in-Some-Member.from.now _ c.spot_at.result c.member-spot.result h c.spot_at.ensures.stands c.member-spot.ensures.member
+    c.chosen-in-Some-Member.ensures.chooses
 
-pub returns-in-None-split_first : goal.returns-in-None-split_first
-returns-in-None-split_first t c =
+pub returns-in-None-split_first-clause-stands : goal.returns-in-None-split_first-clause-stands
+returns-in-None-split_first-clause-stands t c =
     let h = rw c.in-Some-Index.field-0-is at c.in-Some-Index.ensures.step in
     index-lacks c.args.e.now c.in-Some-Index.from.now _ c.args.indices.now (given_if c.args.given) c.args.room W.Nowhere h (no-given c.args.indices.now c.in-None-split_first.ensures.cases)
 
-pub returns-in-None-element_of : goal.returns-in-None-element_of
-returns-in-None-element_of t c =
+pub returns-in-None-element_of-clause-stands : goal.returns-in-None-element_of-clause-stands
+returns-in-None-element_of-clause-stands t c =
     let h = rw c.in-Some-Index.field-0-is at c.in-Some-Index.ensures.step in
     index-arm c.args.e.now c.args.indices.now (given_if c.args.given) c.args.room c.chosen-in-None-element_of.result c.in-Some-Index.from.now _ c.in-Some.last.now (G.Known None) c.in-Some.rest.now (Ok W.Nowhere) h c.in-Some.ensures.cases.0 c.in-None-element_of.ensures
-    (lost-stands c.in-Some-Index.from.now c.in-Some.rest.now c.args.room) c.chosen-in-None-element_of.ensures
+    (lost-stands c.in-Some-Index.from.now c.in-Some.rest.now c.args.room) c.chosen-in-None-element_of.ensures.chooses
 
-pub returns-in-Some-element_of : goal.returns-in-Some-element_of
-returns-in-Some-element_of t c =
+pub returns-in-Some-element_of-clause-stands : goal.returns-in-Some-element_of-clause-stands
+returns-in-Some-element_of-clause-stands t c =
     let h = rw c.in-Some-Index.field-0-is at c.in-Some-Index.ensures.step in
     index-arm c.args.e.now c.args.indices.now (given_if c.args.given) c.args.room c.chosen-in-Some-element_of.result c.in-Some-Index.from.now _ c.in-Some.last.now (given_of c.in-Some-element_of.inner) c.in-Some.rest.now c.spot_at-spot.result h c.in-Some.ensures.cases.0
-    c.in-Some-element_of.ensures c.spot_at-spot.ensures c.chosen-in-Some-element_of.ensures
+    c.in-Some-element_of.ensures c.spot_at-spot.ensures.stands c.chosen-in-Some-element_of.ensures.chooses
 
-pub returns-in-None-kept : goal.returns-in-None-kept
-returns-in-None-kept t c =
+pub returns-in-None-kept-clause-stands : goal.returns-in-None-kept-clause-stands
+returns-in-None-kept-clause-stands t c =
     let h = rw c.in-Some-Part.field-0-is at c.in-Some-Part.ensures.step in
     let left_fits : SFits w64 c.in-Some-Part.left = search rules in
     let right_fits : SFits w64 c.in-Some-Part.right = search rules in
@@ -129,8 +130,8 @@ returns-in-None-kept t c =
     (part-some c.args.e.now c.in-Some-Part.from.now c.in-Some-Part.left c.in-Some-Part.right c.args.indices.now (given_of c.in-Some-given.given) c.args.room W.Nowhere h
     (subst (λ k. StandsAt c.in-Some-Part.from.now c.args.indices.now (Some k) c.args.room W.Nowhere) same (lost-stands c.in-Some-Part.from.now c.args.indices.now c.args.room)))
 
-pub returns-in-Some-kept : goal.returns-in-Some-kept
-returns-in-Some-kept t c =
+pub returns-in-Some-kept-clause-stands : goal.returns-in-Some-kept-clause-stands
+returns-in-Some-kept-clause-stands t c =
     let h = rw c.in-Some-Part.field-0-is at c.in-Some-Part.ensures.step in
     let left_fits : SFits w64 c.in-Some-Part.left = search rules in
     let right_fits : SFits w64 c.in-Some-Part.right = search rules in
@@ -139,15 +140,15 @@ returns-in-Some-kept t c =
     let same = c.in-Some-kept.ensures ∙ (λ i. kept_given (left_same i) (right_same i) (given_of c.in-Some-given.given)) in
     subst (λ x. IfOk c.spot_at-in-Some-kept.result (StandsAt c.args.e.now c.args.indices.now (given_if x) c.args.room)) (sym c.in-Some-given.is)
     (part-arm c.args.e.now c.in-Some-Part.from.now c.args.indices.now c.args.room c.spot_at-in-Some-kept.result c.in-Some-Part.left c.in-Some-Part.right (given_of c.in-Some-given.given) (given_of c.in-Some-kept.inner) h same
-    c.spot_at-in-Some-kept.ensures)
+    c.spot_at-in-Some-kept.ensures.stands)
 
-pub returns-in-None-split_first-2 : goal.returns-in-None-split_first-2
-returns-in-None-split_first-2 t c =
+pub returns-in-None-split_first-2-clause-stands : goal.returns-in-None-split_first-2-clause-stands
+returns-in-None-split_first-2-clause-stands t c =
     let h = rw c.in-Some-Slide.field-0-is at c.in-Some-Slide.ensures.step in
     slide-lacks c.args.e.now c.in-Some-Slide.from.now _ _ _ c.args.indices.now (given_if c.args.given) c.args.room W.Nowhere h (no-given c.args.indices.now c.in-None-split_first-2.ensures.cases)
 
-pub returns-in-None-gone_on : goal.returns-in-None-gone_on
-returns-in-None-gone_on t c =
+pub returns-in-None-gone_on-clause-stands : goal.returns-in-None-gone_on-clause-stands
+returns-in-None-gone_on-clause-stands t c =
     let h = rw c.in-Some-Slide.field-0-is at c.in-Some-Slide.ensures.step in
     subst (λ x. StandsAt c.args.e.now c.args.indices.now (given_if x) c.args.room W.Nowhere) (sym c.in-Some-given-2.is)
     (subst (λ l. StandsAt c.args.e.now l (Some (given_of c.in-Some-given-2.given)) c.args.room W.Nowhere) (sym c.in-Some-split_first.ensures.cases.0)
@@ -155,9 +156,37 @@ returns-in-None-gone_on t c =
     (subst (λ k. StandsAt c.in-Some-Slide.from.now c.in-Some-split_first.rest.now (Some k) c.args.room W.Nowhere) c.in-None-gone_on.ensures
     (lost-stands c.in-Some-Slide.from.now c.in-Some-split_first.rest.now c.args.room))))
 
-pub returns-in-Some-gone_on : goal.returns-in-Some-gone_on
-returns-in-Some-gone_on t c =
+pub returns-in-Some-gone_on-clause-stands : goal.returns-in-Some-gone_on-clause-stands
+returns-in-Some-gone_on-clause-stands t c =
     let h = rw c.in-Some-Slide.field-0-is at c.in-Some-Slide.ensures.step in
     subst (λ x. IfOk c.spot_at-in-Some-gone_on.result (StandsAt c.args.e.now c.args.indices.now (given_if x) c.args.room)) (sym c.in-Some-given-2.is)
     (slide-arm c.args.e.now c.in-Some-Slide.from.now c.args.indices.now c.args.room c.spot_at-in-Some-gone_on.result _ c.in-Some-Slide.width c.in-Some-Slide.up c.in-Some-split_first.base.now (given_of c.in-Some-given-2.given)
-    (given_of c.in-Some-gone_on.inner) c.in-Some-split_first.rest.now h c.in-Some-split_first.ensures.cases.0 c.in-Some-gone_on.ensures c.spot_at-in-Some-gone_on.ensures)
+    (given_of c.in-Some-gone_on.inner) c.in-Some-split_first.rest.now h c.in-Some-split_first.ensures.cases.0 c.in-Some-gone_on.ensures c.spot_at-in-Some-gone_on.ensures.stands)
+
+pub returns-in-Some-Signal-clause-steady : goal.returns-in-Some-Signal-clause-steady
+returns-in-Some-Signal-clause-steady t c = root-steady c.args.indices.now (given_if c.args.given) c.chosen.result c.whole_spot.result c.whole_spot.ensures.steady c.chosen.ensures.steady
+
+pub returns-in-Some-Local-clause-steady : goal.returns-in-Some-Local-clause-steady
+returns-in-Some-Local-clause-steady t c =
+    root-steady c.args.indices.now (given_if c.args.given) c.chosen-in-Some-Local.result c.whole_spot-in-Some-Local.result c.whole_spot-in-Some-Local.ensures.steady c.chosen-in-Some-Local.ensures.steady
+
+pub returns-in-Some-Member-clause-steady : goal.returns-in-Some-Member-clause-steady
+returns-in-Some-Member-clause-steady t c =
+    member-steady c.args.indices.now (given_if c.args.given) c.chosen-in-Some-Member.result c.spot_at.result c.member-spot.result c.spot_at.ensures.steady c.member-spot.ensures.steady c.chosen-in-Some-Member.ensures.steady
+
+pub returns-in-None-element_of-clause-steady : goal.returns-in-None-element_of-clause-steady
+returns-in-None-element_of-clause-steady t c = root-steady c.args.indices.now (given_if c.args.given) c.chosen-in-None-element_of.result W.Nowhere tt c.chosen-in-None-element_of.ensures.steady
+
+pub returns-in-Some-element_of-clause-steady : goal.returns-in-Some-element_of-clause-steady
+returns-in-Some-element_of-clause-steady t c =
+    index-steady c.args.indices.now (given_if c.args.given) c.chosen-in-Some-element_of.result c.in-Some.last.now (given_of c.in-Some-element_of.inner) c.in-Some.rest.now c.spot_at-spot.result c.in-Some.ensures.cases.0
+    c.in-Some-element_of.ensures c.spot_at-spot.ensures.steady c.chosen-in-Some-element_of.ensures.steady
+
+pub returns-in-Some-kept-clause-steady : goal.returns-in-Some-kept-clause-steady
+returns-in-Some-kept-clause-steady t c =
+    part-steady c.args.indices.now (given_if c.args.given) c.spot_at-in-Some-kept.result _ _ (given_of c.in-Some-given.given) (given_of c.in-Some-kept.inner) c.in-Some-kept.ensures c.spot_at-in-Some-kept.ensures.steady
+
+pub returns-in-Some-gone_on-clause-steady : goal.returns-in-Some-gone_on-clause-steady
+returns-in-Some-gone_on-clause-steady t c =
+    slide-steady c.args.indices.now (given_if c.args.given) c.spot_at-in-Some-gone_on.result (falls (layout c.in-Some-Slide.from.now.of)) c.in-Some-Slide.up c.in-Some-Slide.width c.in-Some-split_first.base.now
+    (given_of c.in-Some-given-2.given) (given_of c.in-Some-gone_on.inner) c.in-Some-split_first.rest.now c.in-Some-split_first.ensures.cases.0 c.in-Some-gone_on.ensures c.spot_at-in-Some-gone_on.ensures.steady

@@ -1,0 +1,90 @@
+//! Elements of signals that stand in the words of memories of the text (IEEE 1364-2005 clause 4.9).
+
+ghost use Rattle.std.specs.Prelude.{◌≡◌, ◌≤◌, ◌^◌, unsigned_abs, IfOk, IfSome};
+ghost use Rattle.sv_types.specs.Layouts.{width_of};
+ghost use Rattle.path_flatten.specs.Stepping.{IsSound};
+ghost use Rattle.memory_words.specs.Readings.{ReadsKnownWord, NamesMemory};
+ghost use Rattle.expr_lower.specs.Elements.{StandsInWords, ReadsWordBy, NamesWordBy};
+ghost use Rattle.expr_lower.specs.Named.{signal_name, is_memory};
+
+use crate::named::signal_text;
+use eval_parts::{Step, step_of};
+use memory_words::{known_reading, word_of, word_reading};
+use path_flatten::{Index, Reading};
+use std::alloc::{AllocError, Global};
+use sv_types::{Expr, SvType};
+use v_tree::{NameMap, SignalName};
+
+/// Whether a signal is a memory.
+fn is_memory(names: &[SignalName], n: u32) -> bool
+    ensures { result ≡ is_memory names.now n }
+{
+    for name in names {
+        if name.signal == n {
+            return name.memory;
+        }
+    }
+    false
+}
+
+/// The signal that an expression is, if it is a whole one that is a memory in the text.
+pub fn memory_of(names: &NameMap, e: &Expr) -> Option<u32>
+    ensures { StandsInWords names.now e.now result }
+{
+    match step_of(e) {
+        None => None,
+        Some(Step::Signal(n)) => {
+            if is_memory(names.signals.as_slice(), n) {
+                Some(n)
+            } else {
+                None
+            }
+        }
+        Some(Step::Local(_)) => None,
+        Some(Step::Member(_, _)) => None,
+        Some(Step::Index(_, _)) => None,
+        Some(Step::Part { .. }) => None,
+        Some(Step::Slide { .. }) => None,
+    }
+}
+
+/// What reads the element with a lowered index of a signal of a type, which is a memory.
+pub fn indexed_word(
+    alloc: Global,
+    names: &NameMap,
+    n: u32,
+    of: &SvType,
+    at: Index,
+) -> Result<Reading, AllocError>
+    requires narrow { width_of of.now ≤ 4194304 }
+    requires some { 1 ≤ width_of of.now }
+    requires short { at.width ≤ 64 }
+    ensures sound { IfOk result IsSound }
+    ensures reads { IfOk result (ReadsWordBy (signal_name names.now.signals n) of.now at) }
+    ensures names { IfOk result (NamesWordBy (signal_name names.now.signals n) at) }
+{
+    let memory = signal_text(alloc, names.signals.as_slice(), n);
+    let (memory, word) = pairs::both(memory, word_of(alloc, at, of))?;
+    let made = word_reading(alloc, memory, of, word)?;
+    Ok(made)
+}
+
+/// What reads the element with a known index of a signal of a type, which is a memory.
+pub fn numbered_word(
+    alloc: Global,
+    names: &NameMap,
+    n: u32,
+    of: &SvType,
+    index: Option<i128>,
+) -> Result<Reading, AllocError>
+    requires narrow { width_of of.now ≤ 4194304 }
+    requires some { 1 ≤ width_of of.now }
+    requires small { IfSome index (λ k. unsigned_abs k ≤ 2 ^ 65) }
+    ensures sound { IfOk result IsSound }
+    ensures reads { IfOk result (ReadsKnownWord (signal_name names.now.signals n) of.now index) }
+    ensures names { IfOk result (NamesMemory (signal_name names.now.signals n)) }
+{
+    let memory = signal_text(alloc, names.signals.as_slice(), n)?;
+    let made = known_reading(alloc, memory, of, index)?;
+    Ok(made)
+}

@@ -1,0 +1,11 @@
+pub mod Bases
+pub mod Elements
+pub mod Typings
+pub mod Steps
+pub mod Selects
+pub mod Paths
+pub mod Targets
+pub mod Types
+pub mod Exprs
+pub mod Declared
+pub mod Statements

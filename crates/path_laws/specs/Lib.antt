@@ -1,0 +1,5 @@
+pub mod Bases
+pub mod Names
+pub mod Targets
+pub mod Statements
+pub mod Laws

@@ -1,0 +1,82 @@
+-- Calls, by what is needed and what is passed.
+use Rattle.std.proofs.Common.{◌≡◌, ℕ, List, [], ◌∷◌, Option, Some, length, map, refl, sym, ap, subst}
+use Rattle.std.specs.Prelude.{Result, Ok, Err, Vec, slice_get}
+use Rattle.std.specs.declared.alloc.Global.{Global}
+use Rattle.std.proofs.lemmas.List.{length-map}
+use Rattle.sv_tree.specs.Extents.{qualified_first}
+use Rattle.sv_tree.specs.declared.expressions.Expr as E
+use Rattle.sv_tree.specs.declared.names.QualifiedName.{QualifiedName}
+use Rattle.sv_types.specs.declared.statement.Function.{Function}
+use Rattle.expr_type.specs.declared.halt.Halt.{Halt}
+use Rattle.expr_type.specs.declared.halt.Halt.TheVariants as H
+use Rattle.expr_type.specs.declared.operand.Valued.{Valued}
+use Rattle.expr_type.specs.Answers.{Gives}
+use Rattle.expr_type.specs.Expressions.{actuals, meaning}
+use Rattle.expr_type.specs.Forms.{call, call_of}
+use Rattle.expr_type.specs.Names.{Called, Context}
+use Rattle.expr_type.specs.Operands.{Operand}
+use Rattle.expr_type.specs.Typings.{Typing, beside, both, rule}
+use Rattle.typing_fits.specs.Sound.{Extends}
+use Rattle.typing_steps.specs.Steps.{TypesTo}
+use Rattle.typing_steps.proofs.Combining.{beside-behind-quiet, beside-breaks, beside-fine, beside-quiet, beside-second, checked-fine, checked-stops, rule-types}
+use Rattle.typing_values.specs.Values.{behind, unstreamed_of}
+use Rattle.typing_parts.specs.Typists.{CalledTo}
+use Rattle.typing_calls.specs.Lists.{all_meant}
+use Rattle.typing_calls.specs.Calls.{CallsAt, actuals_of, call_of_name, needed_of}
+
+abbrev with_actuals : Context → QualifiedName → Called → List Operand → Typing Valued
+with_actuals k of c os = rule (call_of k.source (qualified_first of) of.name c os)
+
+abbrev parts : Context → QualifiedName → List E.Expr → Typing (Called × List Operand)
+parts k of es = beside (needed_of k of (length es)) (actuals_of k es)
+
+-- the actuals that are written, of which there are as many as are typed
+same-actuals : (k : Context) (es : List E.Expr) → actuals k (map meaning es) ≡ map (unstreamed_of k) es
+same-actuals k [] = refl
+same-actuals k (e ∷ es) = ap (λ (xs : List (Typing Operand)). unstreamed_of k e ∷ xs) (same-actuals k es)
+
+by-count : (k : Context) (of : QualifiedName) (es : List E.Expr) (fs hs : List Function) (r : Result Valued Halt)
+    → TypesTo r (both (needed_of k of (length es)) (actuals_of k es) (with_actuals k of) fs) hs → TypesTo r (call_of_name k of es fs) hs
+by-count k of es fs hs r p =
+    subst (λ (xs : List (Typing Operand)). TypesTo r (call k of xs fs) hs) (sym (same-actuals k es))
+    (subst (λ (n : ℕ). TypesTo r (both (needed_of k of n) (actuals_of k es) (with_actuals k of) fs) hs) (sym (length-map es (unstreamed_of k))) p)
+
+calls-then : (k : Context) (of : QualifiedName) (place : ℕ) (f : Function) (o : Option Function) (os : List Operand) (r : Result Valued Halt) → o ≡ Some f → CallsAt k.source of place o os r
+    → Gives r (call_of k.source (qualified_first of) of.name (record { place = place; of = f }) os)
+calls-then k of place f o os r e c = subst (λ (p : Option Function). CallsAt k.source of place p os r) e c
+
+-- a function that is known, with actuals that are whole
+pub call-types : (k : Context) (of : QualifiedName) (es : List E.Expr) (fs gs hs : List Function) (place : ℕ) (os : List Operand) (r : Result Valued Halt)
+    → CalledTo (Ok place) (needed_of k of (length es) fs) gs → TypesTo (Ok os) (actuals_of k es gs) hs → Extends gs hs → CallsAt k.source of place (slice_get hs place) os r
+    → TypesTo r (call_of_name k of es fs) hs
+call-types k of es fs gs hs place os r c p e d =
+    let called : Called = record { place = place; of = c.of } in
+    by-count k of es fs hs r
+    (checked-fine (parts k of es) (λ q. with_actuals k of q.0 q.1) fs hs hs (called, os) r (beside-fine (needed_of k of (length es)) (actuals_of k es) fs gs hs called os c.gives p)
+    (rule-types r (call_of k.source (qualified_first of) of.name called os) hs (calls-then k of place c.of (slice_get hs place) os r (e.keeps place c.of c.known) d)))
+
+-- parts that aren't whole
+stopped : (k : Context) (of : QualifiedName) (es : List E.Expr) (fs hs : List Function) (h : Halt) → TypesTo {A = Called × List Operand} (Err h) (parts k of es fs) hs
+    → TypesTo {A = Valued} (Err h) (call_of_name k of es fs) hs
+stopped k of es fs hs h p = by-count k of es fs hs (Err h) (checked-stops (parts k of es) (λ q. with_actuals k of q.0 q.1) fs hs h p)
+
+pub call-breaks : (k : Context) (of : QualifiedName) (es : List E.Expr) (fs gs : List Function) (at n : ℕ) → CalledTo (Err (H.Breaks at n)) (needed_of k of (length es) fs) gs
+    → TypesTo {A = Valued} (Err (H.Breaks at n)) (call_of_name k of es fs) gs
+call-breaks k of es fs gs at n c = stopped k of es fs gs (H.Breaks at n) (beside-breaks (needed_of k of (length es)) (actuals_of k es) fs gs gs at n c)
+
+pub actuals-stop : (k : Context) (of : QualifiedName) (es : List E.Expr) (fs gs hs : List Function) (place : ℕ) (h : Halt) → CalledTo (Ok place) (needed_of k of (length es) fs) gs
+    → TypesTo {A = List Operand} (Err h) (actuals_of k es gs) hs → TypesTo {A = Valued} (Err h) (call_of_name k of es fs) hs
+actuals-stop k of es fs gs hs place h c p =
+    stopped k of es fs hs h (beside-second (needed_of k of (length es)) (actuals_of k es) fs gs hs (record { place = place; of = c.of }) h c.gives p)
+
+pub call-quiet : (k : Context) (of : QualifiedName) (es : List E.Expr) (fs gs hs : List Function) (r : Result (List Operand) Halt) → CalledTo (Err H.Quiet) (needed_of k of (length es) fs) gs
+    → TypesTo r (actuals_of k es gs) hs → TypesTo {A = Valued} (Err (behind r)) (call_of_name k of es fs) hs
+call-quiet k of es fs gs hs (Ok os) c p = stopped k of es fs hs H.Quiet (beside-quiet (needed_of k of (length es)) (actuals_of k es) fs gs hs os c p)
+call-quiet k of es fs gs hs (Err h) c p = stopped k of es fs hs h (beside-behind-quiet (needed_of k of (length es)) (actuals_of k es) fs gs hs h c p)
+
+-- what stops behind actuals is what stops behind what they mean
+pub same-behind : {A B : Type 0} (f : A → B) (r : Result (Vec A Global) Halt) → behind (all_meant f r) ≡ behind r
+same-behind f (Ok v) = refl
+same-behind f (Err h) = refl
+
+pub ruleset callings = (call-types, call-breaks, actuals-stop, call-quiet)

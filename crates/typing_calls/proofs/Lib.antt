@@ -1,0 +1,5 @@
+pub mod InTurn
+pub mod Each
+pub mod Zipping
+pub mod Calling
+pub mod Growing

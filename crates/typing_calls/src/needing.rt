@@ -1,0 +1,49 @@
+//! Functions that are needed.
+
+ghost use Rattle.std.specs.Prelude.{◌≡◌};
+ghost use Rattle.expr_type.specs.Forms as form;
+ghost use Rattle.typing_parts.specs.Typists.{CalledTo, IsReady, MakesKnown};
+ghost use Rattle.typing_calls.specs.Calls.{needed_of};
+
+use expr_type::Halt;
+use sv_tree::QualifiedName;
+use typing_parts::{Known, Names};
+
+// Whether a function has as many formals as there are actuals, as far as it is one.
+fn has_count<S: Names>(names: &S, routine: u32, count: usize) -> bool
+    ensures { result ≡ form.has_count ((S.context names.now).text routine) count }
+{
+    match names.formal_count(routine) {
+        None => true,
+        Some(formals) => formals == count,
+    }
+}
+
+/// The place of the function that a name finds among those that are known then: it is made known where it isn't, from the call on. Its
+/// text has as many formals as there are actuals (E405 at the name).
+pub fn needed<S: Names, C: Fn(u32, &mut Known) -> Result<u32, Halt>>(
+    names: &S,
+    needs: &C,
+    of: QualifiedName,
+    count: usize,
+    known: &mut Known,
+) -> Result<u32, Halt>
+    requires needs { MakesKnown _ (C.IsAlwaysCallable needs.now) (λ k. k.now) (C.post needs.now) (S.context names.now) }
+    requires ready { IsReady known.old }
+    ensures value { CalledTo result (needed_of (S.context names.now) of count known.old.functions) known.new.functions }
+    ensures ready { IsReady known.new }
+{
+    match names.found(of) {
+        None => Err(Halt::Quiet),
+        Some(routine) => {
+            if has_count(names, routine, count) {
+                needs(routine, known)
+            } else {
+                Err(Halt::Breaks {
+                    at: of.name,
+                    rule: 405,
+                })
+            }
+        }
+    }
+}
