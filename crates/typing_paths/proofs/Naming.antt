@@ -1,5 +1,5 @@
 -- Names with the selects behind them, by what they stand for.
-use Rattle.std.proofs.Common.{◌≡◌, ◌≤◌, ◌∙◌, ◌-◌, ℕ, List, [], ◌∷◌, Bool, true, false, cond, Option, Some, None, arith, drop, get_or, length, map, refl, rules, sym, ap, subst, take}
+use Rattle.std.proofs.Common.{◌≡◌, ◌≤◌, ◌∙◌, ◌-◌, ℕ, List, [], ◌∷◌, Bool, true, false, cond, Option, Some, None, arith, drop, get_or, length, map, rules, sym, ap, subst, take}
 use Rattle.std.proofs.lemmas.List.{take_rest}
 use Rattle.std.specs.Prelude.{◌&&◌, ◌==◌, IfOk, Result, Ok, Err}
 use Rattle.std.specs.Str.{bytes_eq}
