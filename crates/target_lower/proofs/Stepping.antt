@@ -1,6 +1,7 @@
 -- Indices and roots of typed paths, step by step.
 use Rattle.std.proofs.Common.{◌≡◌, ℕ, ◌≤◌, ◌^◌, Bool, true, false, ℤ, List, [], ◌∷◌, ◌++◌, append-nil, append_assoc, Option, Some, None, IfSome, Result, Ok, Err, IfOk, OnOk, inl, inr, refl, ap, sym, ◌∙◌, subst}
 use Rattle.std.specs.Prelude.{unsigned_abs}
+use Rattle.std.specs.declared.alloc.AllocError.{AllocError}
 use Rattle.sv_types.specs.declared.expression.Expr.{Expr}
 use Rattle.sv_types.specs.declared.expression.Form.{out-Form}
 use Rattle.sv_types.specs.declared.expression.Form.TheVariants as V
@@ -12,7 +13,9 @@ use Rattle.v_meaning.specs.Scopes.{Scope}
 use Rattle.lowering_laws.specs.Agreeing.{Images}
 use Rattle.v_tree.specs.Names.{Name}
 use Rattle.v_tree.specs.declared.names.Helper.{Helper}
+use Rattle.v_tree.specs.declared.names.LocalName.{LocalName}
 use Rattle.v_tree.specs.declared.names.NameMap.{NameMap}
+use Rattle.v_tree.specs.declared.names.SignalName.{SignalName}
 use Rattle.eval_parts.specs.Steps.{is_path}
 use Rattle.path_flatten.specs.Helping.{Grows}
 use Rattle.target_lower.specs.Given.{Pairwise}
@@ -204,16 +207,24 @@ signal-shown names fs im a sc n of leaf (inr (inl is)) vector stands =
     subst (λ b. ShowsElements b (signal_name names.signals n) im sc n of) vector (subst (LeafStands names fs im a sc) is stands)
 signal-shown names fs im a sc n of leaf (inr (inr is)) vector stands = subst (LeafStands names fs im a sc) is stands
 
-pub name-Signal : (names : NameMap) (name : Name) (n : ℕ) → name ≡ signal_name names.signals n → IsNameOf names name (H.Signal n)
+name-Signal : (names : NameMap) (name : Name) (n : ℕ) → name ≡ signal_name names.signals n → IsNameOf names name (H.Signal n)
 name-Signal names name n is fs im a sc number of leaf it root vector stands =
     subst (λ k. IsShown name im sc k of) it
     (subst (λ x. IsShown x im sc n of) (sym is) (signal-shown names fs im a sc n of leaf root (ap (is_memory names.signals) it ∙ vector) stands))
 
-pub name-Local : (names : NameMap) (name : Name) (n : ℕ) → name ≡ local_name names.locals n → IsNameOf names name (H.Local n)
+name-Local : (names : NameMap) (name : Name) (n : ℕ) → name ≡ local_name names.locals n → IsNameOf names name (H.Local n)
 name-Local names name n is fs im a sc number of leaf it root vector stands =
     subst (λ k. IsShown name im sc k of) it (subst (λ x. IsShown x im sc (local_number n) of) (sym is) (subst (LeafStands names fs im a sc) root stands))
 
-pub ruleset naming = (name-Signal, name-Local)
+pub named-Signal : (names : NameMap) (ls : List SignalName) (n : ℕ) (h : Held) (r : Result Name AllocError) → ls ≡ names.signals → h ≡ H.Signal n → IfOk r (λ t. t ≡ signal_name ls n)
+    → IfOk r (λ t. IsNameOf names t h)
+named-Signal names ls n h (Ok t) all is same = subst (λ x. IsNameOf names t x) (sym is) (name-Signal names t n (same ∙ ap (λ l. signal_name l n) all))
+named-Signal names ls n h (Err x) all is same = tt
+
+pub named-Local : (names : NameMap) (ls : List LocalName) (n : ℕ) (h : Held) (r : Result Name AllocError) → ls ≡ names.locals → h ≡ H.Local n → IfOk r (λ t. t ≡ local_name ls n)
+    → IfOk r (λ t. IsNameOf names t h)
+named-Local names ls n h (Ok t) all is same = subst (λ x. IsNameOf names t x) (sym is) (name-Local names t n (same ∙ ap (λ l. local_name l n) all))
+named-Local names ls n h (Err x) all is same = tt
 
 -- what is answered
 pub ok-both : {A E : Type 0} (P Q R : A → Type 0) (r : Result A E) → IfOk r P → IfOk r Q → ((x : A) → P x → Q x → R x) → IfOk r R

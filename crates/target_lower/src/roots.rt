@@ -82,7 +82,6 @@ fn local_text(alloc: Global, names: &[LocalName], n: u32) -> Result<Text, AllocE
 }
 
 /// The name under which a signal or local stands in the text.
-#[tactic(auto, using(crate::proofs::Stepping::naming))]
 pub(crate) fn name_of(alloc: Global, names: &NameMap, held: Held) -> Result<Text, AllocError>
     ensures { IfOk result (λ t. IsNameOf names.now t held) }
 {
