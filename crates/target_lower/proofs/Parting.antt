@@ -9,7 +9,6 @@ use Rattle.eval_parts.specs.Limits.{FitsAlone}
 use Rattle.eval_parts.proofs.Nodes as N
 use Rattle.eval_parts.proofs.Nodes.{nodes}
 use Rattle.eval_parts.proofs.PathLimits as L
-use Rattle.sv_types.specs.Layouts.{Layout}
 use Rattle.expr_lower.specs.Leaves.{Leaf, onto, indexed, leaves, Each, IsLowered}
 use Rattle.expr_lower.proofs.AskedLeaves.{off, index-lowered, each-left, each-right, leaves-Member, leaves-Part, leaves-Index, leaves-Slide}
 
