@@ -33,8 +33,9 @@ use Rattle.target_walk.specs.Giving.{IsGiven, given_names}
 use Rattle.expr_lower.specs.Leaves.{Leaf, leaves, Each}
 use Rattle.expr_lower.specs.Lowering.{LeafStands}
 use Rattle.expr_lower.specs.Paths.{Indexes}
-use Rattle.expr_lower.proofs.AskedLeaves.{off, off-left, off-right, leaves-Member, leaves-Index, leaves-Part, leaves-Slide}
+use Rattle.expr_lower.proofs.AskedLeaves.{each-left, each-right}
 use Rattle.target_lower.specs.Made.{StandsForIndex, IsMade, AreMade}
+use Rattle.target_lower.specs.Roots.{index_leaves}
 
 -- more helpers
 indexes-more : (names : NameMap) (fs : List Function) (old new : List Helper) (i : Expr) (x : Index) → Grows old new → Indexes names fs old i x → Indexes names fs new i x
@@ -86,30 +87,28 @@ module _ (L : Leaf → Type 0) (Made Wanted : Indexing → Given → Type 0)
   misfits-at : (e : Expr) (m : S.Meaning) → meaning e ≡ m → (meaning e).misfits ≡ 0 → m.misfits ≡ 0
   misfits-at e m same typed = ap (λ (x : S.Meaning). x.misfits) (sym same) ∙ typed
 
-  all-made : (e : Expr) (xs : List Indexing) (part : Bool) (gs : List Given) → IsTypedPath number t e xs part → (meaning e).misfits ≡ 0 → Each L (leaves e) → Pairwise Made xs gs → Pairwise Wanted xs gs
+  all-made : (e : Expr) (xs : List Indexing) (part : Bool) (gs : List Given) → IsTypedPath number t e xs part → (meaning e).misfits ≡ 0 → Each L (index_leaves xs) → Pairwise Made xs gs → Pairwise Wanted xs gs
   all-made e xs part [] (of_signal y n is it of) typed all made = tt
   all-made e xs part (g ∷ gs) (of_signal y n is it of) typed all made = absurd made
   all-made e xs part [] (of_local y n is it of) typed all made = tt
   all-made e xs part (g ∷ gs) (of_local y n is it of) typed all made = absurd made
   all-made e xs part gs (of_member y from k ys is path) typed all made =
       let below = (member-typed (layout y.of) y.spot.at (meaning from) k (misfits-at y _ (same-Member y from k is) typed)).step.typed_from in
-      all-made from ys false gs path below (off L (leaves from) (subst (Each L) (leaves-Member y from k is) all)) made
+      all-made from ys false gs path below all made
   all-made e xs part [] (of_index y from i ys b is has path) typed all made = absurd made
   all-made e xs part (g ∷ gs) (of_index y from i ys b is has path) typed all made =
       let own = index-typed (layout y.of) y.spot.at (meaning from) (meaning i) (misfits-at y _ (same-Index y from i is) typed) in
-      let both = subst (Each L) (leaves-Index y from i is) all in
-      (makes (record { index = i; in_part = b }) g own.1 (off-right L from i both) made.0, all-made from ys b gs path own.0.typed_from (off-left L from i both) made.1)
+      (makes (record { index = i; in_part = b }) g own.1 (each-right L (index_leaves ys) (leaves i) all) made.0, all-made from ys b gs path own.0.typed_from (each-left L (index_leaves ys) (leaves i) all) made.1)
   all-made e xs part gs (of_part y from left right ys b is has bounds path) typed all made =
       let below = (part-marks (layout y.of) y.spot.at (meaning from) left right (misfits-at y _ (same-Part y from left right is) typed)).typed in
-      all-made from ys b gs path below (off L (leaves from) (subst (Each L) (leaves-Part y from left right is) all)) made
+      all-made from ys b gs path below all made
   all-made e xs part [] (of_slide y from i n up ys b is has bounds path) typed all made = absurd made
   all-made e xs part (g ∷ gs) (of_slide y from i n up ys b is has bounds path) typed all made =
       let own = sliding-typed (layout y.of) y.spot.at (meaning from) (meaning i) n up (misfits-at y _ (same-Slide y from i n up is) typed) in
-      let both = subst (Each L) (leaves-Slide y from i n up is) all in
-      (makes (record { index = i; in_part = b }) g own.1 (off-right L from i both) made.0, all-made from ys b gs path own.0.typed_from (off-left L from i both) made.1)
+      (makes (record { index = i; in_part = b }) g own.1 (each-right L (index_leaves ys) (leaves i) all) made.0, all-made from ys b gs path own.0.typed_from (each-left L (index_leaves ys) (leaves i) all) made.1)
 
 module _ (names : NameMap) (fs : List Function) (hs : List Helper) (im : Images) (a : Around) (sc : Scope) (helps : EachHelps hs sc) (number : ℕ) (t : SvType) (e : Expr) (xs : List Indexing) (part : Bool)
-    (gs : List Given) (path : IsTypedPath number t e xs part) (typed : (meaning e).misfits ≡ 0) (all : Each (LeafStands names fs im a sc) (leaves e)) (made : AreMade names fs hs xs gs) where
+    (gs : List Given) (path : IsTypedPath number t e xs part) (typed : (meaning e).misfits ≡ 0) (all : Each (LeafStands names fs im a sc) (index_leaves xs)) (made : AreMade names fs hs xs gs) where
   -- they have their numbers
   pub made-given : (now v : Valuation) → Agree im now v → AreGivenFor xs gs (record a { now = now }) sc v
   made-given now v agree =

@@ -1,7 +1,7 @@
 -- Targets in the image of what a path stands on stand for the path.
-use Rattle.std.proofs.Common.{◌≡◌, ℕ, ◌<◌, ◌≤◌, ◌^◌, Bool, true, false, List, [], ◌∷◌, Some, inl, inr, refl, arith, ap, sym, ◌∙◌, subst}
+use Rattle.std.proofs.Common.{◌≡◌, ℕ, ◌<◌, ◌≤◌, ◌^◌, Bool, true, false, List, [], ◌∷◌, Some, refl, arith, ap, sym, ◌∙◌, subst}
 use Rattle.b4_core.specs.declared.bit.Bit4.TheVariants.{Zero}
-use Rattle.row_machine.specs.Valuation.{Valuation, Member}
+use Rattle.row_machine.specs.Valuation.{Valuation}
 use Rattle.sv_types.specs.declared.expression.Expr.{Expr}
 use Rattle.sv_types.specs.declared.statement.Function.{Function}
 use Rattle.sv_types.specs.Layouts.{layout, width_of, stored_bit}
@@ -20,7 +20,9 @@ use Rattle.target_lower.proofs.Following.{followed, indices-named}
 use Rattle.typed_paths.proofs.Opening.{stands-on}
 use Rattle.path_steps.proofs.PathNames.{images-like}
 use Rattle.target_laws.specs.Standing.{IsVectorOf}
+use Rattle.target_flatten.specs.Owning.{AllWrite}
 use Rattle.target_flatten.specs.Writing.{pieces}
+use Rattle.target_flatten.proofs.Owning.{all-write}
 use Rattle.target_walk.specs.declared.given.Given.{Given}
 use Rattle.target_walk.specs.Giving.{all_names}
 use Rattle.target_walk.specs.declared.never.Targets.{Targets}
@@ -28,11 +30,11 @@ use Rattle.target_walk.specs.Naming.{target_names, Flattened}
 use Rattle.target_walk.specs.Changing.{IsShownBy}
 use Rattle.target_walk.specs.Rooms.{Followed}
 use Rattle.target_walk.specs.Walking.{Indexed}
-use Rattle.expr_lower.specs.Leaves.{Leaf, leaves, Each}
+use Rattle.expr_lower.specs.Leaves.{leaves, Each}
 use Rattle.expr_lower.specs.Lowering.{IsShown, LeafStands}
 use Rattle.target_lower.specs.Made.{AreMade, PutsIndices}
-use Rattle.target_lower.specs.Roots.{leaf_of, StandsOn, IsInImage}
-use Rattle.target_lower.specs.Targets.{StandsAsTarget, LowersTarget}
+use Rattle.target_lower.specs.Roots.{index_leaves, StandsOn, IsInImage}
+use Rattle.target_lower.specs.Targets.{StandsAsTarget, StandsOnVector, LowersTarget}
 use Rattle.target_lower.proofs.Making.{made-given, made-named}
 
 -- a valuation that always agrees
@@ -43,12 +45,6 @@ zero-stored : (b : Bool) → stored_bit b Zero ≡ Zero
 zero-stored true = refl
 zero-stored false = refl
 
--- a leaf of an expression has what all leaves have
-one-of-all : (P : Leaf → Type 0) (ls : List Leaf) (l : Leaf) → Member ls l → Each P ls → P l
-one-of-all P [] l is all = absurd is
-one-of-all P (x ∷ ls) l (inl e) all = subst P (sym e) all.0
-one-of-all P (x ∷ ls) l (inr is) all = one-of-all P ls l is all.1
-
 small-bits : (n : ℕ) → n ≤ 4194304 → n < 2 ^ 32
 small-bits n h = omega arith
 
@@ -57,15 +53,18 @@ some-same x y e = cc
 
 module _ (names : NameMap) (fs : List Function) (hs : List Helper) (e : Expr) (gs : List Given) (x : Targets) (h : IsInImage names e gs x) (typed : IsTyped e) (fits : (meaning e).misfits ≡ 0)
     (made : AreMade names fs hs typed.indices gs)
-    (im : Images) (a : Around) (sc : Scope) (distinct : AreDistinct im) (all : Each (LeafStands names fs im a sc) (leaves e)) (helps : EachHelps hs sc) where
-  on : StandsOn h.root e typed.number typed.of
+    (im : Images) (a : Around) (sc : Scope) (distinct : AreDistinct im) (no_memory : StandsOnVector names (meaning e)) (all : Each (LeafStands names fs im a sc) (leaves e)) (helps : EachHelps hs sc) where
+  on : StandsOn h.root e typed.number typed.of typed.indices
   on = h.root_is typed.number typed.of typed.indices typed.part typed.path
 
-  shown : IsShown h.image.name im sc typed.number (layout typed.of)
-  shown = h.named fs im a sc typed.number (layout typed.of) on.held (one-of-all (LeafStands names fs im a sc) (leaves e) (leaf_of h.root.held (layout typed.of)) on.leaf all)
+  leaves-stand : Each (LeafStands names fs im a sc) (on.leaf ∷ index_leaves typed.indices)
+  leaves-stand = subst (Each (LeafStands names fs im a sc)) on.all all
 
   stands : (meaning e).root ≡ Some typed.number
   stands = stands-on typed.number typed.of e typed.indices typed.part typed.path
+
+  shown : IsShown h.image.name im sc typed.number (layout typed.of)
+  shown = h.named fs im a sc typed.number (layout typed.of) on.leaf on.held on.is_leaf (no_memory typed.number stands) leaves-stand.0
 
   zeros-agree : Agree im zeros zeros
   zeros-agree = record { same = λ n b less. refl; stored = λ n b less. zero-stored (im.two_state n b) }
@@ -85,7 +84,7 @@ module _ (names : NameMap) (fs : List Function) (hs : List Helper) (e : Expr) (g
   indexed : (now v : Valuation) → Agree im now v → Indexed h.image.room h.image.bits (record a { now = now }) sc v e gs typed.part
   indexed now v agree =
       let b : Around = record a { now = now } in
-      let given = made-given names fs hs im a sc helps typed.number typed.of e typed.indices typed.part gs typed.path fits all made now v agree in
+      let given = made-given names fs hs im a sc helps typed.number typed.of e typed.indices typed.part gs typed.path fits leaves-stand.1 made now v agree in
       h.room h.image.room h.image.bits b sc v typed.part (omega arith)
       (subst (λ n. Followed n b sc v e gs typed.part) (sym bits-are) (followed typed.number typed.of b sc v e typed.indices typed.part gs typed.path given))
 
@@ -110,12 +109,15 @@ module _ (names : NameMap) (fs : List Function) (hs : List Helper) (e : Expr) (g
     changes = λ now v agree. h.changes im typed.number (record a { now = now }) sc v typed.part (shown-by now v) vector small one h.some h.enough fits (indexed now v agree);
     names = images-like im.number (meaning e).index_names (all_names gs sc) (target_names x sc)
         (indices-named im.number sc typed.number typed.of e typed.indices typed.part gs typed.path
-        (made-named names fs hs im a sc helps typed.number typed.of e typed.indices typed.part gs typed.path fits all made))
+        (made-named names fs hs im a sc helps typed.number typed.of e typed.indices typed.part gs typed.path fits leaves-stand.1 made))
         (flat zeros zeros zeros-agree).names;
+    own = λ r root.
+        (let it : typed.number ≡ r = some-same typed.number r (sym stands ∙ root) in
+        subst (λ n. AllWrite n (pieces x.writes) sc) (shown.number ∙ ap im.number it) (all-write h.image.name h.image.bits x.writes sc h.own));
   }
 
 -- and so do those for the indices that are put together for it
 pub lowers-target : (names : NameMap) (fs : List Function) (hs : List Helper) (e : Expr) (gs : List Given) (x : Targets) → IsInImage names e gs x → IsTyped e → (meaning e).misfits ≡ 0
     → PutsIndices names fs hs e [] gs → LowersTarget names fs hs e x
-lowers-target names fs hs e gs x h typed fits puts im a sc distinct all helps =
-    stands-as-target names fs hs e gs x h typed fits (subst (AreMade names fs hs typed.indices) (sym puts.is) (puts.made typed.number typed.of typed.indices typed.part typed.path)) im a sc distinct all helps
+lowers-target names fs hs e gs x h typed fits puts im a sc distinct no_memory all helps =
+    stands-as-target names fs hs e gs x h typed fits (subst (AreMade names fs hs typed.indices) (sym puts.is) (puts.made typed.number typed.of typed.indices typed.part typed.path)) im a sc distinct no_memory all helps

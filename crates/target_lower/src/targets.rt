@@ -9,7 +9,7 @@ ghost use Rattle.target_walk.specs.Giving.{AllSmall};
 ghost use Rattle.expr_lower.specs.Leaves.{leaves, Each, IsLowered};
 ghost use Rattle.typed_paths.specs.Typed.{IsTyped};
 ghost use Rattle.target_lower.specs.Roots.{IsInImage};
-ghost use Rattle.target_lower.specs.Targets.{LowersIf};
+ghost use Rattle.target_lower.specs.Targets.{BareIf, LowersIf};
 
 use crate::indices::{Indices, put_indices};
 use crate::roots::{name_of, root_of};
@@ -57,6 +57,7 @@ pub fn lower_target(
     requires typed { IsTyped e.now }
     ensures grows { OnOk result (Grows helpers.old helpers.new) }
     ensures lowers { IfOk result (LowersIf names.now functions.now helpers.new e.now) }
+    ensures bare { IfOk result (BareIf names.now functions.now helpers.new e.now) }
 {
     let mut indices = Indices::new(alloc);
     if !put_indices(alloc, names, functions, e, helpers, &mut indices)? {
