@@ -1,0 +1,4 @@
+pub mod Naming
+pub mod Pieces
+pub mod Named
+pub mod Selecting
