@@ -1,5 +1,6 @@
 -- Which scope holds each token, and which use stands at it, as the code has them.
 use Rattle.std.specs.Prelude.{◌≡◌, ◌<◌, ℕ, cond, List, length, slice_index, slice_get, Option, Some, None}
+use Rattle.package_scope.specs.declared.table.Declaration.{Declaration}
 use Rattle.package_scope.specs.declared.table.Scope.{Scope}
 use Rattle.package_scope.specs.declared.table.Table.{Table}
 use Rattle.package_scope.specs.declared.table.Use.{Use}
@@ -16,9 +17,12 @@ Paints s number before after = (q : ℕ) → q < length before → slice_index a
 abbrev pub AreInnermost : List Scope → List ℕ → Type 0
 AreInnermost ss scopes = (q : ℕ) → q < length scopes → slice_index scopes q ≡ last_holder 0 0 q ss
 
--- the token at which a use stands
+-- the token at which a use or the name of a declaration stands
 abbrev pub use_number : Use → ℕ
 use_number u = u.at
+
+abbrev pub declaration_number : Declaration → ℕ
+declaration_number d = d.at
 
 -- the function or task with a declaration
 abbrev pub routine_text : SourceTree → Table → ℕ → Option RoutineText

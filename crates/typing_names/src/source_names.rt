@@ -9,7 +9,7 @@ ghost use Rattle.frame_things.specs.Places.{place_from, places_in};
 ghost use Rattle.package_scope.specs.Rules as rules;
 ghost use Rattle.package_scope.specs.Tables as tables;
 ghost use Rattle.source_routines.specs.Texts.{routine_in};
-ghost use Rattle.typing_names.specs.Scopes.{AreInnermost, use_number, routine_text};
+ghost use Rattle.typing_names.specs.Scopes.{AreInnermost, declaration_number, use_number, routine_text};
 
 use crate::token_scopes::{TokenScopes, innermost_of, scope_of};
 use frame_things::Places;
@@ -31,16 +31,32 @@ pub struct SourceNames<'t> {
     pub scopes: TokenScopes,
     /// At which places of the list of uses the first use at each token stands.
     pub uses: Places,
+    /// At which places of the list of declarations the first one at each token stands.
+    pub declarations: Places,
     /// The functions and tasks by the tokens of their names.
     pub routines: RoutineTable<'t>,
     ghost scoped: { AreInnermost names.now.scopes scopes },
     ghost used: { (q : ℕ) → places_in uses q ≡ place_from use_number 0 q names.now.uses },
+    ghost declared: { (q : ℕ) → places_in declarations q ≡ place_from declaration_number 0 q names.now.declared },
     ghost counted: { (q : ℕ) → option_map formal_count (routine_in routines q) ≡ option_map formal_count (named_at q (means_routines tree.now)) },
 }
 
 /// At which place of a list the first use at each token stands.
 fn uses_of(alloc: Global, list: &[Use]) -> Result<Places, AllocError>
     ensures { IfOk result (λ x. (q : ℕ) → places_in x q ≡ place_from use_number 0 q list.now) }
+{
+    let mut places = Places::new(alloc);
+    let mut at = list.len();
+    while at > 0 {
+        at -= 1;
+        places.put(list[at].at, at)?;
+    }
+    Ok(places)
+}
+
+/// At which place of a list the first declaration at each token stands.
+fn declarations_of(alloc: Global, list: &[Declaration]) -> Result<Places, AllocError>
+    ensures { IfOk result (λ x. (q : ℕ) → places_in x q ≡ place_from declaration_number 0 q list.now) }
 {
     let mut places = Places::new(alloc);
     let mut at = list.len();
@@ -84,12 +100,14 @@ impl<'t> SourceNames<'t> {
     {
         let scopes = innermost_of(alloc, names.table().scopes.as_slice(), tree.tokens.len())?;
         let uses = uses_of(alloc, names.table().uses.as_slice())?;
+        let declarations = declarations_of(alloc, names.table().declared.as_slice())?;
         let routines = routines_of(alloc, tree)?;
         Ok(SourceNames {
             tree,
             names,
             scopes,
             uses,
+            declarations,
             routines,
         })
     }
@@ -115,6 +133,16 @@ impl<'t> SourceNames<'t> {
                 let package = self.word(scope.package);
                 self.names.in_package(package, scope.package, name, of.name)
             }
+        }
+    }
+
+    /// The number of the declaration whose name stands at a token, or how many declarations there are where none stands there.
+    pub fn declared(&self, token: u32) -> usize
+        ensures { result ≡ means.number_from self.now.tree.now self.now.names.now 0 token self.now.names.now.declared }
+    {
+        match self.declarations.of(token) {
+            Some(place) => place,
+            None => self.names.table().declared.len(),
         }
     }
 
