@@ -2,8 +2,10 @@
 //! 11.4.14).
 #![tactic(auto)]
 
+mod giving;
 mod parts;
 mod target;
 
+pub use giving::assigned;
 pub use parts::{joined_target, stream_target, target_part, whole_of};
 pub use target::{Target, TargetPart};
