@@ -1,0 +1,4 @@
+pub mod Among
+pub mod Crossing
+pub mod Fitting
+pub mod Putting
