@@ -1,0 +1,141 @@
+-- Targets in the words of a memory stand for a path on an element of the signal.
+use Rattle.std.proofs.Common.{◌≡◌, ℕ, ◌<◌, ◌≤◌, ◌^◌, Bool, true, List, [], ◌∷◌, length, Option, refl, arith, sym, ◌∙◌, subst}
+use Rattle.row_machine.specs.Valuation.{Valuation}
+use Rattle.sv_types.specs.declared.expression.Expr.{Expr}
+use Rattle.sv_types.specs.declared.statement.Function.{Function}
+use Rattle.sv_types.specs.declared.types.SvType.{SvType}
+use Rattle.sv_types.specs.Layouts.{layout, width_of, count_of}
+use Rattle.sv_types.specs.Surroundings.{Around, local_number}
+use Rattle.sv_types.specs.Meanings as S
+use Rattle.sv_types.specs.Paths as P
+use Rattle.sv_types.specs.Expressions.{meaning}
+use Rattle.sv_types.proofs.ValueLengths.{length-value}
+use Rattle.sv_types.proofs.Widths.{has-bits}
+use Rattle.v_tree.specs.Names.{Name}
+use Rattle.v_tree.specs.declared.names.Helper.{Helper}
+use Rattle.v_tree.specs.declared.names.NameMap.{NameMap}
+use Rattle.v_meaning.specs.Scopes.{Scope, named}
+use Rattle.v_meaning.specs.Selects.{SelMeaning}
+use Rattle.v_meaning.specs.Statements.{name_target}
+use Rattle.v_meaning.specs.Values as T
+use Rattle.lowering_laws.specs.Agreeing.{Images, AreDistinct, Agree}
+use Rattle.path_flatten.specs.declared.offsets.Index.{Index}
+use Rattle.path_flatten.specs.Helping.{EachHelps}
+use Rattle.path_flatten.specs.Sliding.{IsIndexOf}
+use Rattle.typed_paths.specs.Typed.{Indexing, IsTypedPath}
+use Rattle.target_flatten.specs.declared.writes.Write.{Write}
+use Rattle.target_flatten.specs.Owning.{AreUsesOf, AllWrite}
+use Rattle.target_flatten.specs.Writing.{pieces, pieces_in, WritesPath}
+use Rattle.target_walk.specs.Rooms.{Followed}
+use Rattle.target_walk.specs.Walking.{Indexed}
+use Rattle.expr_lower.specs.Leaves.{Elements, leaves, Each}
+use Rattle.expr_lower.specs.Lowering.{LeafStands, ShowsElements, IsShownInWords}
+use Rattle.expr_lower.specs.Named.{signal_name, is_memory}
+use Rattle.expr_lower.specs.Paths.{Indexes}
+use Rattle.target_lower.specs.Made.{AreMade}
+use Rattle.target_lower.proofs.Making.{made-given}
+use Rattle.target_lower.proofs.Following.{followed}
+use Rattle.memory_laws.specs.InWords.{Inner, IsMemoryOf, word_alone, word_pieces, SelectsWord, IsWrittenInWords}
+use Rattle.memory_words.specs.Words.{NumbersWord}
+use Rattle.memory_paths.proofs.Inner.{InnerPath, inner-path, inner-typed}
+use Rattle.memory_targets.specs.declared.words.Word.{Word}
+use Rattle.memory_targets.specs.declared.words.Word.TheVariants as W
+use Rattle.memory_targets.specs.Words.{word_sel, word_guard}
+use Rattle.memory_targets.specs.Pieces.{inners}
+use Rattle.memory_targets.proofs.Pieces.{words-are, targets-written, targets-change}
+use Rattle.memory_targets.proofs.Selecting.{exact-selects, known-selects}
+use Rattle.memory_lower.specs.Lowered.{StandsInMemory, LowersInMemory, IsWordFor, IsInWord}
+use Rattle.memory_lower.proofs.Inside.{Inside, inside, LeavesOf, leaves-of}
+
+-- targets in a word may write the memory alone
+word-writes : (name : Name) (s : SelMeaning) (sels : List SelMeaning) (sc : Scope) → AreUsesOf (named sc.names name).number ((name_target name (s ∷ sels)).writes sc)
+unfolding name_target
+word-writes name s sels sc = (refl, tt)
+
+words-write : (name : Name) (g : Option T.Meaning) (s : SelMeaning) (xs : List Inner) (sc : Scope) → AllWrite (named sc.names name).number (word_pieces name g s xs) sc
+words-write name g s [] sc = tt
+words-write name g s (x ∷ xs) sc = (word-writes name s x.sels sc, words-write name g s xs sc)
+
+-- the word of an index is selected
+module _ (names : NameMap) (fs : List Function) (hs : List Helper) (im : Images) (a : Around) (sc : Scope) (helps : EachHelps hs sc) (t : SvType) (i : Expr) (typed : (meaning i).misfits ≡ 0)
+    (all : Each (LeafStands names fs im a sc) (leaves i)) (now v : Valuation) (agree : Agree im now v) where
+  index-of : (x : Index) → Indexes names fs hs i x → IsIndexOf x (meaning i) (record a { now = now }) sc v
+  index-of x h = record {
+    width = h.width;
+    sign = sym h.sign;
+    some = has-bits i typed;
+    long = length-value i (S.wide (meaning i)) (S.signed (meaning i)) (record a { now = now });
+    same = (h.lowers im a sc all helps).stands now v agree;
+  }
+
+  word-selected : (w : Word) → IsWordFor names fs hs t i w → SelectsWord (layout t) (P.index_of (meaning i) (record a { now = now })) (word_guard w) (word_sel w) sc v
+  word-selected (W.Known x) h = known-selects (layout t) _ x sc v (subst (λ z. NumbersWord (layout t) z x) (sym (h.1.number (record a { now = now }))) h.2)
+  word-selected (W.Lowered r) h = exact-selects (layout t) _ _ _ sc v (h.2 (meaning i) (record a { now = now }) sc v (index-of h.0 h.1))
+
+small-bits : (n : ℕ) → n ≤ 4194304 → n < 2 ^ 32
+small-bits n h = omega arith
+
+module _ (names : NameMap) (fs : List Function) (hs : List Helper) (n : ℕ) (t : SvType) (i e : Expr) (made : List Write) (h : IsInWord names fs hs n t i e made) (xs : List Indexing) (part : Bool)
+    (path : IsTypedPath n t e xs part) (typed : (meaning e).misfits ≡ 0)
+    (im : Images) (a : Around) (sc : Scope) (distinct : AreDistinct im) (memory : is_memory names.signals n ≡ true) (all : Each (LeafStands names fs im a sc) (leaves e)) (helps : EachHelps hs sc) where
+  abbrev w : ℕ
+  w = length (layout t).element.two_state
+
+  in_element : Inside n t i h.inner
+  in_element = inside n t i e h.inner h.is_inner typed
+
+  kept : LeavesOf n t i (LeafStands names fs im a sc) e h.inner
+  kept = leaves-of n t i (LeafStands names fs im a sc) e h.inner h.is_inner
+
+  stand : Each (LeafStands names fs im a sc) (Elements n (layout t) ∷ kept.others)
+  stand = subst (Each (LeafStands names fs im a sc)) kept.is all
+
+  shown : IsShownInWords h.image.name im sc n (layout t)
+  shown = subst (λ k. IsShownInWords k im sc n (layout t)) (sym h.named) (subst (λ b. ShowsElements b (signal_name names.signals n) im sc n (layout t)) memory stand.0)
+
+  inner : InnerPath n t i h.inner xs part
+  inner = inner-path n t i e h.inner h.is_inner xs part path
+
+  fits : (meaning h.inner).misfits ≡ 0
+  fits = inner-typed n t i e h.inner h.is_inner typed
+
+  wide : width_of inner.of ≡ h.image.bits
+  wide = in_element.wide (local_number 0) inner.of inner.indices part inner.path ∙ sym h.bits
+
+  are-made : AreMade names fs hs inner.indices h.given
+  are-made = subst (AreMade names fs hs inner.indices) (sym h.puts.is) (h.puts.made (local_number 0) inner.of inner.indices part inner.path)
+
+  indexed : (now v : Valuation) → Agree im now v → Indexed h.image.room h.image.bits (record a { now = now }) sc v h.inner h.given part
+  indexed now v agree =
+      let b : Around = record a { now = now } in
+      let given = made-given names fs hs im a sc helps (local_number 0) inner.of h.inner inner.indices part h.given inner.path fits
+      (kept.inner stand.1 (local_number 0) inner.of inner.indices part inner.path) are-made now v agree in
+      h.room h.image.room h.image.bits b sc v part (omega arith)
+      (subst (λ k. Followed k b sc v h.inner h.given part) wide (followed (local_number 0) inner.of b sc v h.inner inner.indices part h.given inner.path given))
+
+  written : (now v : Valuation) → Agree im now v → WritesPath (word_alone w) (meaning h.inner) (record a { now = now }) (pieces_in (word_alone w) h.alone.writes) sc v
+  written now v agree =
+      h.flattens (word_alone w) (record a { now = now }) sc v part (record { vector = refl; width = sym h.bits }) (small-bits h.image.bits h.narrow) h.some h.enough fits (indexed now v agree)
+
+  selected : (now v : Valuation) → Agree im now v → SelectsWord (layout t) (P.index_of (meaning i) (record a { now = now })) (word_guard h.word) (word_sel h.word) sc v
+  selected now v agree = word-selected names fs hs im a sc helps t i in_element.typed (kept.index stand.1) now v agree h.word h.is_word
+
+  is-memory : IsMemoryOf h.image.name (count_of (layout t).left (layout t).right) w sc
+  is-memory = record { words = shown.words; bits = shown.width }
+
+  pub stands-in-memory : StandsInMemory im a sc n (layout t) (meaning e) (pieces made)
+  stands-in-memory = record {
+    writes = λ now v agree.
+        subst (λ k. IsWrittenInWords (layout t) ((meaning e).window (record a { now = now })) (S.wide (meaning e)) k (pieces made) sc v) shown.number
+        (targets-written n t i e h.inner h.is_inner typed xs part path h.word h.image.name h.image.bits h.alone.writes made h.own h.all (record a { now = now }) sc v is-memory (selected now v agree) (written now v agree));
+    changes = λ now v agree.
+        targets-change n t i e h.inner h.is_inner typed xs part path h.word h.image.name h.image.bits h.alone.writes made h.own h.all (record a { now = now }) sc v is-memory (selected now v agree) (written now v agree)
+        im distinct (sym shown.number) shown.image shown.marks shown.in_words;
+    own = subst (λ ps. AllWrite (im.number n) ps sc) (sym (words-are h.word h.image.name h.image.bits h.alone.writes made h.own h.all))
+        (subst (λ k. AllWrite k (word_pieces h.image.name (word_guard h.word) (word_sel h.word) (inners h.alone.writes)) sc) shown.number
+        (words-write h.image.name (word_guard h.word) (word_sel h.word) (inners h.alone.writes) sc));
+  }
+
+pub lowers-in-memory : (names : NameMap) (fs : List Function) (hs : List Helper) (n : ℕ) (t : SvType) (i e : Expr) (made : List Write) → IsInWord names fs hs n t i e made → (xs : List Indexing) (part : Bool)
+    → IsTypedPath n t e xs part → (meaning e).misfits ≡ 0 → LowersInMemory names fs hs n t e made
+lowers-in-memory names fs hs n t i e made h xs part path typed im a sc distinct memory all helps = stands-in-memory names fs hs n t i e made h xs part path typed im a sc distinct memory all helps

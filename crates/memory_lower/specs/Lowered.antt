@@ -1,0 +1,77 @@
+-- What targets for a path on an element of a signal promise, where the signal is a memory in the text (IEEE 1800-2017 clauses 10.4
+-- and 11.5.1, IEEE 1364-2005 clause 4.9).
+use Rattle.std.specs.Prelude.{◌≡◌, ℕ, ◌≤◌, ◌<◌, ◌^◌, true, ℤ, List, [], length, Option}
+use Rattle.row_machine.specs.Valuation.{Valuation}
+use Rattle.sv_types.specs.declared.expression.Expr.{Expr}
+use Rattle.sv_types.specs.declared.statement.Function.{Function}
+use Rattle.sv_types.specs.declared.types.SvType.{SvType}
+use Rattle.sv_types.specs.Layouts.{Layout, layout}
+use Rattle.sv_types.specs.Surroundings.{Around}
+use Rattle.sv_types.specs.Meanings as S
+use Rattle.sv_types.specs.Expressions.{meaning}
+use Rattle.v_tree.specs.declared.names.Helper.{Helper}
+use Rattle.v_tree.specs.declared.names.NameMap.{NameMap}
+use Rattle.v_meaning.specs.Scopes.{Scope}
+use Rattle.lowering_laws.specs.Agreeing.{Images, AreDistinct, Agree}
+use Rattle.lowering_laws.specs.Reached.{Piece}
+use Rattle.lowering_laws.proofs.Changes.{HasPieces}
+use Rattle.path_flatten.specs.declared.offsets.Index.{Index}
+use Rattle.path_flatten.specs.Helping.{EachHelps}
+use Rattle.path_steps.specs.Known.{IsKnown}
+use Rattle.target_flatten.specs.declared.writes.Image.{Image}
+use Rattle.target_flatten.specs.declared.writes.Write.{Write}
+use Rattle.target_flatten.specs.Owning.{AllOwn, AllWrite}
+use Rattle.target_flatten.specs.Writing.{pieces}
+use Rattle.target_walk.specs.declared.given.Given.{Given}
+use Rattle.target_walk.specs.declared.never.Targets.{Targets}
+use Rattle.target_walk.specs.Naming.{FlattensIn}
+use Rattle.target_walk.specs.Rooms.{MakesRoom}
+use Rattle.expr_lower.specs.Leaves.{leaves, Each}
+use Rattle.expr_lower.specs.Lowering.{LeafStands}
+use Rattle.expr_lower.specs.Named.{signal_name, is_memory}
+use Rattle.expr_lower.specs.Paths.{Indexes}
+use Rattle.target_lower.specs.Made.{PutsIndices}
+use Rattle.memory_laws.specs.InWords.{IsWrittenInWords}
+use Rattle.memory_words.specs.Words.{FindsWord, NamesWord, NumbersWord}
+use Rattle.memory_paths.specs.Inner.{IsInner}
+use Rattle.memory_targets.specs.declared.words.Word.{Word}
+use Rattle.memory_targets.specs.declared.words.Word.TheVariants as W
+use Rattle.memory_targets.specs.Pieces.{AllInWord}
+
+-- On all valuations that agree, they write to the words of the signal's image each bit that a write through the path does, with its
+-- bit of the value, and no other bit; so images change as signals do by an assignment to the path. Each writes that image alone.
+pub record StandsInMemory (im : Images) (a : Around) (sc : Scope) (n : ℕ) (of : Layout) (e : S.Meaning) (ps : List Piece) : Type 0 where
+  pub writes : (now v : Valuation) → Agree im now v → IsWrittenInWords of (e.window (record a { now = now })) (S.wide e) (im.number n) ps sc v
+  pub changes : (now v : Valuation) → Agree im now v → HasPieces im e ps (record a { now = now }) sc v
+  pub own : AllWrite (im.number n) ps sc
+
+-- so they do wherever the signal is a memory, the text has what the path's leaves need and these helpers, and no two things have one
+-- image
+abbrev pub LowersInMemory : NameMap → List Function → List Helper → ℕ → SvType → Expr → List Write → Type 0
+LowersInMemory names fs hs n t e xs = (im : Images) (a : Around) (sc : Scope) → AreDistinct im → is_memory names.signals n ≡ true → Each (LeafStands names fs im a sc) (leaves e) → EachHelps hs sc
+    → StandsInMemory im a sc n (layout t) (meaning e) (pieces xs)
+
+-- the word of an element's index: by the number that it is known to have, or by the index that is lowered alone
+abbrev pub IsWordFor : NameMap → List Function → List Helper → SvType → Expr → Word → Type 0
+IsWordFor names fs hs t i (W.Known x) = (k : Option ℤ) × IsKnown i k × NumbersWord (layout t) k x
+IsWordFor names fs hs t i (W.Lowered r) = (x : Index) × Indexes names fs hs i x × FindsWord x t r × NamesWord x r
+
+-- targets for the path in the element alone, in a vector of its bits, and those in the word
+pub record IsInWord (names : NameMap) (fs : List Function) (hs : List Helper) (n : ℕ) (t : SvType) (i e : Expr) (made : List Write) : Type 0 where
+  pub inner : Expr
+  pub is_inner : IsInner n t i e inner
+  pub word : Word
+  pub is_word : IsWordFor names fs hs t i word
+  pub given : List Given
+  pub puts : PutsIndices names fs hs inner [] given
+  pub image : Image
+  pub named : image.name ≡ signal_name names.signals n
+  pub bits : image.bits ≡ length (layout t).element.two_state
+  pub narrow : image.bits ≤ 4194304
+  pub room : MakesRoom inner given image.room
+  pub enough : image.bits < 2 ^ image.room
+  pub some : 1 ≤ image.room
+  pub alone : Targets
+  pub flattens : FlattensIn image inner given alone
+  pub own : AllOwn image.name image.bits alone.writes
+  pub all : AllInWord word alone.writes made
