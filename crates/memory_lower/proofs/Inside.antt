@@ -1,5 +1,5 @@
 -- A path on an element: its type, its indices and its leaves, by the path in the element alone.
-use Rattle.std.proofs.Common.{◌≡◌, ℕ, Bool, List, [], ◌∷◌, ◌++◌, length, ap, sym, ◌∙◌, subst}
+use Rattle.std.proofs.Common.{◌≡◌, ℕ, Bool, false, List, [], ◌∷◌, ◌++◌, length, ap, sym, ◌∙◌, subst}
 use Rattle.sv_types.specs.declared.expression.Expr.{Expr}
 use Rattle.sv_types.specs.declared.types.SvType.{SvType}
 use Rattle.sv_types.specs.Layouts.{Layout, layout, width_of}
@@ -10,7 +10,7 @@ use Rattle.eval_parts.proofs.Selecting.{same-Member, same-Index, same-Part, same
 use Rattle.lowering_laws.proofs.Wholes.{index-typed}
 use Rattle.typed_paths.specs.Typed.{Indexing, IsTypedPath}
 use Rattle.typed_paths.proofs.Marking.{member-marks, index-marks, part-marks, sliding-marks}
-use Rattle.typed_paths.proofs.Opening.{of-Local, of-Member, of-Index, of-Part, of-Slide}
+use Rattle.typed_paths.proofs.Opening.{of-Signal, of-Local, of-Member, of-Index, of-Part, of-Slide}
 use Rattle.expr_lower.specs.Leaves.{Leaf, Signals, Elements, onto, indexed, leaves, Each}
 use Rattle.expr_lower.proofs.AskedLeaves.{each-left, each-right, leaves-Signal, leaves-Member, leaves-Index, leaves-Part, leaves-Slide}
 use Rattle.target_lower.specs.Roots.{index_leaves}
@@ -19,7 +19,7 @@ use Rattle.memory_paths.specs.Inner.{IsInner, of_element, of_member, of_index, o
 misfits-as : (e : Expr) (m : S.Meaning) → meaning e ≡ m → (meaning e).misfits ≡ 0 → m.misfits ≡ 0
 misfits-as e m same typed = ap (λ (x : S.Meaning). x.misfits) (sym same) ∙ typed
 
-both-each : (P : Leaf → Type 0) (xs ys : List Leaf) → Each P xs → Each P ys → Each P (xs ++ ys)
+pub both-each : (P : Leaf → Type 0) (xs ys : List Leaf) → Each P xs → Each P ys → Each P (xs ++ ys)
 both-each P [] ys h k = k
 both-each P (x ∷ xs) ys h k = (h.0, both-each P xs ys h.1 k)
 
@@ -105,3 +105,21 @@ module _ (n : ℕ) (t : SvType) (i : Expr) where
               (let o = (of-Slide m u y inner j k up ys part alone path).step in
               one-more j o.others ys o.inner o.all (r.inner (each-left L r.others (leaves j) h) m u o.others o.inner o.path) (each-right L r.others (leaves j) h));
         }
+
+  -- the path stands on the signal, which has the type
+  pub record StandsOnSignal (m : ℕ) (u : SvType) : Type 0 where
+    pub number : n ≡ m
+    pub type : t ≡ u
+
+  pub stands-on-signal : (e d : Expr) → IsInner n t i e d → (m : ℕ) (u : SvType) (xs : List Indexing) (part : Bool) → IsTypedPath m u e xs part → StandsOnSignal m u
+  stands-on-signal e d (of_element x from y is on of alone same) m u xs part path =
+      let o = of-Index m u x from i xs part is path in
+      let r = of-Signal m u from n o.others o.inner on o.path in
+      record { number = r.it; type = sym of ∙ r.type }
+  stands-on-signal e d (of_member x from y inner k is alone same rest) m u xs part path = stands-on-signal from inner rest m u xs false (of-Member m u x from k xs part is path).path
+  stands-on-signal e d (of_index x from y inner j is alone same rest) m u xs part path =
+      let o = of-Index m u x from j xs part is path in stands-on-signal from inner rest m u o.others o.inner o.path
+  stands-on-signal e d (of_part x from y inner left right is alone same rest) m u xs part path =
+      let o = of-Part m u x from left right xs part is path in stands-on-signal from inner rest m u xs o.inner o.path
+  stands-on-signal e d (of_slide x from y inner j k up is alone same rest) m u xs part path =
+      let o = (of-Slide m u x from j k up xs part is path).step in stands-on-signal from inner rest m u o.others o.inner o.path

@@ -1,3 +1,4 @@
 pub mod Inside
 pub mod Lowered
 pub mod Naming
+pub mod Preparing

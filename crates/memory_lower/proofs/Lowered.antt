@@ -22,17 +22,19 @@ use Rattle.lowering_laws.specs.Agreeing.{Images, AreDistinct, Agree}
 use Rattle.path_flatten.specs.declared.offsets.Index.{Index}
 use Rattle.path_flatten.specs.Helping.{EachHelps}
 use Rattle.path_flatten.specs.Sliding.{IsIndexOf}
-use Rattle.typed_paths.specs.Typed.{Indexing, IsTypedPath}
+use Rattle.typed_paths.specs.Typed.{Indexing, IsTypedPath, IsTyped}
 use Rattle.target_flatten.specs.declared.writes.Write.{Write}
 use Rattle.target_flatten.specs.Owning.{AreUsesOf, AllWrite}
 use Rattle.target_flatten.specs.Writing.{pieces, pieces_in, WritesPath}
+use Rattle.target_walk.specs.declared.given.Given.{Given}
+use Rattle.target_walk.specs.declared.given.Given.TheVariants as G
 use Rattle.target_walk.specs.Rooms.{Followed}
 use Rattle.target_walk.specs.Walking.{Indexed}
 use Rattle.expr_lower.specs.Leaves.{Elements, leaves, Each}
 use Rattle.expr_lower.specs.Lowering.{LeafStands, ShowsElements, IsShownInWords}
 use Rattle.expr_lower.specs.Named.{signal_name, is_memory}
 use Rattle.expr_lower.specs.Paths.{Indexes}
-use Rattle.target_lower.specs.Made.{AreMade}
+use Rattle.target_lower.specs.Made.{IsMade, AreMade}
 use Rattle.target_lower.proofs.Making.{made-given}
 use Rattle.target_lower.proofs.Following.{followed}
 use Rattle.memory_laws.specs.InWords.{Inner, IsMemoryOf, word_alone, word_pieces, SelectsWord, IsWrittenInWords}
@@ -45,7 +47,8 @@ use Rattle.memory_targets.specs.Pieces.{inners}
 use Rattle.memory_targets.proofs.Pieces.{words-are, targets-written, targets-change}
 use Rattle.memory_targets.proofs.Selecting.{exact-selects, known-selects}
 use Rattle.memory_lower.specs.Lowered.{StandsInMemory, LowersInMemory, IsWordFor, IsInWord}
-use Rattle.memory_lower.proofs.Inside.{Inside, inside, LeavesOf, leaves-of}
+use Rattle.memory_lower.specs.Made.{WordOf, LowersMemory}
+use Rattle.memory_lower.proofs.Inside.{Inside, inside, LeavesOf, leaves-of, stands-on-signal}
 
 -- targets in a word may write the memory alone
 word-writes : (name : Name) (s : SelMeaning) (sels : List SelMeaning) (sc : Scope) → AreUsesOf (named sc.names name).number ((name_target name (s ∷ sels)).writes sc)
@@ -139,3 +142,20 @@ module _ (names : NameMap) (fs : List Function) (hs : List Helper) (n : ℕ) (t 
 pub lowers-in-memory : (names : NameMap) (fs : List Function) (hs : List Helper) (n : ℕ) (t : SvType) (i e : Expr) (made : List Write) → IsInWord names fs hs n t i e made → (xs : List Indexing) (part : Bool)
     → IsTypedPath n t e xs part → (meaning e).misfits ≡ 0 → LowersInMemory names fs hs n t e made
 lowers-in-memory names fs hs n t i e made h xs part path typed im a sc distinct memory all helps = stands-in-memory names fs hs n t i e made h xs part path typed im a sc distinct memory all helps
+
+-- where it is typed
+pub lowers-memory : (names : NameMap) (fs : List Function) (hs : List Helper) (n : ℕ) (t : SvType) (i e : Expr) (made : List Write) → IsInWord names fs hs n t i e made → IsTyped e → (meaning e).misfits ≡ 0
+    → LowersMemory names fs hs e made
+lowers-memory names fs hs n t i e made h typed fits =
+    let on = stands-on-signal n t i e h.inner h.is_inner typed.number typed.of typed.indices typed.part typed.path in
+    let path : IsTypedPath n t e typed.indices typed.part =
+    subst (λ k. IsTypedPath k t e typed.indices typed.part) (sym on.number) (subst (λ u. IsTypedPath typed.number u e typed.indices typed.part) (sym on.type) typed.path) in
+    record { signal = n; of = t; lowers = lowers-in-memory names fs hs n t i e made h typed.indices typed.part path fits }
+
+-- the word of an index as it is given
+pub word-for : (names : NameMap) (fs : List Function) (hs : List Helper) (t : SvType) (i : Expr) (part : Bool) (g : Given) (w : Word) → IsMade names fs hs (record { index = i; in_part = part }) g → WordOf t g w
+    → IsWordFor names fs hs t i w
+word-for names fs hs t i part (G.Known k) (W.Known x) h is = (k, h.stands, is)
+word-for names fs hs t i part (G.Known k) (W.Lowered r) h is = absurd is
+word-for names fs hs t i part (G.Lowered x d) (W.Known y) h is = absurd is
+word-for names fs hs t i part (G.Lowered x d) (W.Lowered r) h is = (x, h.stands.0, is.0, is.1)
