@@ -28,7 +28,7 @@ use Rattle.target_walk.specs.declared.given.Given.{Given}
 use Rattle.target_walk.specs.declared.given.Given.TheVariants as G
 use Rattle.target_walk.specs.declared.never.Targets.{Targets}
 use Rattle.target_walk.specs.Giving.{all_names, given_names}
-use Rattle.target_walk.specs.Naming.{NamesAlso, IsNever, is_lowered, has_lowered, NamedApart, NamesFrom, all_piece_names, apart_names, FlattensTo, FlattensIn}
+use Rattle.target_walk.specs.Naming.{NamesAlso, IsNever, is_lowered, has_lowered, NamedApart, NamesFrom, all_piece_names, apart_names, target_names, FlattensTo, FlattensIn}
 use Rattle.target_walk.specs.Walking.{Written, WritesAll}
 
 -- conditions that are never 1
