@@ -54,7 +54,7 @@ module _ (tree : SourceTree) (t : Table) where
   names_thing K.TypeName = true
   names_thing K.EnumName = true
   names_thing K.Signal = true
-  names_thing K.Genvar = true
+  names_thing K.Genvar = false
   names_thing K.Function = false
   names_thing K.Instance = false
   names_thing K.Block = false

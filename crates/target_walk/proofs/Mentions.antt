@@ -28,7 +28,7 @@ use Rattle.target_walk.specs.declared.given.Given.{Given}
 use Rattle.target_walk.specs.declared.given.Given.TheVariants as G
 use Rattle.target_walk.specs.declared.never.Targets.{Targets}
 use Rattle.target_walk.specs.Giving.{all_names, given_names}
-use Rattle.target_walk.specs.Naming.{NamesAlso, IsNever, is_lowered, has_lowered, NamedApart, NamesFrom, all_piece_names, apart_names, FlattensTo, FlattensIn}
+use Rattle.target_walk.specs.Naming.{NamesAlso, IsNever, is_lowered, has_lowered, NamedApart, NamesFrom, all_piece_names, apart_names, target_names, FlattensTo, FlattensIn}
 use Rattle.target_walk.specs.Walking.{Written, WritesAll}
 
 -- conditions that are never 1
@@ -113,19 +113,6 @@ by-name : (im : Image) (e : Expr) (gs : List Given) (xs : List Write) (a : Aroun
     → WritesPath (named sc.names im.name) (meaning e) a (pieces xs) sc v
 by-name im e gs xs a sc v own h = written-by-name im.name im.bits sc ((meaning e).window a) (S.wide (meaning e)) xs v own h.path
 
-flattened-some : (im : Image) (e : Expr) (gs : List Given) (y : Write) (ys : List Write) (r : Targets) → WritesAll im e gs (y ∷ ys) → AllOwn im.name im.bits (y ∷ ys) → r.writes ≡ y ∷ ys → r.named ≡ None → FlattensTo im e gs r
-flattened-some im e gs y ys r writes own all none a sc v p vector small bits one room typed path =
-    let h = writes p (named sc.names im.name) a sc v (record { vector = vector.vector; width = vector.width }) small one room typed path in
-    let ns = all_piece_names (pieces (y ∷ ys)) sc in
-    let names : SameNumbers (all_names gs sc) (all_piece_names (pieces (y ∷ ys)) sc ++ []) =
-    same-then (all_names gs sc) (all_piece_names (pieces (y ∷ ys)) sc) (all_piece_names (pieces (y ∷ ys)) sc ++ []) (each-all (all_names gs sc) (write_piece y) (pieces ys) sc h.names)
-    (same-by ns (ns ++ []) (sym (append-nil ns))) in
-    record {
-      path = subst (λ (zs : List Write). WritesPath (named sc.names im.name) (meaning e) a (pieces zs) sc v) (sym all) (by-name im e gs (y ∷ ys) a sc v own h);
-      names = subst (λ (zs : List Write). SameNumbers (all_names gs sc) (all_piece_names (pieces zs) sc ++ apart_names r.named sc)) (sym all)
-          (subst (λ (o : Option VExpr). SameNumbers (all_names gs sc) (all_piece_names (pieces (y ∷ ys)) sc ++ apart_names o sc)) (sym none) names);
-    }
-
 none-apart : (gs : List Given) (y : Write) (ys : List Write) (o : Option VExpr) → NamedApart gs (y ∷ ys) o → o ≡ None
 none-apart gs y ys None h = refl
 none-apart gs y ys (Some m) h = absurd h
@@ -134,24 +121,38 @@ apart-named : (gs : List Given) (o : Option VExpr) (sc : Scope) → NamedApart g
 apart-named gs None sc none = same-by (all_names gs sc) [] (none-lowered gs sc none)
 apart-named gs (Some m) sc never = never.names sc
 
-flattened-none : (im : Image) (e : Expr) (gs : List Given) (r : Targets) → WritesAll im e gs [] → AllOwn im.name im.bits [] → r.writes ≡ [] → NamedApart gs [] r.named → FlattensTo im e gs r
-flattened-none im e gs r writes own all apart a sc v p vector small bits one room typed path =
-    let h = writes p (named sc.names im.name) a sc v (record { vector = vector.vector; width = vector.width }) small one room typed path in
-    record {
-      path = subst (λ (zs : List Write). WritesPath (named sc.names im.name) (meaning e) a (pieces zs) sc v) (sym all) (by-name im e gs [] a sc v own h);
-      names = subst (λ (zs : List Write). SameNumbers (all_names gs sc) (all_piece_names (pieces zs) sc ++ apart_names r.named sc)) (sym all) (apart-named gs r.named sc apart);
-    }
+-- targets and what stands apart name what the indices do
+targets-named : (gs : List Given) (xs : List Write) (r : Targets) (sc : Scope) → EachNames (all_names gs sc) (pieces xs) sc → r.writes ≡ xs → NamedApart gs xs r.named
+    → SameNumbers (all_names gs sc) (target_names r sc)
+targets-named gs (y ∷ ys) r sc each all apart =
+    let ns = all_piece_names (pieces (y ∷ ys)) sc in
+    let names : SameNumbers (all_names gs sc) (all_piece_names (pieces (y ∷ ys)) sc ++ []) =
+    same-then (all_names gs sc) (all_piece_names (pieces (y ∷ ys)) sc) (all_piece_names (pieces (y ∷ ys)) sc ++ []) (each-all (all_names gs sc) (write_piece y) (pieces ys) sc each)
+    (same-by ns (ns ++ []) (sym (append-nil ns))) in
+    subst (λ (zs : List Write). SameNumbers (all_names gs sc) (all_piece_names (pieces zs) sc ++ apart_names r.named sc)) (sym all)
+    (subst (λ (o : Option VExpr). SameNumbers (all_names gs sc) (all_piece_names (pieces (y ∷ ys)) sc ++ apart_names o sc)) (sym (none-apart gs y ys r.named apart)) names)
+targets-named gs [] r sc each all apart =
+    subst (λ (zs : List Write). SameNumbers (all_names gs sc) (all_piece_names (pieces zs) sc ++ apart_names r.named sc)) (sym all) (apart-named gs r.named sc apart)
 
+-- what is written in the end
 pub flattened : (im : Image) (e : Expr) (gs : List Given) (q : Result (List Write) AllocError) (r : Targets) → IfOk q (WritesAll im e gs) → IfOk q (AllOwn im.name im.bits) → NamesFrom gs q r
     → FlattensTo im e gs r
-flattened im e gs (Err x) r writes own names = absurd names
-flattened im e gs (Ok (y ∷ ys)) r writes own names = flattened-some im e gs y ys r writes own names.0 (none-apart gs y ys r.named names.1)
-flattened im e gs (Ok []) r writes own names = flattened-none im e gs r writes own names.0 names.1
+flattened im e gs (Err x) r writes own names a sc v p vector small bits one room typed path = absurd names
+flattened im e gs (Ok xs) r writes own names a sc v p vector small bits one room typed path =
+    let h = writes p (named sc.names im.name) a sc v (record { vector = vector.vector; width = vector.width }) small one room typed path in
+    record {
+      path = subst (λ (zs : List Write). WritesPath (named sc.names im.name) (meaning e) a (pieces zs) sc v) (sym names.0) (by-name im e gs xs a sc v own h);
+      names = targets-named gs xs r sc h.names names.0 names.1;
+    }
 
 flattened-in : (im : Image) (e : Expr) (gs : List Given) (q : Result (List Write) AllocError) (r : Targets) → IfOk q (WritesAll im e gs) → NamesFrom gs q r → FlattensIn im e gs r
 flattened-in im e gs (Err x) r writes names vec a sc v p vector small one room typed path = absurd names
 flattened-in im e gs (Ok xs) r writes names vec a sc v p vector small one room typed path =
-    subst (λ (zs : List Write). WritesPath vec (meaning e) a (pieces_in vec zs) sc v) (sym names.0) (writes p vec a sc v vector small one room typed path).path
+    let h = writes p vec a sc v vector small one room typed path in
+    record {
+      path = subst (λ (zs : List Write). WritesPath vec (meaning e) a (pieces_in vec zs) sc v) (sym names.0) h.path;
+      names = targets-named gs xs r sc h.names names.0 names.1;
+    }
 
 -- and from what may want memory
 pub flattened-all : (im : Image) (e : Expr) (gs : List Given) (q : Result (List Write) AllocError) (r : Result Targets AllocError) → IfOk q (WritesAll im e gs) → IfOk q (AllOwn im.name im.bits)

@@ -75,7 +75,12 @@ abbrev pub FlattensTo : Image → Expr → List Given → Targets → Type 0
 FlattensTo im e gs r = (a : Around) (sc : Scope) (v : Valuation) (part : Bool) → IsVectorOf im.name im.bits sc → im.bits < 2 ^ 32 → 1 ≤ im.bits → 1 ≤ im.room → im.bits < 2 ^ im.room
     → (meaning e).misfits ≡ 0 → Indexed im.room im.bits a sc v e gs part → Flattened im e gs r a sc v
 
--- The selects of targets write a path in each vector of the image's bits, whatever the name: so they do in a word of a memory.
+-- The selects of targets write a path in a vector, whatever the name, and they and an expression apart name what its indices do.
+pub record FlattenedIn (vec : Named) (e : Expr) (gs : List Given) (r : Targets) (a : Around) (sc : Scope) (v : Valuation) : Type 0 where
+  pub path : WritesPath vec (meaning e) a (pieces_in vec r.writes) sc v
+  pub names : SameNumbers (all_names gs sc) (target_names r sc)
+
+-- so they do in each vector of the image's bits, as a word of a memory is one
 abbrev pub FlattensIn : Image → Expr → List Given → Targets → Type 0
 FlattensIn im e gs r = (vec : Named) (a : Around) (sc : Scope) (v : Valuation) (part : Bool) → IsVector vec im.bits → im.bits < 2 ^ 32 → 1 ≤ im.room → im.bits < 2 ^ im.room
-    → (meaning e).misfits ≡ 0 → Indexed im.room im.bits a sc v e gs part → WritesPath vec (meaning e) a (pieces_in vec r.writes) sc v
+    → (meaning e).misfits ≡ 0 → Indexed im.room im.bits a sc v e gs part → FlattenedIn vec e gs r a sc v

@@ -204,7 +204,7 @@ impl<'t> SourceNames<'t> {
             DeclKind::TypeName => true,
             DeclKind::EnumName => true,
             DeclKind::Signal => true,
-            DeclKind::Genvar => true,
+            DeclKind::Genvar => false,
             DeclKind::Function => false,
             DeclKind::Instance => false,
             DeclKind::Block => false,
