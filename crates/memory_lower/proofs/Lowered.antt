@@ -1,10 +1,20 @@
 -- Targets in the words of a memory stand for a path on an element of the signal.
-use Rattle.std.proofs.Common.{◌≡◌, ℕ, ◌<◌, ◌≤◌, ◌^◌, Bool, true, List, [], ◌∷◌, length, Option, refl, arith, sym, ◌∙◌, subst}
+use Rattle.std.proofs.Common.{◌≡◌, ℕ, ◌<◌, ◌≤◌, ◌^◌, Bool, true, false, List, [], ◌∷◌, ◌++◌, length, Option, refl, arith, sym, ◌∙◌, subst}
+use Rattle.b4_core.specs.declared.bit.Bit4.TheVariants.{Zero}
+use Rattle.lowering_laws.specs.NamedImages.{AreImages}
+use Rattle.lowering_laws.proofs.Naming.{both-images}
+use Rattle.path_flatten.proofs.Naming.{same-itself, same-then, same-joined}
+use Rattle.path_steps.proofs.PathNames.{images-like}
+use Rattle.target_walk.specs.declared.never.Targets.{Targets}
+use Rattle.target_walk.specs.Giving.{all_names}
+use Rattle.target_walk.specs.Naming.{FlattenedIn, target_names}
+use Rattle.memory_targets.specs.Names.{word_names}
+use Rattle.memory_lower.proofs.Naming.{word-named, names-in-word}
 use Rattle.row_machine.specs.Valuation.{Valuation}
 use Rattle.sv_types.specs.declared.expression.Expr.{Expr}
 use Rattle.sv_types.specs.declared.statement.Function.{Function}
 use Rattle.sv_types.specs.declared.types.SvType.{SvType}
-use Rattle.sv_types.specs.Layouts.{layout, width_of, count_of}
+use Rattle.sv_types.specs.Layouts.{layout, width_of, count_of, stored_bit}
 use Rattle.sv_types.specs.Surroundings.{Around, local_number}
 use Rattle.sv_types.specs.Meanings as S
 use Rattle.sv_types.specs.Paths as P
@@ -23,7 +33,6 @@ use Rattle.path_flatten.specs.declared.offsets.Index.{Index}
 use Rattle.path_flatten.specs.Helping.{EachHelps}
 use Rattle.path_flatten.specs.Sliding.{IsIndexOf}
 use Rattle.typed_paths.specs.Typed.{Indexing, IsTypedPath, IsTyped}
-use Rattle.target_flatten.specs.declared.writes.Write.{Write}
 use Rattle.target_flatten.specs.Owning.{AreUsesOf, AllWrite}
 use Rattle.target_flatten.specs.Writing.{pieces, pieces_in, WritesPath}
 use Rattle.target_walk.specs.declared.given.Given.{Given}
@@ -35,11 +44,11 @@ use Rattle.expr_lower.specs.Lowering.{LeafStands, ShowsElements, IsShownInWords}
 use Rattle.expr_lower.specs.Named.{signal_name, is_memory}
 use Rattle.expr_lower.specs.Paths.{Indexes}
 use Rattle.target_lower.specs.Made.{IsMade, AreMade}
-use Rattle.target_lower.proofs.Making.{made-given}
-use Rattle.target_lower.proofs.Following.{followed}
+use Rattle.target_lower.proofs.Making.{made-given, made-named}
+use Rattle.target_lower.proofs.Following.{followed, indices-named}
 use Rattle.memory_laws.specs.InWords.{Inner, IsMemoryOf, word_alone, word_pieces, SelectsWord, IsWrittenInWords}
 use Rattle.memory_words.specs.Words.{NumbersWord}
-use Rattle.memory_paths.proofs.Inner.{InnerPath, inner-path, inner-typed}
+use Rattle.memory_paths.proofs.Inner.{InnerPath, inner-path, inner-typed, outer-names}
 use Rattle.memory_targets.specs.declared.words.Word.{Word}
 use Rattle.memory_targets.specs.declared.words.Word.TheVariants as W
 use Rattle.memory_targets.specs.Words.{word_sel, word_guard}
@@ -75,10 +84,18 @@ module _ (names : NameMap) (fs : List Function) (hs : List Helper) (im : Images)
   word-selected (W.Known x) h = known-selects (layout t) _ x sc v (subst (λ z. NumbersWord (layout t) z x) (sym (h.1.number (record a { now = now }))) h.2)
   word-selected (W.Lowered r) h = exact-selects (layout t) _ _ _ sc v (h.2 (meaning i) (record a { now = now }) sc v (index-of h.0 h.1))
 
+-- a valuation that always agrees
+abbrev zeros : Valuation
+zeros q = Zero
+
+zero-stored : (b : Bool) → stored_bit b Zero ≡ Zero
+zero-stored true = refl
+zero-stored false = refl
+
 small-bits : (n : ℕ) → n ≤ 4194304 → n < 2 ^ 32
 small-bits n h = omega arith
 
-module _ (names : NameMap) (fs : List Function) (hs : List Helper) (n : ℕ) (t : SvType) (i e : Expr) (made : List Write) (h : IsInWord names fs hs n t i e made) (xs : List Indexing) (part : Bool)
+module _ (names : NameMap) (fs : List Function) (hs : List Helper) (n : ℕ) (t : SvType) (i e : Expr) (made : Targets) (h : IsInWord names fs hs n t i e made) (xs : List Indexing) (part : Bool)
     (path : IsTypedPath n t e xs part) (typed : (meaning e).misfits ≡ 0)
     (im : Images) (a : Around) (sc : Scope) (distinct : AreDistinct im) (memory : is_memory names.signals n ≡ true) (all : Each (LeafStands names fs im a sc) (leaves e)) (helps : EachHelps hs sc) where
   abbrev w : ℕ
@@ -116,35 +133,59 @@ module _ (names : NameMap) (fs : List Function) (hs : List Helper) (n : ℕ) (t 
       h.room h.image.room h.image.bits b sc v part (omega arith)
       (subst (λ k. Followed k b sc v h.inner h.given part) wide (followed (local_number 0) inner.of b sc v h.inner inner.indices part h.given inner.path given))
 
+  flat : (now v : Valuation) → Agree im now v → FlattenedIn (word_alone w) h.inner h.given h.alone (record a { now = now }) sc v
+  flat now v agree = h.flattens (word_alone w) (record a { now = now }) sc v part (record { vector = refl; width = sym h.bits }) (small-bits h.image.bits h.narrow) h.some h.enough fits (indexed now v agree)
+
   written : (now v : Valuation) → Agree im now v → WritesPath (word_alone w) (meaning h.inner) (record a { now = now }) (pieces_in (word_alone w) h.alone.writes) sc v
-  written now v agree =
-      h.flattens (word_alone w) (record a { now = now }) sc v part (record { vector = refl; width = sym h.bits }) (small-bits h.image.bits h.narrow) h.some h.enough fits (indexed now v agree)
+  written now v agree = (flat now v agree).path
 
   selected : (now v : Valuation) → Agree im now v → SelectsWord (layout t) (P.index_of (meaning i) (record a { now = now })) (word_guard h.word) (word_sel h.word) sc v
   selected now v agree = word-selected names fs hs im a sc helps t i in_element.typed (kept.index stand.1) now v agree h.word h.is_word
 
+  -- all indices of the path, by those of the path in the element and what names the word
+  indices-images : AreImages im.number (meaning e).index_names (word_names h.word sc ++ all_names h.given sc)
+  indices-images =
+      subst (λ l. AreImages im.number l (word_names h.word sc ++ all_names h.given sc)) (sym (outer-names n t i e h.inner h.is_inner))
+      (both-images im.number (meaning i).names (meaning h.inner).index_names (word_names h.word sc) (all_names h.given sc)
+      (word-named names fs hs im a sc helps t i (kept.index stand.1) h.word h.is_word)
+      (indices-named im.number sc (local_number 0) inner.of h.inner inner.indices part h.given inner.path
+      (made-named names fs hs im a sc helps (local_number 0) inner.of h.inner inner.indices part h.given inner.path fits
+      (kept.inner stand.1 (local_number 0) inner.of inner.indices part inner.path) are-made)))
+
+  zeros-agree : Agree im zeros zeros
+  zeros-agree = record { same = λ q b less. refl; stored = λ q b less. zero-stored (im.two_state q b) }
+
+  all-named : AreImages im.number (meaning e).index_names (target_names made sc)
+  all-named =
+      let ns = word_names h.word sc in
+      images-like im.number (meaning e).index_names (ns ++ all_names h.given sc) (target_names made sc) indices-images
+      (same-then (ns ++ all_names h.given sc) (ns ++ target_names h.alone sc) (target_names made sc)
+      (same-joined ns ns (all_names h.given sc) (target_names h.alone sc) (same-itself ns) (flat zeros zeros zeros-agree).names)
+      (names-in-word h.word h.image.name h.image.bits h.alone.writes made.writes h.alone.named made.named sc h.own h.all h.apart))
+
   is-memory : IsMemoryOf h.image.name (count_of (layout t).left (layout t).right) w sc
   is-memory = record { words = shown.words; bits = shown.width }
 
-  pub stands-in-memory : StandsInMemory im a sc n (layout t) (meaning e) (pieces made)
+  pub stands-in-memory : StandsInMemory im a sc n (layout t) (meaning e) made
   stands-in-memory = record {
     writes = λ now v agree.
-        subst (λ k. IsWrittenInWords (layout t) ((meaning e).window (record a { now = now })) (S.wide (meaning e)) k (pieces made) sc v) shown.number
-        (targets-written n t i e h.inner h.is_inner typed xs part path h.word h.image.name h.image.bits h.alone.writes made h.own h.all (record a { now = now }) sc v is-memory (selected now v agree) (written now v agree));
+        subst (λ k. IsWrittenInWords (layout t) ((meaning e).window (record a { now = now })) (S.wide (meaning e)) k (pieces made.writes) sc v) shown.number
+        (targets-written n t i e h.inner h.is_inner typed xs part path h.word h.image.name h.image.bits h.alone.writes made.writes h.own h.all (record a { now = now }) sc v is-memory (selected now v agree) (written now v agree));
     changes = λ now v agree.
-        targets-change n t i e h.inner h.is_inner typed xs part path h.word h.image.name h.image.bits h.alone.writes made h.own h.all (record a { now = now }) sc v is-memory (selected now v agree) (written now v agree)
+        targets-change n t i e h.inner h.is_inner typed xs part path h.word h.image.name h.image.bits h.alone.writes made.writes h.own h.all (record a { now = now }) sc v is-memory (selected now v agree) (written now v agree)
         im distinct (sym shown.number) shown.image shown.marks shown.in_words;
-    own = subst (λ ps. AllWrite (im.number n) ps sc) (sym (words-are h.word h.image.name h.image.bits h.alone.writes made h.own h.all))
+    names = all-named;
+    own = subst (λ ps. AllWrite (im.number n) ps sc) (sym (words-are h.word h.image.name h.image.bits h.alone.writes made.writes h.own h.all))
         (subst (λ k. AllWrite k (word_pieces h.image.name (word_guard h.word) (word_sel h.word) (inners h.alone.writes)) sc) shown.number
         (words-write h.image.name (word_guard h.word) (word_sel h.word) (inners h.alone.writes) sc));
   }
 
-pub lowers-in-memory : (names : NameMap) (fs : List Function) (hs : List Helper) (n : ℕ) (t : SvType) (i e : Expr) (made : List Write) → IsInWord names fs hs n t i e made → (xs : List Indexing) (part : Bool)
+pub lowers-in-memory : (names : NameMap) (fs : List Function) (hs : List Helper) (n : ℕ) (t : SvType) (i e : Expr) (made : Targets) → IsInWord names fs hs n t i e made → (xs : List Indexing) (part : Bool)
     → IsTypedPath n t e xs part → (meaning e).misfits ≡ 0 → LowersInMemory names fs hs n t e made
 lowers-in-memory names fs hs n t i e made h xs part path typed im a sc distinct memory all helps = stands-in-memory names fs hs n t i e made h xs part path typed im a sc distinct memory all helps
 
 -- where it is typed
-pub lowers-memory : (names : NameMap) (fs : List Function) (hs : List Helper) (n : ℕ) (t : SvType) (i e : Expr) (made : List Write) → IsInWord names fs hs n t i e made → IsTyped e → (meaning e).misfits ≡ 0
+pub lowers-memory : (names : NameMap) (fs : List Function) (hs : List Helper) (n : ℕ) (t : SvType) (i e : Expr) (made : Targets) → IsInWord names fs hs n t i e made → IsTyped e → (meaning e).misfits ≡ 0
     → LowersMemory names fs hs e made
 lowers-memory names fs hs n t i e made h typed fits =
     let on = stands-on-signal n t i e h.inner h.is_inner typed.number typed.of typed.indices typed.part typed.path in

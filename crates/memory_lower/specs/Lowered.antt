@@ -1,6 +1,6 @@
 -- What targets for a path on an element of a signal promise, where the signal is a memory in the text (IEEE 1800-2017 clauses 10.4
 -- and 11.5.1, IEEE 1364-2005 clause 4.9).
-use Rattle.std.specs.Prelude.{◌≡◌, ℕ, ◌≤◌, ◌<◌, ◌^◌, true, ℤ, List, [], length, Option}
+use Rattle.std.specs.Prelude.{◌≡◌, ℕ, ◌≤◌, ◌<◌, ◌^◌, true, ℤ, List, [], ◌∷◌, ◌++◌, length, Option}
 use Rattle.row_machine.specs.Valuation.{Valuation}
 use Rattle.sv_types.specs.declared.expression.Expr.{Expr}
 use Rattle.sv_types.specs.declared.statement.Function.{Function}
@@ -9,14 +9,16 @@ use Rattle.sv_types.specs.Layouts.{Layout, layout}
 use Rattle.sv_types.specs.Surroundings.{Around}
 use Rattle.sv_types.specs.Meanings as S
 use Rattle.sv_types.specs.Expressions.{meaning}
+use Rattle.v_tree.specs.declared.expressions.VExpr.{VExpr}
 use Rattle.v_tree.specs.declared.names.Helper.{Helper}
 use Rattle.v_tree.specs.declared.names.NameMap.{NameMap}
 use Rattle.v_meaning.specs.Scopes.{Scope}
 use Rattle.lowering_laws.specs.Agreeing.{Images, AreDistinct, Agree}
-use Rattle.lowering_laws.specs.Reached.{Piece}
+use Rattle.lowering_laws.specs.NamedImages.{AreImages}
 use Rattle.lowering_laws.proofs.Changes.{HasPieces}
 use Rattle.path_flatten.specs.declared.offsets.Index.{Index}
 use Rattle.path_flatten.specs.Helping.{EachHelps}
+use Rattle.path_flatten.specs.Naming.{SameNumbers}
 use Rattle.path_steps.specs.Known.{IsKnown}
 use Rattle.target_flatten.specs.declared.writes.Image.{Image}
 use Rattle.target_flatten.specs.declared.writes.Write.{Write}
@@ -24,7 +26,7 @@ use Rattle.target_flatten.specs.Owning.{AllOwn, AllWrite}
 use Rattle.target_flatten.specs.Writing.{pieces}
 use Rattle.target_walk.specs.declared.given.Given.{Given}
 use Rattle.target_walk.specs.declared.never.Targets.{Targets}
-use Rattle.target_walk.specs.Naming.{FlattensIn}
+use Rattle.target_walk.specs.Naming.{FlattensIn, target_names, apart_names}
 use Rattle.target_walk.specs.Rooms.{MakesRoom}
 use Rattle.expr_lower.specs.Leaves.{leaves, Each}
 use Rattle.expr_lower.specs.Lowering.{LeafStands}
@@ -36,28 +38,36 @@ use Rattle.memory_words.specs.Words.{FindsWord, NamesWord, NumbersWord}
 use Rattle.memory_paths.specs.Inner.{IsInner}
 use Rattle.memory_targets.specs.declared.words.Word.{Word}
 use Rattle.memory_targets.specs.declared.words.Word.TheVariants as W
+use Rattle.memory_targets.specs.Names.{word_names}
 use Rattle.memory_targets.specs.Pieces.{AllInWord}
 
 -- On all valuations that agree, they write to the words of the signal's image each bit that a write through the path does, with its
--- bit of the value, and no other bit; so images change as signals do by an assignment to the path. Each writes that image alone.
-pub record StandsInMemory (im : Images) (a : Around) (sc : Scope) (n : ℕ) (of : Layout) (e : S.Meaning) (ps : List Piece) : Type 0 where
-  pub writes : (now v : Valuation) → Agree im now v → IsWrittenInWords of (e.window (record a { now = now })) (S.wide e) (im.number n) ps sc v
-  pub changes : (now v : Valuation) → Agree im now v → HasPieces im e ps (record a { now = now }) sc v
-  pub own : AllWrite (im.number n) ps sc
+-- bit of the value, and no other bit; so images change as signals do by an assignment to the path. They, and an expression apart, name
+-- the images of what its indices name, all of them and no other. Each of them writes that image alone.
+pub record StandsInMemory (im : Images) (a : Around) (sc : Scope) (n : ℕ) (of : Layout) (e : S.Meaning) (x : Targets) : Type 0 where
+  pub writes : (now v : Valuation) → Agree im now v → IsWrittenInWords of (e.window (record a { now = now })) (S.wide e) (im.number n) (pieces x.writes) sc v
+  pub changes : (now v : Valuation) → Agree im now v → HasPieces im e (pieces x.writes) (record a { now = now }) sc v
+  pub names : AreImages im.number e.index_names (target_names x sc)
+  pub own : AllWrite (im.number n) (pieces x.writes) sc
 
 -- so they do wherever the signal is a memory, the text has what the path's leaves need and these helpers, and no two things have one
 -- image
-abbrev pub LowersInMemory : NameMap → List Function → List Helper → ℕ → SvType → Expr → List Write → Type 0
-LowersInMemory names fs hs n t e xs = (im : Images) (a : Around) (sc : Scope) → AreDistinct im → is_memory names.signals n ≡ true → Each (LeafStands names fs im a sc) (leaves e) → EachHelps hs sc
-    → StandsInMemory im a sc n (layout t) (meaning e) (pieces xs)
+abbrev pub LowersInMemory : NameMap → List Function → List Helper → ℕ → SvType → Expr → Targets → Type 0
+LowersInMemory names fs hs n t e x = (im : Images) (a : Around) (sc : Scope) → AreDistinct im → is_memory names.signals n ≡ true → Each (LeafStands names fs im a sc) (leaves e) → EachHelps hs sc
+    → StandsInMemory im a sc n (layout t) (meaning e) x
 
 -- the word of an element's index: by the number that it is known to have, or by the index that is lowered alone
 abbrev pub IsWordFor : NameMap → List Function → List Helper → SvType → Expr → Word → Type 0
 IsWordFor names fs hs t i (W.Known x) = (k : Option ℤ) × IsKnown i k × NumbersWord (layout t) k x
 IsWordFor names fs hs t i (W.Lowered r) = (x : Index) × Indexes names fs hs i x × FindsWord x t r × NamesWord x r
 
+-- Where no target is made, an expression apart names what the word does and what one before names; else that one is kept.
+abbrev pub NamedInWord : Word → List Write → Option VExpr → Option VExpr → Type 0
+NamedInWord w [] old new = (sc : Scope) → SameNumbers (word_names w sc ++ apart_names old sc) (apart_names new sc)
+NamedInWord w (x ∷ xs) old new = new ≡ old
+
 -- targets for the path in the element alone, in a vector of its bits, and those in the word
-pub record IsInWord (names : NameMap) (fs : List Function) (hs : List Helper) (n : ℕ) (t : SvType) (i e : Expr) (made : List Write) : Type 0 where
+pub record IsInWord (names : NameMap) (fs : List Function) (hs : List Helper) (n : ℕ) (t : SvType) (i e : Expr) (made : Targets) : Type 0 where
   pub inner : Expr
   pub is_inner : IsInner n t i e inner
   pub word : Word
@@ -74,4 +84,5 @@ pub record IsInWord (names : NameMap) (fs : List Function) (hs : List Helper) (n
   pub alone : Targets
   pub flattens : FlattensIn image inner given alone
   pub own : AllOwn image.name image.bits alone.writes
-  pub all : AllInWord word alone.writes made
+  pub all : AllInWord word alone.writes made.writes
+  pub apart : NamedInWord word alone.writes alone.named made.named

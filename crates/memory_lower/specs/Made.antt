@@ -6,9 +6,9 @@ use Rattle.sv_types.specs.declared.types.SvType.{SvType}
 use Rattle.sv_types.specs.Layouts.{layout}
 use Rattle.v_tree.specs.declared.names.Helper.{Helper}
 use Rattle.v_tree.specs.declared.names.NameMap.{NameMap}
-use Rattle.target_flatten.specs.declared.writes.Write.{Write}
 use Rattle.target_walk.specs.declared.given.Given.{Given}
 use Rattle.target_walk.specs.declared.given.Given.TheVariants as G
+use Rattle.target_walk.specs.declared.never.Targets.{Targets}
 use Rattle.memory_words.specs.Words.{FindsWord, NamesWord, NumbersWord}
 use Rattle.memory_targets.specs.declared.words.Word.{Word}
 use Rattle.memory_targets.specs.declared.words.Word.TheVariants as W
@@ -22,7 +22,7 @@ WordOf t (G.Lowered x d) (W.Known y) = ⊥
 WordOf t (G.Lowered x d) (W.Lowered r) = FindsWord x t r × NamesWord x r
 
 -- Targets stand for a path where the signal that it stands on is a memory.
-pub record LowersMemory (names : NameMap) (fs : List Function) (hs : List Helper) (e : Expr) (made : List Write) : Type 0 where
+pub record LowersMemory (names : NameMap) (fs : List Function) (hs : List Helper) (e : Expr) (made : Targets) : Type 0 where
   pub signal : ℕ
   pub of : SvType
   pub lowers : LowersInMemory names fs hs signal of e made
