@@ -1,3 +1,5 @@
+pub mod Assembling
+pub mod Besides
 pub mod Inside
 pub mod Lowered
 pub mod Naming

@@ -16,6 +16,7 @@ use Rattle.expr_lower.proofs.AskedLeaves.{leaves-Local, leaves-Member, leaves-In
 use Rattle.target_lower.proofs.Parting.{from-Member, from-Index, at-Index, from-Part, from-Slide, at-Slide}
 use Rattle.memory_paths.specs.Inner.{IsInner, of_element, of_member, of_index, of_part, of_slide}
 use Rattle.memory_paths.proofs.Inner.{inner-typed, same-wide}
+use Rattle.memory_lower.specs.Made.{CanBeLowered}
 use Rattle.memory_lower.proofs.Inside.{both-each}
 
 own-wide : (e : Expr) → S.wide (meaning e) ≡ width_of e.of
@@ -155,17 +156,7 @@ module _ (n : ℕ) (t : SvType) (i : Expr) (fs : ℕ → List Parameter) where
         some = r.some;
       }
 
-  -- what the index and the path in the element need
-  pub record CanBeLowered (d : Expr) : Type 0 where
-    pub index_built : Each IsLowered (leaves i)
-    pub index_fits : FitsAlone (meaning i) fs
-    pub short : S.wide (meaning i) ≤ 64
-    pub built : Each IsLowered (leaves d)
-    pub fits : FitsAlone (meaning d) fs
-    pub narrow : width_of t ≤ 4194304
-    pub some : 1 ≤ width_of t
-
-  pub can-be-lowered : (e d : Expr) → IsInner n t i e d → Each IsLowered (leaves e) → FitsAlone (meaning e) fs → CanBeLowered d
+  pub can-be-lowered : (e d : Expr) → IsInner n t i e d → Each IsLowered (leaves e) → FitsAlone (meaning e) fs → CanBeLowered t i fs d
   can-be-lowered e d h built fits =
       let r = prepared e d h built fits in
       record {

@@ -21,11 +21,11 @@ use typed_paths::ends_in_part;
 use v_tree::NameMap;
 
 /// Indices of a path, the last step's first.
-pub(crate) type Indices = Items<Given>;
+pub type Indices = Items<Given>;
 
-/// An index, by its number if that is known in the source, else lowered alone; nothing if it selects from a part-select and isn't
-/// known.
-fn index_given(
+/// An index, by its number if that is known in the source, else lowered alone, by calls of some helpers more; nothing if it selects
+/// from a part-select and isn't known. Or want of memory.
+pub fn index_given(
     alloc: Global,
     names: &NameMap,
     functions: &[Function],
@@ -82,8 +82,9 @@ fn put_index(
     }
 }
 
-/// The indices of a path, the last step's first; not if one selects from a part-select and isn't known.
-pub(crate) fn put_indices(
+/// The indices of a path, the last step's first, behind those that are given; not all of them if one selects from a part-select and
+/// isn't known. Or want of memory.
+pub fn put_indices(
     alloc: Global,
     names: &NameMap,
     functions: &[Function],

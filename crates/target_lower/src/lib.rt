@@ -6,4 +6,6 @@ mod indices;
 mod roots;
 mod targets;
 
+pub use indices::{Indices, index_given, put_indices};
+pub use roots::signal_text;
 pub use targets::lower_target;

@@ -55,8 +55,8 @@ pub(crate) fn root_of(e: &Expr) -> Root
     }
 }
 
-/// The name of a signal.
-fn signal_text(alloc: Global, names: &[SignalName], n: u32) -> Result<Text, AllocError>
+/// The name of a signal in the text, empty if it has none. Or want of memory.
+pub fn signal_text(alloc: Global, names: &[SignalName], n: u32) -> Result<Text, AllocError>
     ensures { IfOk result (λ t. t ≡ signal_name names.now n) }
 {
     for name in names {
