@@ -1,15 +1,17 @@
 -- Targets in the word of an element's index, put together.
-use Rattle.std.proofs.Common.{◌≡◌, ◌⊎◌, inl, inr, ℕ, Bool, false, List, [], ◌∷◌, ◌++◌, Option, Some, None, Result, Ok, Err, IfOk, sym, subst}
+use Rattle.std.proofs.Common.{◌≡◌, ◌⊎◌, inl, inr, ℕ, Bool, false, List, [], ◌∷◌, ◌++◌, Option, Some, None, Result, Ok, Err, IfOk, OnOk, refl, sym, subst}
 use Rattle.std.specs.declared.alloc.AllocError.{AllocError}
 use Rattle.sv_types.specs.declared.expression.Expr.{Expr}
 use Rattle.sv_types.specs.declared.statement.Function.{Function}
 use Rattle.sv_types.specs.declared.types.SvType.{SvType}
 use Rattle.sv_types.specs.Surroundings.{local_number}
 use Rattle.sv_types.specs.Expressions.{meaning}
+use Rattle.v_tree.specs.declared.expressions.VExpr.{VExpr}
 use Rattle.v_tree.specs.declared.names.Helper.{Helper}
 use Rattle.v_tree.specs.declared.names.NameMap.{NameMap}
 use Rattle.path_flatten.specs.Helping.{Grows}
 use Rattle.typed_paths.specs.Typed.{Indexing, IsTypedPath, IsTyped}
+use Rattle.target_flatten.specs.declared.writes.Write.{Write}
 use Rattle.target_walk.specs.declared.given.Given.{Given}
 use Rattle.target_walk.specs.declared.never.Targets.{Targets}
 use Rattle.target_lower.specs.Made.{MadeFor, SomeInPart, SelectsInPart}
@@ -17,25 +19,25 @@ use Rattle.target_lower.proofs.Making.{made-more}
 use Rattle.memory_paths.specs.Inner.{IsInner}
 use Rattle.memory_paths.proofs.Inner.{inner-path}
 use Rattle.memory_targets.specs.declared.words.Word.{Word}
-use Rattle.memory_lower.specs.Lowered.{IsInWord}
-use Rattle.memory_lower.specs.Made.{WordOf, WordTargets, WordTargetsIf, ElementTargets, ElementTargetsIf, LowersMemory, LowersIf}
+use Rattle.memory_lower.specs.Lowered.{IsInWord, NamedInWord}
+use Rattle.memory_lower.specs.Made.{WordOf, IsAloneFor, IsPutInWord, IsInWordFor, WordTargets, WordTargetsIf, ElementTargets, ElementTargetsIf, LowersMemory, LowersIf}
+use Rattle.memory_lower.specs.Named.{NamesWith}
 use Rattle.memory_lower.proofs.Inside.{stands-on-signal}
 use Rattle.memory_lower.proofs.Lowered.{lowers-memory, word-for}
 
 -- with the word of an index that was given with fewer helpers
-module _ (names : NameMap) (fs : List Function) (old new : List Helper) (n : ℕ) (t : SvType) (i inner : Expr) (g : Given) (w : Word) (grows : Grows old new) (made : MadeFor names fs old i false g)
-    (is : WordOf t g w) where
-  element-if : (o : Option Targets) → WordTargetsIf names fs new n t inner w o → ElementTargetsIf names fs new n t i inner o
-  element-if None h = h
-  element-if (Some x) h = record {
+module _ (names : NameMap) (fs : List Function) (old new : List Helper) (n : ℕ) (t : SvType) (i inner : Expr) (g : Given) (w : Word) (made : MadeFor names fs old i false g) (is : WordOf t g w) where
+  element-if : (o : Option Targets) → Grows old new → WordTargetsIf names fs new n t inner w o → ElementTargetsIf names fs new n t i inner o
+  element-if None grows h = h
+  element-if (Some x) grows h = record {
     word = w;
     is_word = word-for names fs new t i false g w (made-more names fs old new (record { index = i; in_part = false }) g grows made.0) is;
     targets = h;
   }
 
-  pub element-targets : (r : Result (Option Targets) AllocError) → IfOk r (WordTargetsIf names fs new n t inner w) → IfOk r (ElementTargetsIf names fs new n t i inner)
-  element-targets (Ok o) h = element-if o h
-  element-targets (Err x) h = tt
+  pub element-targets : (r : Result (Option Targets) AllocError) → OnOk r (Grows old new) → IfOk r (WordTargetsIf names fs new n t inner w) → IfOk r (ElementTargetsIf names fs new n t i inner)
+  element-targets (Ok o) grows h = element-if o grows h
+  element-targets (Err x) grows h = tt
 
 some-left : (xs ys : List Indexing) → SomeInPart xs → SomeInPart (xs ++ ys)
 some-left [] ys h = absurd h

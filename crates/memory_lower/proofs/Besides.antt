@@ -29,31 +29,26 @@ is-both m a b is sc = ap (λ (x : T.Meaning). x.names sc) is ∙ both-named a b 
 
 -- a condition that never holds names nothing
 pub none-named : (named : Option VExpr) (r : Result VExpr AllocError) → named ≡ None → IfOk r (λ m. T.meaning m ≡ T.literal (Zero ∷ [])) → IfOk r (λ m. NamesApart named (T.meaning m))
-none-named named (Ok m) none is sc = ap (λ (x : T.Meaning). x.names sc) is ∙ zero-names sc ∙ ap (λ o. apart_names o sc) (sym none)
+none-named named (Ok m) none is = λ sc. ap (λ (x : T.Meaning). x.names sc) is ∙ zero-names sc ∙ ap (λ o. apart_names o sc) (sym none)
 none-named named (Err x) none is = tt
 
 -- a guard besides, and a number
-pub no-guard : (e : T.Meaning) (guard : Option VExpr) → guard ≡ None → NamesGuard e guard e
-no-guard e guard none sc = sym (ap (λ o. e.names sc ++ guard_names (guard_meaning o) sc) none ∙ append-nil (e.names sc))
-
 pub guard-besides : (e : T.Meaning) (guard : Option VExpr) (g : VExpr) (r : Result VExpr AllocError) → guard ≡ Some g → IfOk r (λ m. T.meaning m ≡ T.both e (T.meaning g)) → IfOk r (λ m. NamesGuard e guard (T.meaning m))
-guard-besides e guard g (Ok m) some is sc = is-both (T.meaning m) e (T.meaning g) is sc ∙ ap (λ o. e.names sc ++ guard_names (guard_meaning o) sc) (sym some)
+guard-besides e guard g (Ok m) some is = λ sc. is-both (T.meaning m) e (T.meaning g) is sc ∙ ap (λ o. e.names sc ++ guard_names (guard_meaning o) sc) (sym some)
 guard-besides e guard g (Err x) some is = tt
 
 pub rank-besides : (e g : T.Meaning) (rank : Rank) (r : Result VExpr AllocError) → NamesGuard e rank.guard g → IfOk r (λ m. T.meaning m ≡ T.both g (T.meaning rank.rank)) → IfOk r (λ m. NamesRank e rank (T.meaning m))
-rank-besides e g rank (Ok m) guard is sc =
-    let k = (T.meaning rank.rank).names sc in
-    is-both (T.meaning m) g (T.meaning rank.rank) is sc ∙ ap (λ l. l ++ k) (guard sc) ∙ append_assoc (e.names sc) (guard_names (guard_meaning rank.guard) sc) k
+rank-besides e g rank (Ok m) guard is =
+    λ sc.
+      is-both (T.meaning m) g (T.meaning rank.rank) is sc ∙ ap (λ l. l ++ (T.meaning rank.rank).names sc) (guard sc)
+      ∙ append_assoc (e.names sc) (guard_names (guard_meaning rank.guard) sc) ((T.meaning rank.rank).names sc)
 rank-besides e g rank (Err x) guard is = tt
 
 -- lists in the other order
 swapped : (xs ys : List ℕ) → SameNumbers (xs ++ ys) (ys ++ xs)
 swapped xs ys = subst (λ l. SameNumbers (xs ++ l) (ys ++ xs)) (append-nil ys) (subst (λ l. SameNumbers (xs ++ (ys ++ [])) (ys ++ l)) (append-nil xs) (same-middle [] xs ys []))
 
--- a word by its number, and one by an expression
-pub known-with : (w : Word) (x : ℕ) (named : Option VExpr) → w ≡ W.Known x → NamesWith w named named
-known-with w x named is = subst (λ y. NamesWith y named named) (sym is) (λ sc. same-itself (apart_names named sc))
-
+-- a word by an expression
 pub lowered-with : (w : Word) (rank : Rank) (named : Option VExpr) (e m : T.Meaning) (made : VExpr) → w ≡ W.Lowered rank → T.meaning made ≡ m → NamesApart named e → NamesRank e rank m → NamesWith w named (Some made)
 lowered-with w rank named e m made is meant apart with =
     subst (λ y. NamesWith y named (Some made)) (sym is)
