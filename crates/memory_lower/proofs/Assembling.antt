@@ -1,17 +1,15 @@
 -- Targets in the word of an element's index, put together.
-use Rattle.std.proofs.Common.{◌≡◌, ◌⊎◌, inl, inr, ℕ, Bool, false, List, [], ◌∷◌, ◌++◌, Option, Some, None, Result, Ok, Err, IfOk, OnOk, refl, sym, subst}
+use Rattle.std.proofs.Common.{◌≡◌, inl, inr, ℕ, false, List, [], ◌∷◌, ◌++◌, Option, Some, None, Result, Ok, Err, IfOk, OnOk, sym, subst}
 use Rattle.std.specs.declared.alloc.AllocError.{AllocError}
 use Rattle.sv_types.specs.declared.expression.Expr.{Expr}
 use Rattle.sv_types.specs.declared.statement.Function.{Function}
 use Rattle.sv_types.specs.declared.types.SvType.{SvType}
 use Rattle.sv_types.specs.Surroundings.{local_number}
 use Rattle.sv_types.specs.Expressions.{meaning}
-use Rattle.v_tree.specs.declared.expressions.VExpr.{VExpr}
 use Rattle.v_tree.specs.declared.names.Helper.{Helper}
 use Rattle.v_tree.specs.declared.names.NameMap.{NameMap}
 use Rattle.path_flatten.specs.Helping.{Grows}
 use Rattle.typed_paths.specs.Typed.{Indexing, IsTypedPath, IsTyped}
-use Rattle.target_flatten.specs.declared.writes.Write.{Write}
 use Rattle.target_walk.specs.declared.given.Given.{Given}
 use Rattle.target_walk.specs.declared.never.Targets.{Targets}
 use Rattle.target_lower.specs.Made.{MadeFor, SomeInPart, SelectsInPart}
@@ -19,9 +17,8 @@ use Rattle.target_lower.proofs.Making.{made-more}
 use Rattle.memory_paths.specs.Inner.{IsInner}
 use Rattle.memory_paths.proofs.Inner.{inner-path}
 use Rattle.memory_targets.specs.declared.words.Word.{Word}
-use Rattle.memory_lower.specs.Lowered.{IsInWord, NamedInWord}
-use Rattle.memory_lower.specs.Made.{WordOf, IsAloneFor, IsPutInWord, IsInWordFor, WordTargets, WordTargetsIf, ElementTargets, ElementTargetsIf, LowersMemory, LowersIf}
-use Rattle.memory_lower.specs.Named.{NamesWith}
+use Rattle.memory_lower.specs.Lowered.{IsInWord}
+use Rattle.memory_lower.specs.Made.{WordOf, WordTargetsIf, ElementTargets, ElementTargetsIf, LowersIf}
 use Rattle.memory_lower.proofs.Inside.{stands-on-signal}
 use Rattle.memory_lower.proofs.Lowered.{lowers-memory, word-for}
 

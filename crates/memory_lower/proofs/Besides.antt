@@ -8,7 +8,6 @@ use Rattle.v_meaning.specs.Values as T
 use Rattle.path_flatten.specs.declared.ranks.Rank.{Rank}
 use Rattle.path_flatten.specs.Guards.{guard_meaning}
 use Rattle.path_flatten.specs.Naming.{SameNumbers}
-use Rattle.path_flatten.proofs.Naming.{same-itself}
 use Rattle.target_flatten.specs.Naming.{guard_names, rank_names}
 use Rattle.target_flatten.proofs.Naming.{same-middle}
 use Rattle.target_walk.specs.Naming.{apart_names}
@@ -40,8 +39,8 @@ guard-besides e guard g (Err x) some is = tt
 pub rank-besides : (e g : T.Meaning) (rank : Rank) (r : Result VExpr AllocError) → NamesGuard e rank.guard g → IfOk r (λ m. T.meaning m ≡ T.both g (T.meaning rank.rank)) → IfOk r (λ m. NamesRank e rank (T.meaning m))
 rank-besides e g rank (Ok m) guard is =
     λ sc.
-      is-both (T.meaning m) g (T.meaning rank.rank) is sc ∙ ap (λ l. l ++ (T.meaning rank.rank).names sc) (guard sc)
-      ∙ append_assoc (e.names sc) (guard_names (guard_meaning rank.guard) sc) ((T.meaning rank.rank).names sc)
+    is-both (T.meaning m) g (T.meaning rank.rank) is sc ∙ ap (λ l. l ++ (T.meaning rank.rank).names sc) (guard sc)
+    ∙ append_assoc (e.names sc) (guard_names (guard_meaning rank.guard) sc) ((T.meaning rank.rank).names sc)
 rank-besides e g rank (Err x) guard is = tt
 
 -- lists in the other order
@@ -53,5 +52,5 @@ pub lowered-with : (w : Word) (rank : Rank) (named : Option VExpr) (e m : T.Mean
 lowered-with w rank named e m made is meant apart with =
     subst (λ y. NamesWith y named (Some made)) (sym is)
     (λ sc.
-      subst (λ l. SameNumbers (rank_names rank sc ++ apart_names named sc) l) (sym (ap (λ (x : T.Meaning). x.names sc) meant ∙ with sc ∙ ap (λ l. l ++ rank_names rank sc) (apart sc)))
-      (swapped (rank_names rank sc) (apart_names named sc)))
+    subst (λ l. SameNumbers (rank_names rank sc ++ apart_names named sc) l) (sym (ap (λ (x : T.Meaning). x.names sc) meant ∙ with sc ∙ ap (λ l. l ++ rank_names rank sc) (apart sc)))
+    (swapped (rank_names rank sc) (apart_names named sc)))
