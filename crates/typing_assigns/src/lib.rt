@@ -2,10 +2,12 @@
 //! 11.4.14).
 #![tactic(auto)]
 
+mod assigning;
 mod giving;
 mod parts;
 mod target;
 
+pub use assigning::{assignment, combined};
 pub use giving::assigned;
 pub use parts::{joined_target, stream_target, target_part, whole_of};
 pub use target::{Target, TargetPart};
