@@ -1,5 +1,5 @@
 -- Casts by what a name in front of them stands for.
-use Rattle.std.proofs.Common.{◌≡◌, List, map, Option, Some, None, refl, sym, subst}
+use Rattle.std.proofs.Common.{◌≡◌, List, map, Option, Some, None, refl, subst}
 use Rattle.std.specs.Prelude.{Result, Ok, Err, IfOk}
 use Rattle.std.specs.Option.{option_map}
 use Rattle.sv_tree.specs.Extents.{qualified_first}
@@ -49,11 +49,11 @@ by-kind k of ss c o = elim (option_map (λ t. F.dimensioned k.source t (F.dimens
   | None ↦ F.by_size k.source (qualified_first of) (F.plain (F.named k of (map select_meaning ss))) (inside_of k c)
 ]
 
-pub type-named : (k : Context) (of : QualifiedName) (ss : List Select) (c : Cast) (t : SvType) (r : Result Valued Halt) (fs gs : List Function) → F.type_of_thing (thing k of) ≡ Some t
+pub type-named : (k : Context) (of : QualifiedName) (ss : List Select) (c : Cast) (t : SvType) (r : Result Valued Halt) (fs gs : List Function) → Some t ≡ F.type_of_thing (thing k of)
     → TypesTo r (typed_by k (qualified_first of) (dimensioned k t ss) c fs) gs → TypesTo r (to_name k of ss c fs) gs
 type-named k of ss c t r fs gs is h = subst (λ (o : Option SvType). TypesTo r (by-kind k of ss c o fs) gs) (sym is) h
 
-pub size-is-named : (k : Context) (of : QualifiedName) (ss : List Select) (c : Cast) (r : Result Valued Halt) (fs gs : List Function) → F.type_of_thing (thing k of) ≡ None
+pub size-is-named : (k : Context) (of : QualifiedName) (ss : List Select) (c : Cast) (r : Result Valued Halt) (fs gs : List Function) → None ≡ F.type_of_thing (thing k of)
     → TypesTo r (size_named k of ss c fs) gs → TypesTo r (to_name k of ss c fs) gs
 size-is-named k of ss c r fs gs is h = subst (λ (o : Option SvType). TypesTo r (by-kind k of ss c o fs) gs) (sym is) h
 

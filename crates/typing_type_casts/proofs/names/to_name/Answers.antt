@@ -1,0 +1,11 @@
+use Rattle.typing_values.specs.Parts.{dimensioned}
+use Rattle.typing_type_casts.proofs.Naming.{type-named}
+use Rattle.typing_type_casts.proofs.names.to_name.Goals as goal
+
+pub returns-in-Some-clause-value : goal.returns-in-Some-clause-value
+returns-in-Some-clause-value g c =
+    let k = g.S.Names.context c.args.names.now in
+    let t = c.in-Some.t.now in
+    let fs = c.args.known.now.functions in
+    type-named k c.args.of c.args.selects.now c.args.cast.now t c.by_type.result fs c.by_type.new.known.functions c.in-Some.ensures
+    (c.by_type.ensures.value (dimensioned k t c.args.selects.now) fs c.dimensioned-t.ensures.value)

@@ -1,0 +1,17 @@
+use Rattle.expr_type.specs.Forms.{plain}
+use Rattle.typing_values.specs.Parts.{named_path}
+use Rattle.typing_type_casts.proofs.Naming.{path-fits}
+use Rattle.typing_type_casts.proofs.names.to_size.Goals as goal
+
+pub by_size-requires-clause-fits : goal.by_size-requires-clause-fits
+by_size-requires-clause-fits g c =
+    let k = g.S.Names.context c.args.names.now in
+    c.plain_operand-size.ensures.fits c.named_path-v.new.known.functions
+    (path-fits k c.args.of c.args.selects.now c.args.known.now.functions c.named_path-v.new.known.functions c.named_path-v.result c.requires.fits c.named_path-v.ensures.value)
+
+pub returns-clause-value : goal.returns-clause-value
+returns-clause-value g c =
+    let k = g.S.Names.context c.args.names.now in
+    let path = named_path k c.args.of c.args.selects.now in
+    let fs = c.args.known.now.functions in
+    c.by_size.ensures.value (plain path) fs (c.plain_operand-size.ensures.value k.source path fs c.named_path-v.new.known.functions c.named_path-v.ensures.value)
