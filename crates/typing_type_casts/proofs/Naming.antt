@@ -51,10 +51,10 @@ by-kind k of ss c o = elim (option_map (λ t. F.dimensioned k.source t (F.dimens
 
 pub type-named : (k : Context) (of : QualifiedName) (ss : List Select) (c : Cast) (t : SvType) (r : Result Valued Halt) (fs gs : List Function) → Some t ≡ F.type_of_thing (thing k of)
     → TypesTo r (typed_by k (qualified_first of) (dimensioned k t ss) c fs) gs → TypesTo r (to_name k of ss c fs) gs
-type-named k of ss c t r fs gs is h = subst (λ (o : Option SvType). TypesTo r (by-kind k of ss c o fs) gs) (sym is) h
+type-named k of ss c t r fs gs is h = subst (λ (o : Option SvType). TypesTo r (by-kind k of ss c o fs) gs) is h
 
 pub size-is-named : (k : Context) (of : QualifiedName) (ss : List Select) (c : Cast) (r : Result Valued Halt) (fs gs : List Function) → None ≡ F.type_of_thing (thing k of)
     → TypesTo r (size_named k of ss c fs) gs → TypesTo r (to_name k of ss c fs) gs
-size-is-named k of ss c r fs gs is h = subst (λ (o : Option SvType). TypesTo r (by-kind k of ss c o fs) gs) (sym is) h
+size-is-named k of ss c r fs gs is h = subst (λ (o : Option SvType). TypesTo r (by-kind k of ss c o fs) gs) is h
 
 pub ruleset names = (type-named, size-is-named)

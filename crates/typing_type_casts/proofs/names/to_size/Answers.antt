@@ -1,5 +1,7 @@
+use Rattle.std.proofs.Common.{subst}
 use Rattle.expr_type.specs.Forms.{plain}
-use Rattle.typing_values.specs.Parts.{named_path}
+use Rattle.typing_steps.specs.Steps.{TypesTo}
+use Rattle.typing_values.specs.Parts.{by_size, named_path}
 use Rattle.typing_type_casts.proofs.Naming.{path-fits}
 use Rattle.typing_type_casts.proofs.names.to_size.Goals as goal
 
@@ -14,4 +16,5 @@ returns-clause-value g c =
     let k = g.S.Names.context c.args.names.now in
     let path = named_path k c.args.of c.args.selects.now in
     let fs = c.args.known.now.functions in
-    c.by_size.ensures.value (plain path) fs (c.plain_operand-size.ensures.value k.source path fs c.named_path-v.new.known.functions c.named_path-v.ensures.value)
+    subst (λ n. TypesTo c.by_size.result (by_size k n (plain path) c.args.cast.now fs) c.by_size.new.known.functions) c.first_token.ensures
+    (c.by_size.ensures.value (plain path) fs (c.plain_operand-size.ensures.value k.source path fs c.named_path-v.new.known.functions c.named_path-v.ensures.value))
