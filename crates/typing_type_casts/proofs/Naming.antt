@@ -40,8 +40,6 @@ pub path-fits : (k : Context) (of : QualifiedName) (ss : List Select) (fs gs : L
 path-fits k of ss fs gs (Ok v) p h = p.fits v gs h
 path-fits k of ss fs gs (Err e) p h = tt
 
-pub ruleset sizes = (path-fits)
-
 -- a type, or a size
 abbrev by-kind : Context → QualifiedName → List Select → Cast → Option SvType → Typing Valued
 by-kind k of ss c o = elim (option_map (λ t. F.dimensioned k.source t (F.dimensions k (map select_meaning ss))) o) [

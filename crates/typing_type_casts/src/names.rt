@@ -37,7 +37,6 @@ pub fn plain_operand(v: Result<Valued, Halt>) -> Result<Operand, Halt>
 }
 
 // A cast to the size that a name with selects behind it gives.
-#[tactic(auto, using(crate::proofs::Naming::sizes))]
 fn to_size<S: Names, F: Fn(&Expr, &mut Known) -> Result<Operand, Halt>>(
     alloc: Global,
     names: &S,
