@@ -72,7 +72,8 @@ fn assign<S: Names>(
 ) -> Result<Stmt, AllocError>
     ensures { IfOk result (λ s. s ≡ made.Assign to value later (spot (S.context names.now).source at)) }
 {
-    let spot = spot_at(alloc, names.text(), at)?;
+    let spot = spot_at(alloc, names.text(), at);
+    let (spot, (to, value)) = pairs::both(spot, Ok((to, value)))?;
     Ok(Stmt::Assign {
         to,
         value,
