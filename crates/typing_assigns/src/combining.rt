@@ -98,8 +98,8 @@ fn as_right<S: Names>(names: &S, o: Operand) -> Result<Valued, Halt>
     }
 }
 
-// Both, or why the first of them that isn't there isn't.
-fn pair<A: Drop, B: Drop>(a: Result<A, Halt>, b: Result<B, Halt>) -> Result<(A, B), Halt>
+/// Both, or why the first of them that isn't there isn't.
+pub fn pair<A: Drop, B: Drop>(a: Result<A, Halt>, b: Result<B, Halt>) -> Result<(A, B), Halt>
     ensures { Pairs a b result }
 {
     let a = a?;
