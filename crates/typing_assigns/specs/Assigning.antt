@@ -1,10 +1,11 @@
 -- Assignments of what is typed.
-use Rattle.std.specs.Prelude.{◌≡◌, ℕ, List, Ok}
+use Rattle.std.specs.Prelude.{◌≡◌, ℕ, List, Result, Ok, Err}
 use Rattle.sv_tree.specs.declared.operators.AssignmentOperator.{AssignmentOperator}
 use Rattle.sv_tree.specs.declared.operators.BinaryOperator.{BinaryOperator}
 use Rattle.sv_types.specs.declared.expression.Expr.{Expr}
 use Rattle.sv_types.specs.declared.expression.Form.{Form}
 use Rattle.sv_types.specs.declared.expression.Form.TheVariants as F
+use Rattle.expr_type.specs.declared.halt.Halt.{Halt}
 use Rattle.expr_type.specs.declared.operand.Valued.{Valued}
 use Rattle.expr_type.specs.Names.{Context}
 use Rattle.expr_type.specs.Operands.{Operand, Plain}
@@ -16,6 +17,15 @@ use Rattle.expr_type.specs.Typings.{Checked, where_whole}
 -- of a concatenation these are the operands
 abbrev pub IsOperands : Form → List Expr → Type 0
 IsOperands f es = (os : List Expr) → f ≡ F.Concat os → es ≡ os
+
+-- both of two answers, or what the first of them that isn't whole stops by
+abbrev pub StopsFirst : {A B : Type 0} → Result A Halt → Result B Halt → Halt → Type 0
+StopsFirst (Ok a) b h = b ≡ Err h
+StopsFirst (Err g) b h = g ≡ h
+
+abbrev pub Pairs : {A B : Type 0} → Result A Halt → Result B Halt → Result (A × B) Halt → Type 0
+Pairs a b (Ok p) = (a ≡ Ok p.0) × (b ≡ Ok p.1)
+Pairs a b (Err h) = StopsFirst a b h
 
 -- an operator of an assignment between two values
 abbrev pub both_of : Context → ℕ → BinaryOperator → Valued → Valued → Checked Operand

@@ -1,6 +1,6 @@
 //! Assignments.
 
-ghost use Rattle.std.specs.Prelude.{◌≡◌, [], ◌∷◌, IfOk};
+ghost use Rattle.std.specs.Prelude.{◌≡◌, [], ◌∷◌, Ok, IfOk};
 ghost use Rattle.expr_type.specs.Answers.{Gives};
 ghost use Rattle.expr_type.specs.Names.{spot};
 ghost use Rattle.expr_type.specs.Statements as statement;
@@ -12,7 +12,7 @@ ghost use Rattle.typing_assigns.specs.Parts.{IsNarrowTarget};
 ghost use Rattle.typing_assigns.specs.Targets.{StandsFor};
 ghost use Rattle.typing_assigns.specs.Assigning.{IsOperands, assigned_by};
 
-use crate::combining::{combined, operator_of};
+use crate::combining::{combined, operator_of, pair};
 use crate::giving::assigned;
 use crate::target::Target;
 use expr_type::Halt;
@@ -51,13 +51,13 @@ fn operands_in(alloc: Global, e: Expr) -> Exprs
 }
 
 // What an assignment writes, the most significant first.
-fn parts_of(alloc: Global, to: Target) -> Result<Exprs, AllocError>
-    ensures { IfOk result (λ es. (d : def.Target) → StandsFor to d → es ≡ def.parts_of d) }
+fn parts_of(alloc: Global, to: Target) -> Result<Exprs, Halt>
+    ensures { (d : def.Target) → StandsFor to d → Gives result (Ok (def.parts_of d)) }
 {
     match to {
-        Target::Path(of) => alone(alloc, of.expr),
+        Target::Path(of) => Ok(alone(alloc, of.expr)?),
         Target::Parts { of, .. } => Ok(operands_in(alloc, of.expr)),
-        Target::Stream(of) => alone(alloc, of.expr),
+        Target::Stream(of) => Ok(alone(alloc, of.expr)?),
     }
 }
 
@@ -72,7 +72,8 @@ fn assign<S: Names>(
 ) -> Result<Stmt, AllocError>
     ensures { IfOk result (λ s. s ≡ made.Assign to value later (spot (S.context names.now).source at)) }
 {
-    let spot = spot_at(alloc, names.text(), at)?;
+    let spot = spot_at(alloc, names.text(), at);
+    let (spot, (to, value)) = pairs::both(spot, Ok((to, value)))?;
     Ok(Stmt::Assign {
         to,
         value,
@@ -99,6 +100,7 @@ fn assigned_by<S: Names>(
 }
 
 /// An assignment at its operator, of what is typed to what is typed.
+#[tactic(auto, using(crate::proofs::Pairing::assignments))]
 pub fn assignment<S: Names>(
     alloc: Global,
     names: &S,
@@ -112,7 +114,6 @@ pub fn assignment<S: Names>(
     ensures { (d : def.Target) → StandsFor to d → Gives result (statement.assignment (S.context names.now) at op d (operand_of (S.context names.now).source o)) }
 {
     let value = assigned_by(alloc, names, at, op, &to, o);
-    let to = parts_of(alloc, to)?;
-    let value = value?;
+    let (to, value) = pair(parts_of(alloc, to), value)?;
     Ok(assign(alloc, names, at, is_later(op), to, value)?)
 }

@@ -9,7 +9,7 @@ ghost use Rattle.pattern_types.specs.Meaning.{operand_of};
 ghost use Rattle.typing_parts.specs.Operands.{as_operand};
 ghost use Rattle.typing_parts.specs.Typists.{IsNarrowOperand, NarrowIfOk};
 ghost use Rattle.operand_types.specs.Allowed.{IsNarrow};
-ghost use Rattle.typing_assigns.specs.Assigning.{both_of};
+ghost use Rattle.typing_assigns.specs.Assigning.{Pairs, both_of};
 ghost use Rattle.typing_assigns.specs.Parts.{IsNarrowTarget};
 ghost use Rattle.typing_assigns.specs.Targets.{StandsFor};
 
@@ -98,6 +98,15 @@ fn as_right<S: Names>(names: &S, o: Operand) -> Result<Valued, Halt>
     }
 }
 
+/// Both, or why the first of them that isn't there isn't.
+pub fn pair<A: Drop, B: Drop>(a: Result<A, Halt>, b: Result<B, Halt>) -> Result<(A, B), Halt>
+    ensures { Pairs a b result }
+{
+    let a = a?;
+    let b = b?;
+    Ok((a, b))
+}
+
 // An operator at a token between two values.
 fn both<S: Names>(
     alloc: Global,
@@ -117,6 +126,7 @@ fn both<S: Names>(
 }
 
 // An operator at a token between a target and what is typed.
+#[tactic(auto, using(crate::proofs::Pairing::pairing))]
 fn operated<S: Names>(
     alloc: Global,
     names: &S,
@@ -130,9 +140,7 @@ fn operated<S: Names>(
     ensures value { (d : def.Target) → StandsFor to.now d → Gives (as_operand (S.context names.now).source result) (statement.combined (S.context names.now) at (Some op) d (operand_of (S.context names.now).source o)) }
     ensures narrow { NarrowIfOk result }
 {
-    let right = as_right(names, o);
-    let left = as_left(alloc, names, to)?;
-    let right = right?;
+    let (left, right) = pair(as_left(alloc, names, to), as_right(names, o))?;
     both(alloc, names, at, op, left, right)
 }
 
