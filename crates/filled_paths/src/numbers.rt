@@ -41,7 +41,7 @@ fn around(bounds: &Bounds, far: u32) -> Numbers
 /// The numbers with which an index of a path names any bit: those between the bounds of what it selects from, and for a part-select
 /// of n elements from an index on the n - 1 numbers besides on both sides. The index is the one before which so many stand, from the
 /// last step on.
-pub fn numbers_at(e: &Expr, at: u32) -> Numbers
+pub fn numbers_at(e: &Expr, at: usize) -> Numbers
     requires narrow { (meaning e.now).widest ≤ 4194304 }
     ensures within { NamesFrom e.now at result }
     ensures low { unsigned_abs result.low ≤ 2 ^ 64 }

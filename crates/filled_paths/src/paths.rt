@@ -121,7 +121,7 @@ fn slide(
 
 /// A copy of a select path with a number of these bits in place of the index before which so many stand, from the last step on. Or
 /// want of memory.
-pub fn with_literal(alloc: Global, e: &Expr, at: u32, bits: &Vec4) -> Result<Expr, AllocError>
+pub fn with_literal(alloc: Global, e: &Expr, at: usize, bits: &Vec4) -> Result<Expr, AllocError>
     ensures { IfOk result (Fills e.now at bits.now) }
 {
     match step_of(e) {

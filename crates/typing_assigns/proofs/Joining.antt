@@ -96,7 +96,7 @@ meant (p ∷ ps) = ap (λ (vs : List Valued). p.of ∷ vs) (meant ps)
 abbrev joined_by : Context → ℕ → List Valued → Bool → Checked D.Target
 joined_by k opening vs e = where_whole (concat_of k.source opening (exprs vs)) (λ v. Ok (D.ToParts v vs e))
 
-where-stops : {A B : Type 0} (c : Checked A) (f : A → Checked B) (h : Halt) → HaltsBy h (reason c) → HaltsBy h (reason (where_whole c f))
+pub where-stops : {A B : Type 0} (c : Checked A) (f : A → Checked B) (h : Halt) → HaltsBy h (reason c) → HaltsBy h (reason (where_whole c f))
 where-stops (Ok a) f H.Memory p = tt
 where-stops (Ok a) f (H.Breaks at n) p = absurd (cc)
 where-stops (Ok a) f H.Quiet p = absurd (cc)

@@ -1,3 +1,4 @@
 pub mod Targets
 pub mod Parts
 pub mod Giving
+pub mod Assigning

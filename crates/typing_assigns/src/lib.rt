@@ -2,10 +2,14 @@
 //! 11.4.14).
 #![tactic(auto)]
 
+mod assigning;
+mod combining;
 mod giving;
 mod parts;
 mod target;
 
+pub use assigning::assignment;
+pub use combining::combined;
 pub use giving::assigned;
 pub use parts::{joined_target, stream_target, target_part, whole_of};
 pub use target::{Target, TargetPart};

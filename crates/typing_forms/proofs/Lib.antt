@@ -1,0 +1,4 @@
+pub mod Putting
+pub mod Unrolling
+pub mod Forms
+pub mod Children
