@@ -1,0 +1,2 @@
+pub mod Casting
+pub mod Parted
