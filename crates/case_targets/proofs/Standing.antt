@@ -47,8 +47,8 @@ followed number t a sc v e xs part (g ∷ gs) (of_slide y from i n up ys b is ha
 pub spreads-flat : (im : Image) (e : Expr) (gs : List Given) (r : Targets) → im.bits < 2 ^ 32 → 1 ≤ im.room → im.bits < 2 ^ im.room → MakesRoom e gs im.room → FlattensIn im e gs r
     → SpreadsFlat im.bits e gs r.writes
 spreads-flat im e gs r small some enough room flattens vec a sc v h =
-    flattens vec a sc v h.part h.vector small some enough h.typed
-    (room im.room im.bits a sc v h.part (omega arith) (subst (λ n. Followed n a sc v e gs h.part) h.width (followed h.number h.of a sc v e h.indices h.part gs h.path h.stand)))
+    (flattens vec a sc v h.part h.vector small some enough h.typed
+    (room im.room im.bits a sc v h.part (omega arith) (subst (λ n. Followed n a sc v e gs h.part) h.width (followed h.number h.of a sc v e h.indices h.part gs h.path h.stand)))).path
 
 -- one more of the others
 pub done-more : (gs : List Given) (g : Given) (ps : List PathIndex) → all_of gs (I.Plain g ∷ ps) ≡ all_of (gs ++ g ∷ []) ps
