@@ -13,19 +13,26 @@ operand-form-requires-clause-can g t c =
     let k = g.S.Names.context c.args.names.now in
     children-can _ _ _ _ _ _ _ c.args.e.now (λ x less written. record {
       can = λ y s is q. (
-        (let d = c.decreases in omega arith), (
-          λ a m. m, (
-            λ a m. m, (
-              c.requires.needs, (
-                c.requires.names, (
-                  subst (λ (z : Expr). nodes z < nodes c.args.e.now) (sym is) less, (
-                    subst (λ (z : Expr). is_written z ≡ true) (sym is) written, q
-                  )
-                )
-              )
-            )
-          )
-        )
+        (let d = c.decreases in omega arith),
+        (
+          λ a m. m,
+          (
+            λ a m. m,
+            (
+              c.requires.needs,
+              (
+                c.requires.names,
+                (
+                  subst (λ (z : Expr). nodes z < nodes c.args.e.now) (sym is) less,
+                  (
+                    subst (λ (z : Expr). is_written z ≡ true) (sym is) written,
+                    q,
+                  ),
+                ),
+              ),
+            ),
+          ),
+        ),
       );
       gives = λ y s r u is p. subst (λ (z : Expr). TypesTo (as_operand k.source r) ((meaning z).typed k s.now.functions) u.now.functions) is p.0;
       narrow = λ y s r u is p. p.1.0;
