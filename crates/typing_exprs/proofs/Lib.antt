@@ -1,2 +1,4 @@
 pub mod Casting
 pub mod Parted
+pub mod Putting
+pub mod Sounding

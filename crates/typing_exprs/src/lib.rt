@@ -4,5 +4,7 @@
 
 mod forms;
 mod names;
+mod walk;
 
 pub use forms::form;
+pub use walk::{operand, type_expr};
