@@ -3,8 +3,8 @@ use Rattle.eval_parts.specs.Steps.{IsStep}
 use Rattle.eval_forms.specs.Callees.{formals_in}
 use Rattle.target_lower.proofs.Parting as W
 use Rattle.path_flatten.specs.Helping.{Grows}
-use Rattle.target_lower.specs.Made.{PutsIndexIf, PutsIf}
-use Rattle.target_lower.proofs.Stepping.{ok-grown, puts-Signal, puts-Local, puts-Index, puts-Slide}
+use Rattle.target_lower.specs.Made.{PutsIndices}
+use Rattle.target_lower.proofs.Stepping.{on-grown, puts-plain, puts-Signal, puts-Local, puts-Member, puts-Part, puts-Index, puts-Slide}
 use Rattle.target_lower.proofs.indices.+put_indices.Goals as goal
 
 pub put_indices-requires : goal.put_indices-requires
@@ -61,48 +61,27 @@ put_indices-requires-in-Some-Slide t c =
     let from = W.from-Slide c.args.e.now c.in-Some-Slide.from.now _ _ _ (formals_in c.args.functions.now) h c.requires.built c.requires.fits in
     (omega (arith, c.decreases, from.fewer), (c.requires.functions, (from.built, from.fits)))
 
+pub returns-in-None-clause-puts : goal.returns-in-None-clause-puts
+returns-in-None-clause-puts t c = puts-plain c.args.names.now c.args.functions.now c.args.helpers.now c.args.e.now c.args.indices.now c.in-None.ensures.plain
+
 pub returns-in-Some-Signal-clause-puts : goal.returns-in-Some-Signal-clause-puts
 returns-in-Some-Signal-clause-puts t c =
     let h = rw c.in-Some-Signal.field-0-is at c.in-Some-Signal.ensures.step in
-    puts-Signal c.args.names.now c.args.functions.now c.args.helpers.now c.args.e.now _ c.args.given.now h
+    puts-Signal c.args.names.now c.args.functions.now c.args.helpers.now c.args.e.now _ c.args.indices.now h
 
 pub returns-in-Some-Local-clause-puts : goal.returns-in-Some-Local-clause-puts
 returns-in-Some-Local-clause-puts t c =
     let h = rw c.in-Some-Local.field-0-is at c.in-Some-Local.ensures.step in
-    puts-Local c.args.names.now c.args.functions.now c.args.helpers.now c.args.e.now _ c.args.given.now h
+    puts-Local c.args.names.now c.args.functions.now c.args.helpers.now c.args.e.now _ c.args.indices.now h
 
-pub returns-else-not-branch-clause-puts : goal.returns-else-not-branch-clause-puts
-returns-else-not-branch-clause-puts t c =
-    let names = c.args.names.now in
-    let functions = c.args.functions.now in
-    let e = c.args.e.now in
-    let from = c.in-Some-Index.from.now in
-    let i = c.in-Some-Index.i.now in
-    let b = c.ends_in_part-in_part.result in
-    let mid = c.put_index.new.helpers in
-    let hs = c.put_indices-in-Some-Index.new.helpers in
-    let old = c.args.given.now in
-    let between = c.put_index.new.given in
-    let new = c.put_indices-in-Some-Index.new.given in
-    let is = subst (λ st. IsStep st c.args.e.now) c.in-Some-Index.field-0-is c.in-Some-Index.ensures.step in
-    let first = subst (PutsIndexIf names functions mid i b old between) c.if-not-branch.false c.in_ok-put_index-in-Some-Index.ensures.puts in
-    ok-grown (Grows mid hs) (PutsIf names functions hs from between new) (PutsIf names functions hs e old new) c.put_indices-in-Some-Index.result c.put_indices-in-Some-Index.ensures.grows
-    c.put_indices-in-Some-Index.ensures.puts (λ x grows rest. puts-Index names functions hs mid grows e from i b old between new c.ends_in_part-in_part.ensures first is x rest)
+pub returns-in-Some-Member-clause-puts : goal.returns-in-Some-Member-clause-puts
+returns-in-Some-Member-clause-puts t c = ?
 
-pub returns-else-not-branch-2-clause-puts : goal.returns-else-not-branch-2-clause-puts
-returns-else-not-branch-2-clause-puts t c =
-    let names = c.args.names.now in
-    let functions = c.args.functions.now in
-    let e = c.args.e.now in
-    let from = c.in-Some-Slide.from.now in
-    let i = c.in-Some-Slide.base.now in
-    let b = c.ends_in_part-in_part-in-Some-Slide.result in
-    let mid = c.put_index-in-Some-Slide.new.helpers in
-    let hs = c.put_indices-in-Some-Slide.new.helpers in
-    let old = c.args.given.now in
-    let between = c.put_index-in-Some-Slide.new.given in
-    let new = c.put_indices-in-Some-Slide.new.given in
-    let is = subst (λ st. IsStep st c.args.e.now) c.in-Some-Slide.field-0-is c.in-Some-Slide.ensures.step in
-    let first = subst (PutsIndexIf names functions mid i b old between) c.if-not-branch-2.false c.in_ok-put_index-in-Some-Slide.ensures.puts in
-    ok-grown (Grows mid hs) (PutsIf names functions hs from between new) (PutsIf names functions hs e old new) c.put_indices-in-Some-Slide.result c.put_indices-in-Some-Slide.ensures.grows
-    c.put_indices-in-Some-Slide.ensures.puts (λ x grows rest. puts-Slide names functions hs mid grows e from i b old between new c.ends_in_part-in_part-in-Some-Slide.ensures first _ _ is x rest)
+pub returns-in-Some-Part-clause-puts : goal.returns-in-Some-Part-clause-puts
+returns-in-Some-Part-clause-puts t c = ?
+
+pub returns-in-Some-Index-clause-puts : goal.returns-in-Some-Index-clause-puts
+returns-in-Some-Index-clause-puts t c = ?
+
+pub returns-in-Some-Slide-clause-puts : goal.returns-in-Some-Slide-clause-puts
+returns-in-Some-Slide-clause-puts t c = ?
