@@ -1,5 +1,5 @@
 -- What is made of the indices of a select path that is written.
-use Rattle.std.specs.Prelude.{◌≡◌, ℕ, pos, Bool, true, false, List, [], ◌∷◌, ◌++◌}
+use Rattle.std.specs.Prelude.{◌≡◌, ℕ, pos, Bool, cond, List, [], ◌∷◌, ◌++◌}
 use Rattle.sv_types.specs.declared.expression.Expr.{Expr}
 use Rattle.sv_types.specs.declared.statement.Function.{Function}
 use Rattle.sv_types.specs.declared.types.SvType.{SvType}
@@ -27,8 +27,7 @@ GivenFor names fs hs i g = StandsForIndex names fs hs i g × IsSmall g
 -- as one of a path, of which one that is lowered stands for itself where it selects from a part-select
 abbrev pub path_index : Bool → Given → PathIndex
 path_index in_part (G.Known k) = I.Plain (G.Known k)
-path_index true (G.Lowered x d) = I.InPart x
-path_index false (G.Lowered x d) = I.Plain (G.Lowered x d)
+path_index in_part (G.Lowered x d) = cond in_part (I.InPart x) (I.Plain (G.Lowered x d))
 
 -- so it is for an index of a path; one that selects from a part-select is known, or stands for itself
 abbrev pub IsMade : NameMap → List Function → List Helper → Indexing → PathIndex → Type 0
