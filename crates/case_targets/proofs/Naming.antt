@@ -1,5 +1,5 @@
 -- What targets under the condition that an index has a number name, and what all of them do.
-use Rattle.std.proofs.Common.{◌≡◌, ℕ, ◌<◌, ◌≤◌, ◌^◌, ℤ, List, [], ◌∷◌, ◌++◌, map, append-nil, append_assoc, Some, refl, Result, Ok, Err, IfOk, ap, sym, ◌∙◌, subst}
+use Rattle.std.proofs.Common.{◌≡◌, ℕ, ◌<◌, ◌≤◌, ◌^◌, ℤ, List, [], ◌∷◌, ◌++◌, map, append-nil, append_assoc, Some, None, refl, Result, Ok, Err, IfOk, ap, sym, ◌∙◌, subst}
 use Rattle.std.specs.declared.alloc.AllocError.{AllocError}
 use Rattle.b4_core.specs.declared.bit.Bit4.{Bit4}
 use Rattle.row_machine.specs.Valuation.{Valuation}
@@ -126,3 +126,8 @@ spread-named bits e ps gs xs r spreads names same from vec a sc v h =
       path = subst (λ (l : List Write). WritesPath vec (meaning e) a (pieces_in vec l) sc v) (sym from.0) (spreads vec a sc v h);
       names = subst (λ (l : List Given). SameNumbers (all_names l sc) (target_names r sc)) same (targets-named gs xs r sc each from.0 from.1);
     }
+
+pub spread-bare : (name : Name) (ps : List PathIndex) (gs : List Given) (xs : List Write) (r : Result Targets AllocError) → PlainOf name ps xs → gs ≡ givens_for ps → IfOk r (NamesFrom gs (Ok xs)) → IfOk r (λ x. AllFixed gs → x.named ≡ None)
+    → IfOk r (BareOf name ps)
+spread-bare name ps gs xs (Ok x) plain same from bare = λ fixed. record { plain = subst (AllPlain name) (sym from.0) (plain fixed); named = bare (subst AllFixed (sym same) fixed) }
+spread-bare name ps gs xs (Err e) plain same from bare = tt

@@ -22,6 +22,7 @@ use Rattle.typed_paths.specs.Tests.{EndsInPart}
 use Rattle.typed_paths.specs.Typed.{Indexing, IsTypedPath}
 use Rattle.typed_paths.proofs.Opening.{IsOfIndex, of-Signal, of-Local, of-Member, of-Index, of-Part, of-Slide, no-path}
 use Rattle.case_targets.specs.declared.indices.PathIndex.{PathIndex}
+use Rattle.target_walk.specs.declared.given.Given.{Given}
 use Rattle.target_walk.specs.declared.given.Given.TheVariants as G
 use Rattle.target_walk.specs.Giving.{IsSmall}
 use Rattle.expr_lower.specs.Leaves.{Leaf, Signals, Elements, Inside, Locals, onto, indexed, leaves}
@@ -31,10 +32,10 @@ use Rattle.expr_lower.proofs.AskedLeaves.{leaves-Signal, leaves-Local, leaves-Me
 use Rattle.target_lower.specs.declared.roots.Held.{Held}
 use Rattle.target_lower.specs.declared.roots.Held.TheVariants as H
 use Rattle.target_lower.specs.declared.roots.Root.{Root}
-use Rattle.target_lower.specs.Made.{IsMade, AreMade, PutsIndex, PutsIndices}
+use Rattle.target_lower.specs.Made.{GivenFor, path_index, IsMade, AreMade, PutsIndex, PutsIndices}
 use Rattle.target_lower.specs.Roots.{IsUnder, IsRootLeaf, index_leaves, StandsOn, IsRootOf, name_under}
 use Rattle.target_lower.specs.Targets.{IsInVector}
-use Rattle.target_lower.proofs.Making.{made-more}
+use Rattle.target_lower.proofs.Making.{made-more, index-made, index-short}
 
 -- numbers
 pub small-known : (k : Option ℤ) → IfSome k (λ n. unsigned_abs n ≤ 2 ^ 64) → IsSmall (G.Known k)
@@ -196,6 +197,19 @@ pub ok-both : {A E : Type 0} (P Q R : A → Type 0) (r : Result A E) → IfOk r 
 ok-both P Q R (Ok x) h g f = f x h g
 ok-both P Q R (Err e) h g f = tt
 
+pub ok-one : {A E : Type 0} (P Q : A → Type 0) (r : Result A E) → IfOk r P → ((x : A) → P x → Q x) → IfOk r Q
+ok-one P Q (Ok x) h f = f x h
+ok-one P Q (Err e) h f = tt
+
+pub on-one : {A E : Type 0} (P Q : Type 0) (r : Result A E) → OnOk r P → (P → Q) → OnOk r Q
+on-one P Q (Ok x) h f = f h
+on-one P Q (Err e) h f = tt
+
 pub on-grown : {A E : Type 0} (G P Q : Type 0) (r : Result A E) → OnOk r G → OnOk r P → (G → P → Q) → OnOk r Q
 on-grown G P Q (Ok x) g h f = f g h
 on-grown G P Q (Err e) g h f = tt
+
+-- an index more
+pub puts-one : (names : NameMap) (fs : List Function) (hs : List Helper) (i : Expr) (part : Bool) (g : Given) (old new : List PathIndex) → GivenFor names fs hs i g → new ≡ old ++ path_index part g ∷ []
+    → PutsIndex names fs hs i part old new
+puts-one names fs hs i part g old new h is = record { index = path_index part g; is = is; made = index-made names fs hs i part g h; short = index-short part g h.1 }

@@ -75,13 +75,62 @@ returns-in-Some-Local-clause-puts t c =
     puts-Local c.args.names.now c.args.functions.now c.args.helpers.now c.args.e.now _ c.args.indices.now h
 
 pub returns-in-Some-Member-clause-puts : goal.returns-in-Some-Member-clause-puts
-returns-in-Some-Member-clause-puts t c = ?
+returns-in-Some-Member-clause-puts t c =
+    let names = c.args.names.now in
+    let functions = c.args.functions.now in
+    let e = c.args.e.now in
+    let from = c.in-Some-Member.from.now in
+    let hs = c.put_indices.new.helpers in
+    let old = c.args.indices.now in
+    let new = c.put_indices.new.indices in
+    let is = subst (λ st. IsStep st c.args.e.now) c.in-Some-Member.field-0-is c.in-Some-Member.ensures.step in
+    on-one (PutsIndices names functions hs from old new) (PutsIndices names functions hs e old new) c.put_indices.result c.put_indices.ensures.puts (λ h. puts-Member names functions hs e from _ old new is h)
 
 pub returns-in-Some-Part-clause-puts : goal.returns-in-Some-Part-clause-puts
-returns-in-Some-Part-clause-puts t c = ?
+returns-in-Some-Part-clause-puts t c =
+    let names = c.args.names.now in
+    let functions = c.args.functions.now in
+    let e = c.args.e.now in
+    let from = c.in-Some-Part.from.now in
+    let hs = c.put_indices-in-Some-Part.new.helpers in
+    let old = c.args.indices.now in
+    let new = c.put_indices-in-Some-Part.new.indices in
+    let is = subst (λ st. IsStep st c.args.e.now) c.in-Some-Part.field-0-is c.in-Some-Part.ensures.step in
+    on-one (PutsIndices names functions hs from old new) (PutsIndices names functions hs e old new) c.put_indices-in-Some-Part.result c.put_indices-in-Some-Part.ensures.puts
+    (λ h. puts-Part names functions hs e from _ _ old new is h)
 
-pub returns-in-Some-Index-clause-puts : goal.returns-in-Some-Index-clause-puts
-returns-in-Some-Index-clause-puts t c = ?
+pub returns-in_ok-put_index-in-Some-Index-clause-puts : goal.returns-in_ok-put_index-in-Some-Index-clause-puts
+returns-in_ok-put_index-in-Some-Index-clause-puts t c =
+    let names = c.args.names.now in
+    let functions = c.args.functions.now in
+    let e = c.args.e.now in
+    let from = c.in-Some-Index.from.now in
+    let i = c.in-Some-Index.i.now in
+    let b = c.ends_in_part-in_part.result in
+    let mid = c.put_index.new.helpers in
+    let hs = c.put_indices-in-Some-Index.new.helpers in
+    let old = c.args.indices.now in
+    let between = c.put_index.new.indices in
+    let new = c.put_indices-in-Some-Index.new.indices in
+    let is = subst (λ st. IsStep st c.args.e.now) c.in-Some-Index.field-0-is c.in-Some-Index.ensures.step in
+    on-grown (Grows mid hs) (PutsIndices names functions hs from between new) (PutsIndices names functions hs e old new) c.put_indices-in-Some-Index.result c.put_indices-in-Some-Index.ensures.grows
+    c.put_indices-in-Some-Index.ensures.puts
+    (λ grows rest. puts-Index names functions hs mid grows e from i b old between new c.ends_in_part-in_part.ensures c.in_ok-put_index-in-Some-Index.ensures.puts rest is)
 
-pub returns-in-Some-Slide-clause-puts : goal.returns-in-Some-Slide-clause-puts
-returns-in-Some-Slide-clause-puts t c = ?
+pub returns-in_ok-put_index-in-Some-Slide-clause-puts : goal.returns-in_ok-put_index-in-Some-Slide-clause-puts
+returns-in_ok-put_index-in-Some-Slide-clause-puts t c =
+    let names = c.args.names.now in
+    let functions = c.args.functions.now in
+    let e = c.args.e.now in
+    let from = c.in-Some-Slide.from.now in
+    let i = c.in-Some-Slide.base.now in
+    let b = c.ends_in_part-in_part-in-Some-Slide.result in
+    let mid = c.put_index-in-Some-Slide.new.helpers in
+    let hs = c.put_indices-in-Some-Slide.new.helpers in
+    let old = c.args.indices.now in
+    let between = c.put_index-in-Some-Slide.new.indices in
+    let new = c.put_indices-in-Some-Slide.new.indices in
+    let is = subst (λ st. IsStep st c.args.e.now) c.in-Some-Slide.field-0-is c.in-Some-Slide.ensures.step in
+    on-grown (Grows mid hs) (PutsIndices names functions hs from between new) (PutsIndices names functions hs e old new) c.put_indices-in-Some-Slide.result c.put_indices-in-Some-Slide.ensures.grows
+    c.put_indices-in-Some-Slide.ensures.puts
+    (λ grows rest. puts-Slide names functions hs mid grows e from i b old between new c.ends_in_part-in_part-in-Some-Slide.ensures c.in_ok-put_index-in-Some-Slide.ensures.puts rest _ _ is)
