@@ -5,7 +5,7 @@ use Rattle.memory_lower.proofs.Choosing.{vector-without, vector-with}
 use Rattle.memory_lower.proofs.written.element_in_memory.Goals as goal
 
 pub returns-in-None : goal.returns-in-None
-returns-in-None c = vector-without c.args.names.now c.args.e.now c.requires (subst (λ o. FindsElement o c.args.e.now) c.in-None.is c.element_under.ensures)
+returns-in-None c = vector-without c.args.names.now c.args.e.now c.requires.typed (subst (λ o. FindsElement o c.args.e.now) c.in-None.is c.element_under.ensures)
 
 pub returns-then-is_memory : goal.returns-then-is_memory
 returns-then-is_memory c =
