@@ -1,6 +1,6 @@
 -- Small texts: the definitions compute. Texts are given by their layers, as the trees that they stand for.
-use Rattle.std.proofs.Common.{◌≡◌, ℕ, suc, ◌+◌, Bool, true, false, List, [], ◌∷◌, ◌++◌, map, max, refl, rules, ap, ◌∙◌, ◌&&◌, cond, Option, Some, None}
-use Rattle.std.specs.Prelude.{nat_lt, not, pos, Ok, Err, codes, slice_get, flat_map}
+use Rattle.std.proofs.Common.{◌≡◌, ℕ, suc, ◌+◌, Bool, true, false, List, [], ◌∷◌, map, max, refl, rules, ap, ◌∙◌, ◌&&◌, cond, Option, Some, None}
+use Rattle.std.specs.Prelude.{nat_lt, not, pos, Ok, Err, codes, slice_get}
 use Rattle.std.specs.Str.{bytes_eq}
 use Rattle.sv_source.specs.declared.token.Kind.TheVariants.{Name}
 use Rattle.sv_source.specs.declared.token.Token.{Token}
@@ -14,7 +14,7 @@ use Rattle.sv_types.specs.declared.types.SvType.{SvType, the_lemmas}
 use Rattle.sv_types.specs.declared.types.SvType.TheVariants.{Enum}
 use Rattle.pattern_fit.specs.Same.{same_type}
 use Rattle.expr_type.specs.Breaks.{Breaks, At, Key, first}
-use Rattle.expr_type.specs.Typings.{Checked, Typing, all_of, both, broken, joined, lesser, where_whole, rule, whole, refused, unless, at_all}
+use Rattle.expr_type.specs.Typings.{Checked, Typing, all_of, both, broken, joined, where_whole, rule, whole, refused, unless, at_all}
 use Rattle.expr_type.specs.Shapes.{is_plain_to_enum, one_bit, vector, sign_of}
 use Rattle.expr_type.specs.Forms.{call_of}
 use Rattle.expr_type.specs.Selects.{is_index}
