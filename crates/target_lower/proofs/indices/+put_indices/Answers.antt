@@ -4,7 +4,7 @@ use Rattle.eval_forms.specs.Callees.{formals_in}
 use Rattle.target_lower.proofs.Parting as W
 use Rattle.path_flatten.specs.Helping.{Grows}
 use Rattle.target_lower.specs.Made.{PutsIndices}
-use Rattle.target_lower.proofs.Stepping.{on-grown, puts-plain, puts-Signal, puts-Local, puts-Member, puts-Part, puts-Index, puts-Slide}
+use Rattle.target_lower.proofs.Stepping.{on-one, on-grown, puts-plain, puts-Signal, puts-Local, puts-Member, puts-Part, puts-Index, puts-Slide}
 use Rattle.target_lower.proofs.indices.+put_indices.Goals as goal
 
 pub put_indices-requires : goal.put_indices-requires
