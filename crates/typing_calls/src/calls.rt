@@ -1,5 +1,6 @@
 //! Calls.
 
+ghost use Rattle.typing_fits.specs.Sound.{Extends};
 ghost use Rattle.typing_steps.specs.Steps.{TypesTo};
 ghost use Rattle.typing_parts.specs.Typists.{AllCanType, IsReady, MakesKnown};
 ghost use Rattle.typing_calls.specs.Calls.{ActualsExtend, call_of_name};
@@ -35,6 +36,7 @@ pub fn call<
     requires ready { IsReady known.old }
     ensures value { TypesTo result (call_of_name (S.context names.now) of arguments.now known.old.functions) known.new.functions }
     ensures ready { IsReady known.new }
+    ensures keeps { Extends known.old.functions known.new.functions }
 {
     match needed(names, needs, of, arguments.len(), known) {
         Ok(place) => {
