@@ -1,7 +1,7 @@
 //! Concatenations, replications and streams (IEEE 1800-2017 clauses 11.4.12 and 11.4.14).
 
 ghost use Rattle.std.specs.Prelude.{◌≡◌, IfOk};
-ghost use Rattle.operand_types.specs.Allowed.{IsNarrow};
+ghost use Rattle.operand_types.specs.Allowed.{IsNarrow, IsShort};
 ghost use Rattle.expr_type.specs.Forms.{reverses};
 ghost use Rattle.typing_fits.specs.Operands.{SoundContext};
 ghost use Rattle.typing_fits.specs.Sound.{Extends};
@@ -200,7 +200,7 @@ fn streamed<S: Names, F: Fn(&Expr, &mut Known) -> Result<Operand, Halt>>(
     requires names { SoundContext (S.context names.now) }
     requires ready { IsReady known.old }
     ensures value { TypesTo result (stream_in (S.context names.now) opening operator size.now es.now known.old.functions) known.new.functions }
-    ensures narrow { IfOk result IsNarrow }
+    ensures narrow { IfOk result IsShort }
     ensures ready { IsReady known.new }
     ensures keeps { Extends known.old.functions known.new.functions }
 {
@@ -225,7 +225,7 @@ pub fn stream<S: Names, F: Fn(&Expr, &mut Known) -> Result<Operand, Halt>>(
     requires names { SoundContext (S.context names.now) }
     requires ready { IsReady known.old }
     ensures value { TypesTo result (stream (S.context names.now) opening operator size.now es.now known.old.functions) known.new.functions }
-    ensures narrow { IfOk result IsNarrow }
+    ensures narrow { IfOk result IsShort }
     ensures ready { IsReady known.new }
     ensures keeps { Extends known.old.functions known.new.functions }
 {

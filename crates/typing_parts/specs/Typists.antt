@@ -24,10 +24,10 @@ pub record IsReady (k : Known) : Type 0 where
   pub marked : k.marks ≡ stream_marks k.functions
   pub sound : AllSoundFunctions k.functions
 
--- a value and a stream have at most 65,536 bits
+-- a value has at most 2^22 bits, as many as a signal may have, and a stream at most 65,536
 abbrev pub IsNarrowOperand : O.Operand → Type 0
 IsNarrowOperand o = elim (out-Operand o) [
-  | Operand-F.Plain v ↦ width_of v.expr.of ≤ 65536
+  | Operand-F.Plain v ↦ width_of v.expr.of ≤ 4194304
   | Operand-F.Pattern tick times items ↦ ⊤
   | Operand-F.Stream v ↦ width_of v.expr.of ≤ 65536
 ]

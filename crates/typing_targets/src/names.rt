@@ -41,7 +41,7 @@ fn signal_target<S: Nets>(
     signal: u32,
     t: &SvType,
 ) -> Result<Valued, Halt>
-    requires narrow { width_of t.now ≤ 65536 }
+    requires narrow { width_of t.now ≤ 4194304 }
     ensures value { Gives result (signal_target_of (S.context names.now) in_statement of signal t.now) }
     ensures narrow { IfOk result IsNarrow }
 {
@@ -95,7 +95,7 @@ fn signal_path<S: Nets, F: Fn(&Expr, &mut Known) -> Result<Operand, Halt>>(
     selects: &[Select],
     known: &mut Known,
 ) -> Result<Valued, Halt>
-    requires narrow { width_of t.now ≤ 65536 }
+    requires narrow { width_of t.now ≤ 4194304 }
     requires can { AllCanType _ _ (λ e. e.now) (λ k. k.now) (F.pre typed.now) (F.post typed.now) (S.context names.now) (in_selects selects.now) }
     requires ready { IsReady known.old }
     ensures value { TypesTo result (signal_path_of (S.context names.now) in_statement of signal t.now selects.now known.old.functions) known.new.functions }
@@ -118,7 +118,7 @@ fn local_path<S: Nets, F: Fn(&Expr, &mut Known) -> Result<Operand, Halt>>(
     selects: &[Select],
     known: &mut Known,
 ) -> Result<Valued, Halt>
-    requires narrow { width_of t.now ≤ 65536 }
+    requires narrow { width_of t.now ≤ 4194304 }
     requires can { AllCanType _ _ (λ e. e.now) (λ k. k.now) (F.pre typed.now) (F.post typed.now) (S.context names.now) (in_selects selects.now) }
     requires ready { IsReady known.old }
     ensures value { TypesTo result (local_path_of (S.context names.now) of local t.now selects.now known.old.functions) known.new.functions }
