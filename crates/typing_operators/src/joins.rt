@@ -143,8 +143,8 @@ pub fn replication<S: Names, F: Fn(&Expr, &mut Known) -> Result<Operand, Halt>>(
     replicated(alloc, names, typed, opening, times, es, known)
 }
 
-// Whether slices stand in reverse order: behind `<<`.
-fn reverses(operator: StreamOperator) -> bool
+/// Whether slices stand in reverse order: behind `<<`.
+pub fn reverses(operator: StreamOperator) -> bool
     ensures { result ≡ reverses operator }
 {
     match operator {

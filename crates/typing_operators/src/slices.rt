@@ -157,13 +157,13 @@ pub(crate) fn slice<S: Names, F: Fn(&Expr, &mut Known) -> Result<Operand, Halt>>
 {
     match size {
         None => Ok(1),
-        Some(size) => written(alloc, names, typed, size.get(), known),
+        Some(size) => written_size(alloc, names, typed, size.get(), known),
     }
 }
 
-// A slice as it is written.
+/// How many bits a slice of a stream has, as it is written (E411).
 #[tactic(auto, using(crate::proofs::Putting::steps))]
-fn written<S: Names, F: Fn(&Expr, &mut Known) -> Result<Operand, Halt>>(
+pub fn written_size<S: Names, F: Fn(&Expr, &mut Known) -> Result<Operand, Halt>>(
     alloc: Global,
     names: &S,
     typed: &F,
