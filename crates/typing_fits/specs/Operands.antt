@@ -84,7 +84,7 @@ abbrev pub AllLocalsNarrow : List LocalId → Type 0
 AllLocalsNarrow [] = ⊤
 AllLocalsNarrow (l ∷ ls) = IsNarrowType l.of × AllLocalsNarrow ls
 
--- a text in which signals, constants and locals have at most 65,536 bits, and each part of a type has one
+-- a text in which signals, constants and locals have at most 2^22 bits, and each part of a type has one
 pub record SoundContext (k : Context) : Type 0 where
   pub values : AllValuesSound k.values
   pub types : AllTypesFull k.types
