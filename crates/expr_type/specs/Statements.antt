@@ -115,7 +115,7 @@ counted k name op at ss =
     checked (named_target k true (simple_name name) (map select_meaning ss))
     (λ v. rule (assignment k at (step_operator op) (ToPath v) (one k at)))
 
--- Declarations of a block: what the names stand for behind them, and the locals that they make.
+-- Declarations of a block: what the names stand for behind them, the latest first, and the locals that they make, in their order.
 pub record Declared : Type 0 where
   pub values : List ParamValue
   pub types : List ParamType
@@ -133,7 +133,7 @@ behind_if k None = k
 behind_if k (Some d) = behind k d
 
 abbrev pub and_then : Declared → Declared → Declared
-and_then d e = record { values = d.values ++ e.values; types = d.types ++ e.types; ids = d.ids ++ e.ids; locals = d.locals ++ e.locals }
+and_then d e = record { values = e.values ++ d.values; types = e.types ++ d.types; ids = e.ids ++ d.ids; locals = d.locals ++ e.locals }
 
 -- each behind those before it
 abbrev pub in_turn : Context → List (Context → Typing Declared) → Typing Declared

@@ -34,7 +34,12 @@ use Rattle.expr_type.specs.KeywordTypes.{Dim, keyword_type, implicit_type, unpac
 use Rattle.expr_type.specs.Forms.{dimensioned, type_of_thing}
 use Rattle.expr_type.specs.Expressions.{dimension_meaning, operand}
 
--- a type, and the values of the enum names that its text declares
+-- what stands behind things that are met one after another
+abbrev pub latest_first : {A : Type 0} → List A → List A
+latest_first [] = []
+latest_first (x ∷ xs) = latest_first xs ++ x ∷ []
+
+-- a type, and the values of the enum names that its text declares, the latest first
 pub record TypeFound : Type 0 where
   pub of : SvType
   pub names : List ParamValue
@@ -127,7 +132,7 @@ enum_name k base v = record { name = word k v.at; value = vec (width_of base) v.
 abbrev pub enum_found : Context → ℕ → SvType → List NameValue → TypeFound
 enum_found k at base vs =
     let t = Enum at base (map (enum_name k.source base) vs) in
-    record { of = t; names = map (value_in k t) vs }
+    record { of = t; names = latest_first (map (value_in k t) vs) }
 
 -- Structs and unions. A member of a packed one is packed (E404), and those of a union have one width (E506).
 pub record Field : Type 0 where
@@ -157,7 +162,7 @@ abbrev pub all_fields : Context → Bool → List FieldsMeaning → Typing Field
 all_fields k inside [] = whole (record { fields = []; names = [] })
 all_fields k inside (m ∷ ms) =
     both_by (m k inside) (λ o. all_fields (names_behind k o) inside ms)
-    (λ f g. whole (record { fields = f.fields ++ g.fields; names = f.names ++ g.names }))
+    (λ f g. whole (record { fields = f.fields ++ g.fields; names = g.names ++ f.names }))
 
 abbrev pub member : Source → Field → Member
 member k f = record { name = word k f.at; of = f.of }

@@ -51,7 +51,7 @@ behind-known k None p q = p
 behind-known k (Some d) p q = behind-plain k d p q
 
 both-declared : (d e : Declared) → PlainDeclared d → PlainDeclared e → PlainDeclared (and_then d e)
-both-declared d e p q = record { types = more-types d.types e.types p.types q.types; ids = more-locals d.ids e.ids p.ids q.ids }
+both-declared d e p q = record { types = more-types e.types d.types q.types p.types; ids = more-locals e.ids d.ids q.ids p.ids }
 
 none-declared : PlainDeclared nothing
 none-declared = record { types = tt; ids = tt }

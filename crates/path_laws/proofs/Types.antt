@@ -260,9 +260,9 @@ same-types k (Some f) p = p
 fields-give : (k : Context) (inside : Bool) (ms : List FieldsMeaning) → AllTypesPlain k.types → AllFields ms → Gives PlainFields (all_fields k inside ms)
 fields-give k inside [] p h = whole-gives PlainFields (record { fields = []; names = [] }) tt
 fields-give k inside (m ∷ ms) p h =
-    by-gives PlainFields PlainFields PlainFields (m k inside) (λ o. all_fields (names_behind k o) inside ms) (λ f g. whole (record { fields = f.fields ++ g.fields; names = f.names ++ g.names })) (h.0 k inside p)
+    by-gives PlainFields PlainFields PlainFields (m k inside) (λ o. all_fields (names_behind k o) inside ms) (λ f g. whole (record { fields = f.fields ++ g.fields; names = g.names ++ f.names })) (h.0 k inside p)
     (λ o q. fields-give (names_behind k o) inside ms (same-types k o p) h.1)
-    (λ f g q r. whole-gives PlainFields (record { fields = f.fields ++ g.fields; names = f.names ++ g.names }) (both-plain f.fields g.fields q r))
+    (λ f g q r. whole-gives PlainFields (record { fields = f.fields ++ g.fields; names = g.names ++ f.names }) (both-plain f.fields g.fields q r))
 
 abbrev behind_of : Context → Option TypeFound → Context
 behind_of k None = k

@@ -112,23 +112,23 @@ module _ (Q : List Function → Type 0) where
   all-somes : (k : Context) (inside : Bool) (ms : List FieldsMeaning) → Surrounded Q k → X.AllFieldsGive Q ms → Keeps Q SoundFields (all_fields k inside ms)
   all-somes k inside [] r s = K.whole-keeps Q SoundFields (record { fields = []; names = [] }) (λ gs. record { fields = tt; names = tt })
   all-somes k inside (m ∷ ms) r s =
-      N.by-keeps Q SomeFields SoundFields SoundFields (m k inside) (λ o. all_fields (names_behind k o) inside ms) (λ f g. whole (record { fields = f.fields ++ g.fields; names = f.names ++ g.names })) some-lasts (s.0 k inside r)
+      N.by-keeps Q SomeFields SoundFields SoundFields (m k inside) (λ o. all_fields (names_behind k o) inside ms) (λ f g. whole (record { fields = f.fields ++ g.fields; names = g.names ++ f.names })) some-lasts (s.0 k inside r)
       (λ o gs q a. all-somes (names_behind k o) inside ms (known-fields k o gs r a) s.1 gs q)
       (λ f g js q a b.
-      K.whole-kept Q SoundFields (record { fields = f.fields ++ g.fields; names = f.names ++ g.names }) js q
-      (record { fields = more-fields f.fields g.fields a.sound.fields b.fields; names = more-values f.names g.names a.sound.names b.names }))
+      K.whole-kept Q SoundFields (record { fields = f.fields ++ g.fields; names = g.names ++ f.names }) js q
+      (record { fields = more-fields f.fields g.fields a.sound.fields b.fields; names = more-values g.names f.names b.names a.sound.names }))
 
   pub some-fields : (k : Context) (inside : Bool) (m : FieldsMeaning) (ms : List FieldsMeaning) → Surrounded Q k → X.AllFieldsGive Q (m ∷ ms) → Keeps Q SomeFields (all_fields k inside (m ∷ ms))
   some-fields k inside m ms r s =
-      N.by-keeps Q SomeFields SoundFields SomeFields (m k inside) (λ o. all_fields (names_behind k o) inside ms) (λ f g. whole (record { fields = f.fields ++ g.fields; names = f.names ++ g.names })) some-lasts (s.0 k inside r)
+      N.by-keeps Q SomeFields SoundFields SomeFields (m k inside) (λ o. all_fields (names_behind k o) inside ms) (λ f g. whole (record { fields = f.fields ++ g.fields; names = g.names ++ f.names })) some-lasts (s.0 k inside r)
       (λ o gs q a. all-somes (names_behind k o) inside ms (known-fields k o gs r a) s.1 gs q)
       (λ f g js q a b.
-      K.whole-kept Q SomeFields (record { fields = f.fields ++ g.fields; names = f.names ++ g.names }) js q
+      K.whole-kept Q SomeFields (record { fields = f.fields ++ g.fields; names = g.names ++ f.names }) js q
       (record {
         first = a.first;
         rest = a.rest ++ g.fields;
         is = ap (λ fs. fs ++ g.fields) a.is;
-        sound = record { fields = more-fields f.fields g.fields a.sound.fields b.fields; names = more-values f.names g.names a.sound.names b.names };
+        sound = record { fields = more-fields f.fields g.fields a.sound.fields b.fields; names = more-values g.names f.names b.names a.sound.names };
       }))
 
   -- the names of a member, of a type that is known or not

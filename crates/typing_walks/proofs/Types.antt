@@ -33,7 +33,7 @@ use Rattle.expr_type.specs.KeywordTypes.{Dim, keyword_type, implicit_type, unpac
 use Rattle.expr_type.specs.Forms.{dimensioned, type_of_thing}
 use Rattle.expr_type.specs.Expressions.{dimension_meaning, operand}
 use Rattle.expr_type.specs.Types as T
-use Rattle.expr_type.specs.Types.{TypeFound, only, dims, found_type, named_with, int_type, base_type, NameValue, written_value, is_taken, name_value, value_in, goes_on_from, name_behind, unwritten, last_number, name_values, enum_name, enum_found, Field, Fields, field, names_behind, all_fields, member, first_width, same_widths, sign_by, aggregate}
+use Rattle.expr_type.specs.Types.{latest_first, TypeFound, only, dims, found_type, named_with, int_type, base_type, NameValue, written_value, is_taken, name_value, value_in, goes_on_from, name_behind, unwritten, last_number, name_values, enum_name, enum_found, Field, Fields, field, names_behind, all_fields, member, first_width, same_widths, sign_by, aggregate}
 use Rattle.typing_fits.specs.Types.{is_full, is_full_member}
 use Rattle.typing_fits.specs.Sound.{Sound}
 use Rattle.typing_fits.specs.Operands.{SoundConstant, AllValuesSound}
@@ -128,11 +128,15 @@ name-values-sound : (k : Context) (t base : SvType) (vs : List NameValue) (gs : 
 name-values-sound k t base [] gs full w s = tt
 name-values-sound k t base (v ∷ vs) gs full w s = (short-value k t v full (subst (λ n. n ≤ 4194304) (sym w) s.0), name-values-sound k t base vs gs full w s.1)
 
+latest-sound : (vs : List ParamValue) → AllValuesSound vs → AllValuesSound (latest_first vs)
+latest-sound [] s = tt
+latest-sound (v ∷ vs) s = more-values (latest_first vs) (v ∷ []) (latest-sound vs s.1) (s.0, tt)
+
 pub enum-sound : (k : Context) (at : ℕ) (base : SvType) (vs : List NameValue) (gs : List Function) → is_full base ≡ true → AllHold (Short base) vs gs → SoundFound (enum_found k at base vs) gs
 enum-sound k at base vs gs full s =
     let ns = map (enum_name k.source base) vs in
     let whole_ = full-Enum at base ns ∙ full in
-    record { full = whole_; names = name-values-sound k (V.Enum at base ns) base vs gs whole_ (enum-width at base ns) s }
+    record { full = whole_; names = latest-sound (map (value_in k (V.Enum at base ns)) vs) (name-values-sound k (V.Enum at base ns) base vs gs whole_ (enum-width at base ns) s) }
 
 module _ (Q : List Function → Type 0) where
   abbrev pub TypesGive : T.TypeMeaning → Type 0
