@@ -11,6 +11,7 @@ use Rattle.expr_type.specs.Expressions.{meaning}
 use Rattle.expr_type.specs.Names.{Called, Context}
 use Rattle.expr_type.specs.Typings.{Typed}
 use Rattle.expr_type.specs.Uses.{stream_marks}
+use Rattle.function_places.specs.Places.{Declared, places_in, first_place}
 use Rattle.pattern_types.specs.declared.operand.Operand as O
 use Rattle.pattern_types.specs.declared.operand.Operand.{out-Operand, Operand-F}
 use Rattle.typing_parts.specs.declared.known.Known.{Known}
@@ -19,9 +20,11 @@ use Rattle.routine_fits.specs.Sound.{AllSoundFunctions}
 use Rattle.typing_fits.specs.Sound.{Extends}
 use Rattle.typing_steps.specs.Steps.{StopsBy, TypesTo}
 
--- each mark says whether its function holds a stream, and each function can be run where these are known
+-- each mark says whether its function holds a stream, each function is found by where it is declared, and each can be run where these
+-- are known
 pub record IsReady (k : Known) : Type 0 where
   pub marked : k.marks ≡ stream_marks k.functions
+  pub placed : (d : Declared) → places_in k.places d ≡ first_place d k.functions
   pub sound : AllSoundFunctions k.functions
 
 -- a value has at most 2^22 bits, as many as a signal may have, and a stream at most 65,536
