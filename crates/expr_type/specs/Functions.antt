@@ -191,13 +191,13 @@ by_text k n (OfTask t) =
     let j = outside k n in
     typed_routine j (k.home n) t.name (whole (record { kind = K.Routine; of = one_bit; names = [] })) (formals_of t.formals) t.items
 
--- a function is known by where it is declared
-abbrev pub is_it : Home → ℕ → Function → Bool
-is_it h at f = (f.instance == h.instance) && ((f.spot.at == at) && bytes_eq f.path (function_path h f.spot.word))
+-- a function is known by where it is declared: the instance, the token of its name, and its path
+abbrev pub is_it : ℕ → ℕ → List ℕ → Function → Bool
+is_it instance at path f = (f.instance == instance) && ((f.spot.at == at) && bytes_eq f.path path)
 
-abbrev pub known_from : ℕ → Home → ℕ → List Function → Option Called
-known_from n h at [] = None
-known_from n h at (f ∷ fs) = cond (is_it h at f) (Some (record { place = n; of = f })) (known_from (suc n) h at fs)
+abbrev pub known_from : ℕ → ℕ → ℕ → List ℕ → List Function → Option Called
+known_from n instance at path [] = None
+known_from n instance at path (f ∷ fs) = cond (is_it instance at path f) (Some (record { place = n; of = f })) (known_from (suc n) instance at path fs)
 
 abbrev pub name_of : RoutineText → ℕ
 name_of (OfFunction f) = f.name
@@ -213,7 +213,9 @@ known_or None x = x
 
 abbrev pub routine_text : Option RoutineText → Context → ℕ → Typing Called
 routine_text None k n = broken Quiet
-routine_text (Some t) k n = λ fs. known_or (known_from 0 (k.home n) (name_of t) fs) (checked (by_text k n t) appended) fs
+routine_text (Some t) k n =
+    let h = k.home n in
+    λ fs. known_or (known_from 0 h.instance (name_of t) (function_path h (word k.source (name_of t))) fs) (checked (by_text k n t) appended) fs
 
 -- Functions whose calls go so deep. Calls make no circle, so they go no deeper than there are declarations.
 unfoldable pub routine : ℕ → Context → ℕ → Typing Called
