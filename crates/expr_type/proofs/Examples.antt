@@ -1,6 +1,6 @@
 -- Small texts: the definitions compute. Texts are given by their layers, as the trees that they stand for.
-use Rattle.std.proofs.Common.{◌≡◌, ℕ, suc, ◌+◌, Bool, true, false, List, [], ◌∷◌, ◌++◌, map, max, refl, rules, ap, ◌∙◌, ◌&&◌, cond, Option, Some, None}
-use Rattle.std.specs.Prelude.{nat_lt, not, pos, Ok, Err, codes, slice_get, flat_map}
+use Rattle.std.proofs.Common.{◌≡◌, ℕ, suc, ◌+◌, Bool, true, false, List, [], ◌∷◌, map, max, refl, rules, ap, ◌∙◌, ◌&&◌, cond, Option, Some, None}
+use Rattle.std.specs.Prelude.{nat_lt, not, pos, Ok, Err, codes, slice_get}
 use Rattle.std.specs.Str.{bytes_eq}
 use Rattle.sv_source.specs.declared.token.Kind.TheVariants.{Name}
 use Rattle.sv_source.specs.declared.token.Token.{Token}
@@ -14,7 +14,7 @@ use Rattle.sv_types.specs.declared.types.SvType.{SvType, the_lemmas}
 use Rattle.sv_types.specs.declared.types.SvType.TheVariants.{Enum}
 use Rattle.pattern_fit.specs.Same.{same_type}
 use Rattle.expr_type.specs.Breaks.{Breaks, At, Key, first}
-use Rattle.expr_type.specs.Typings.{Checked, Typing, all_of, both, broken, joined, lesser, where_whole, rule, whole, refused, unless, at_all}
+use Rattle.expr_type.specs.Typings.{Checked, Typing, all_of, both, broken, joined, where_whole, rule, whole, refused, unless, at_all}
 use Rattle.expr_type.specs.Shapes.{is_plain_to_enum, one_bit, vector, sign_of}
 use Rattle.expr_type.specs.Forms.{call_of}
 use Rattle.expr_type.specs.Selects.{is_index}
@@ -34,7 +34,7 @@ use Rattle.sv_types.specs.Layouts.{width_of}
 use Rattle.expr_type.specs.Expressions.{Meaning, is_count, expr_step, select_step}
 use Rattle.expr_type.specs.Targets.{ToPath}
 use Rattle.expr_type.specs.Patterns.{named_key}
-use Rattle.expr_type.specs.Statements.{CaseFound, always, assignment, case_items, case_stmt, default_body, in_widest, whole_item, widened}
+use Rattle.expr_type.specs.Statements.{CaseFound, always, assignment, case_items, case_stmt, default_body, item_at, selector_at, whole_item, widened, widest}
 use Rattle.sv_types.specs.declared.statement.CaseKind.TheVariants as C
 use Rattle.b4_core.specs.Vectors.{vec}
 use Rattle.expr_type.specs.TargetNames.{actual_target, named_target}
@@ -281,20 +281,18 @@ wide_value = by_itself braces.source 3 (vector 129 false) (F.Signal 1)
 abbrev broken_item : CaseFound
 broken_item = record { is_default = false; values = Ok (wide_value ∷ []); body = Err (At (position braces.source 4) 501) }
 
-in-widest : in_widest (selector ∷ wide_value ∷ []) ≡ 2 ∷ []
-in-widest =
-    ap (λ n. flat_map (λ (u : Valued). too_wide (max n (max (width_of (vector 129 false)) 0)) u.arithmetic) (selector ∷ wide_value ∷ [])) width-1
-    ∙ ap (λ n. flat_map (λ (u : Valued). too_wide (max 1 (max n 0)) u.arithmetic) (selector ∷ wide_value ∷ [])) (width-129 false)
+in-widest : widest (Ok (selector, (wide_value ∷ []) ∷ [])) ≡ 129
+in-widest = ap (λ n. max n (max (width_of (vector 129 false)) 0)) width-1 ∙ ap (λ n. max 1 (max n 0)) (width-129 false)
 
-abbrev with_tokens : List ℕ → Option Key
-with_tokens ts =
+abbrev with_width : ℕ → Option Key
+with_width w =
     first_break (rule (where_whole
-    (lesser (joined {A = Valued} (Ok selector) (all_of (map whole_item (broken_item ∷ [])))) (unless (at_all 1 502 ts) C.Plain))
-    (λ p. Ok (S.Case C.Plain p.0.0.expr (case_items p.0.1) (default_body p.0.1)))))
+    (joined (selector_at braces w (Ok selector)) (all_of (map whole_item (map (item_at braces w) (broken_item ∷ [])))))
+    (λ p. Ok (S.Case C.Plain p.0.expr (case_items p.1) (default_body p.1)))))
 
 case-by-values : first_break (rule (case_stmt braces C.Plain (Ok selector) (broken_item ∷ []))) ≡ at 2 502
 unfolding X.out-SvType denote.Hole.Carrier.out
-case-by-values = ap with_tokens in-widest
+case-by-values = ap with_width in-widest
 
 -- a key that is the name of a function, in a pattern of an array
 key-of-function : named_key (record braces { stands = λ n. false }) 3 (Other 0) ≡ Err (At (position braces.source 3) 404)

@@ -47,11 +47,11 @@ use Rattle.sv_types.specs.declared.types.SvType.{SvType}
 use Rattle.sv_types.specs.Layouts.{width_of}
 use Rattle.sv_types.specs.Meanings.{most}
 use Rattle.expr_type.specs.Breaks.{At, Quiet}
-use Rattle.expr_type.specs.Typings.{Checked, Typing, whole, broken, rule, by_functions, checked, both, both_by, all, all_of, joined, lesser, looked_at, where_whole, refused, unless, at_all}
+use Rattle.expr_type.specs.Typings.{Checked, Typing, whole, broken, rule, by_functions, checked, both, both_by, all, all_of, joined, looked_at, tried, where_whole, refused, unless, at_all}
 use Rattle.expr_type.specs.Shapes.{one_bit, vector, sign_of, is_assignable, is_plain_to_enum}
 use Rattle.expr_type.specs.Names.{Called, Context, LocalId, position, spot, with_values, with_types, with_locals, local_id}
 use Rattle.expr_type.specs.declared.operand.Valued.{Valued}
-use Rattle.expr_type.specs.Operands.{is_constant_value, constant_alone, constant_of, first_of, Operand, Plain, Pattern, Stream, given, no_stream, passed, unstreamed, is_value, bits_in, too_wide, width, value_by}
+use Rattle.expr_type.specs.Operands.{is_constant_value, constant_alone, constant_of, first_of, Operand, Plain, Pattern, Stream, given, no_stream, passed, unstreamed, is_value, bits_in, sized, too_wide, width, value_by}
 use Rattle.expr_type.specs.Operators.{by_itself, expr_at, exprs, binary_of, not_too_long}
 use Rattle.expr_type.specs.Forms.{cast_expr, needed_with}
 use Rattle.expr_type.specs.Expressions as E
@@ -346,7 +346,8 @@ pub record CaseItem : Type 0 where
   pub values : List Valued
   pub body : R.Stmt
 
--- an item as it is found: its values make others wider also where a statement is broken
+-- An item as it is found: its values make others wider also where a statement is broken. What stands behind is looked at as without a
+-- broken statement, which has no part in it.
 pub record CaseFound : Type 0 where
   pub is_default : Bool
   pub values : Checked (List Valued)
@@ -365,20 +366,29 @@ abbrev pub default_body : List CaseItem → Option R.Stmt
 default_body [] = None
 default_body (c ∷ cs) = cond c.is_default (Some c.body) (default_body cs)
 
--- the operators in the selector and the values that are too wide, where all of these are whole
-abbrev pub in_widest : List Valued → List ℕ
-in_widest vs = let w = most (map width vs) in flat_map (λ (u : Valued). too_wide w u.arithmetic) vs
+-- the width of the widest of the selector and the values, where all of these are whole; else no operator in them is too wide
+abbrev pub widest : Checked (Valued × List (List Valued)) → ℕ
+widest (Ok p) = most (map width (p.0 ∷ flat_map (λ vs. vs) p.1))
+widest (Err b) = 0
 
-abbrev pub too_wide_in : Checked (Valued × List (List Valued)) → List ℕ
-too_wide_in (Ok p) = in_widest (p.0 ∷ flat_map (λ vs. vs) p.1)
-too_wide_in (Err b) = []
+-- the selector and an item at that width
+abbrev pub selector_at : Context → ℕ → Checked Valued → Checked Valued
+selector_at k w on = where_whole on (λ v. sized k.source w v v)
+
+abbrev pub wide_in : ℕ → List Valued → List ℕ
+wide_in w vs = flat_map (λ (u : Valued). too_wide w u.arithmetic) vs
+
+abbrev pub values_at : Context → ℕ → Checked (List Valued) → Checked (List Valued)
+values_at k w x = where_whole x (λ vs. unless (at_all k.source.instance 502 (wide_in w vs)) vs)
+
+abbrev pub item_at : Context → ℕ → CaseFound → CaseFound
+item_at k w c = record { is_default = c.is_default; values = values_at k w c.values; body = c.body }
 
 abbrev pub case_stmt : Context → CaseKind → Checked Valued → List CaseFound → Checked R.Stmt
 case_stmt k kind on cs =
-    let values = joined on (all_of (map (λ (c : CaseFound). c.values) cs)) in
-    where_whole
-    (lesser (joined on (all_of (map whole_item cs))) (unless (at_all k.source.instance 502 (too_wide_in values)) kind))
-    (λ p. Ok (S.Case kind p.0.0.expr (case_items p.0.1) (default_body p.0.1)))
+    let w = widest (joined on (all_of (map (λ (c : CaseFound). c.values) cs))) in
+    where_whole (joined (selector_at k w on) (all_of (map whole_item (map (item_at k w) cs))))
+    (λ p. Ok (S.Case kind p.0.expr (case_items p.1) (default_body p.1)))
 
 -- Loops. The first value is converted to the variable's type. A cast values its inside alone, so what is given to a wider variable
 -- has its width from a `?:`, of which it is the arm that is always taken.
@@ -519,9 +529,9 @@ item_step (BlockItem-F.NamedVariables of ss ds semicolon) k = checked (variables
 
 abbrev pub case_step : CaseItem-F PartMeaning CaseMeaning StmtMeaning StmtMeaning → CaseMeaning
 case_step (CaseItem-F.Values es colon body) k =
-    both (looked_at (all (map (condition k) es))) (looked_at (body k)) (λ vs s. whole (record { is_default = false; values = vs; body = s }))
+    both (looked_at (all (map (condition k) es))) (tried (body k)) (λ vs s. whole (record { is_default = false; values = vs; body = s }))
 case_step (CaseItem-F.Default keyword colon body) k =
-    checked (looked_at (body k)) (λ s. whole (record { is_default = true; values = Ok []; body = s }))
+    checked (tried (body k)) (λ s. whole (record { is_default = true; values = Ok []; body = s }))
 
 abbrev pub else_step : Else-F PartMeaning CaseMeaning StmtMeaning StmtMeaning → StmtMeaning
 else_step e = e.body

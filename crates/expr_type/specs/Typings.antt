@@ -104,6 +104,14 @@ maybe (Some x) = checked x (λ a. whole (Some a))
 abbrev pub looked_at : {A : Type 0} → Typing A → Typing (Checked A)
 looked_at x fs = let r = x fs in record { result = Ok r.result; functions = r.functions }
 
+-- likewise, but where the part isn't whole, functions that only it makes known aren't known behind it
+abbrev pub known_behind : {A : Type 0} → Checked A → List Function → List Function → List Function
+known_behind (Ok a) before then = then
+known_behind (Err x) before then = before
+
+abbrev pub tried : {A : Type 0} → Typing A → Typing (Checked A)
+tried x fs = let r = x fs in record { result = Ok r.result; functions = known_behind r.result fs r.functions }
+
 -- what is first looked at from a token
 abbrev pub put_behind : {A : Type 0} → Position → Checked A → Checked A
 put_behind p (Ok a) = Ok a

@@ -27,7 +27,7 @@ use Rattle.sv_types.specs.declared.statement.Stmt.TheVariants as V
 use Rattle.sv_types.specs.declared.types.SvType.{SvType}
 use Rattle.sv_types.specs.Layouts.{width_of}
 use Rattle.expr_type.specs.declared.operand.Valued.{Valued}
-use Rattle.expr_type.specs.Typings.{Checked, Typing, whole, rule, checked, both, both_by, all, all_of, joined, lesser, looked_at, where_whole, unless, at_all}
+use Rattle.expr_type.specs.Typings.{Checked, Typing, whole, rule, checked, both, both_by, all, all_of, joined, looked_at, tried, where_whole}
 use Rattle.expr_type.specs.Names.{Called, Context, position, spot, thing, local_id}
 use Rattle.expr_type.specs.Operands.{Operand, given}
 use Rattle.expr_type.specs.Operators.{exprs, not_too_long}
@@ -39,9 +39,9 @@ use Rattle.expr_type.specs.TargetNames.{named_target}
 use Rattle.expr_type.specs.Targets as T
 use Rattle.expr_type.specs.Targets.{Target, ToPath, target, parts_of, simple_name}
 use Rattle.expr_type.specs.Statements as S
-use Rattle.expr_type.specs.Statements.{operator_of, is_later, combined, assign, assignment, continuous, one, step_operator, counted, Declared, behind, variables_of, selected_type, parameters, IsValue, BlockPart, IsStatement, IsDeclared, PartMeaning, behind_part, block_parts, in_block, built, block, empty, result, return_value, returned, condition, Branches, branches, case_kind, CaseItem, CaseFound, CaseMeaning, whole_item, case_items, default_body, too_wide_in, case_stmt, first_by, LoopVariable, loop_type, loop_variable, in_loop, loop_step, Control, control, Turns, turns, loop_stmt, Actual, all_actuals, call_stmt_of, ways, actuals, call_stmt, StmtMeaning, else_if, typed_stmt, item_meaning, stmt_meaning}
+use Rattle.expr_type.specs.Statements.{operator_of, is_later, combined, assign, assignment, continuous, one, step_operator, counted, Declared, behind, variables_of, selected_type, parameters, IsValue, BlockPart, IsStatement, IsDeclared, PartMeaning, behind_part, block_parts, in_block, built, block, empty, result, return_value, returned, condition, Branches, branches, case_kind, CaseItem, CaseFound, CaseMeaning, whole_item, case_items, default_body, item_at, selector_at, widest, case_stmt, first_by, LoopVariable, loop_type, loop_variable, in_loop, loop_step, Control, control, Turns, turns, loop_stmt, Actual, all_actuals, call_stmt_of, ways, actuals, call_stmt, StmtMeaning, else_if, typed_stmt, item_meaning, stmt_meaning}
 use Rattle.typing_fits.proofs.Calls.{all-front, none-all}
-use Rattle.typing_fits.proofs.Contexts.{refused-then, whole-part, lesser-both, joined-both}
+use Rattle.typing_fits.proofs.Contexts.{refused-then, whole-part, joined-both}
 use Rattle.typing_fits.proofs.Selects.{long-then}
 use Rattle.typed_paths.proofs.Typing.{typed-Local}
 use Rattle.path_laws.specs.Names.{PlainNames, PlainText}
@@ -280,17 +280,20 @@ default-typed (c ∷ cs) h = by c.is_default h.0 (default-typed cs h.1)
     by true x r = x
     by false x r = r
 
+at-typed : (k : Context) (w : ℕ) (cs : List CaseFound) → Each FoundTyped cs → Each FoundTyped (map (item_at k w) cs)
+at-typed k w [] p = tt
+at-typed k w (c ∷ cs) p = (p.0, at-typed k w cs p.1)
+
 case-typed : (k : Context) (kind : CaseKind) (on : Checked Valued) (cs : List CaseFound) (s : R.Stmt) → case_stmt k kind on cs ≡ Ok s → Each FoundTyped cs → AssignsTyped s
 case-typed k kind on cs s h p =
-    let found = joined on (all_of (map whole_item cs)) in
-    let limit = unless (at_all k.source.instance 502 (too_wide_in (joined on (all_of (map (λ (c : CaseFound). c.values) cs))))) kind in
-    let a = whole-part (lesser found limit) (λ q. a_stmt (V.Case kind q.0.0.expr (case_items q.0.1) (default_body q.0.1))) s h in
-    let b = lesser-both found limit a.part a.is in
-    let c = joined-both on (all_of (map whole_item cs)) a.part.0 b.left in
-    let items = a.part.0.1 in
-    let typed = items-typed cs items c.right p in
-    as-stmt (V.Case kind a.part.0.0.expr (case_items items) (default_body items)) s a.made
-    (typed-Case kind a.part.0.0.expr (case_items items) (default_body items) (bodies-typed items typed) (default-typed items typed))
+    let w = widest (joined on (all_of (map (λ (c : CaseFound). c.values) cs))) in
+    let found = map (item_at k w) cs in
+    let a = whole-part (joined (selector_at k w on) (all_of (map whole_item found))) (λ q. a_stmt (V.Case kind q.0.expr (case_items q.1) (default_body q.1))) s h in
+    let c = joined-both (selector_at k w on) (all_of (map whole_item found)) a.part a.is in
+    let items = a.part.1 in
+    let typed = items-typed found items c.right (at-typed k w cs p) in
+    as-stmt (V.Case kind a.part.0.expr (case_items items) (default_body items)) s a.made
+    (typed-Case kind a.part.0.expr (case_items items) (default_body items) (bodies-typed items typed) (default-typed items typed))
 
 abbrev OfCase : CaseMeaning → Type 0
 OfCase m = (k : Context) → PlainText k → Gives FoundTyped (m k)
@@ -316,18 +319,18 @@ LookedTyped r = (s : R.Stmt) → r ≡ Ok s → AssignsTyped s
 abbrev looked : Checked R.Stmt → Checked (Checked R.Stmt)
 looked r = Ok r
 
-looked-gives : (x : Typing R.Stmt) → Gives AssignsTyped x → Gives LookedTyped (looked_at x)
+looked-gives : (x : Typing R.Stmt) → Gives AssignsTyped x → Gives LookedTyped (tried x)
 looked-gives x p fs r h = let is : (x fs).result ≡ r = cc in λ s e. p fs s (is ∙ e)
 
 case-values : (k : Context) (es : List X.Expr) (body : StmtMeaning) → PlainText k → OfStmt body
-    → Gives FoundTyped (both (looked_at (all (map (condition k) es))) (looked_at (body k)) (λ vs s. whole (record { is_default = false; values = vs; body = s })))
+    → Gives FoundTyped (both (looked_at (all (map (condition k) es))) (tried (body k)) (λ vs s. whole (record { is_default = false; values = vs; body = s })))
 case-values k es body p h =
-    both-gives Anything LookedTyped FoundTyped (looked_at (all (map (condition k) es))) (looked_at (body k)) (λ vs s. whole (record { is_default = false; values = vs; body = s })) (anything (looked_at (all (map (condition k) es))))
+    both-gives Anything LookedTyped FoundTyped (looked_at (all (map (condition k) es))) (tried (body k)) (λ vs s. whole (record { is_default = false; values = vs; body = s })) (anything (looked_at (all (map (condition k) es))))
     (looked-gives (body k) (h k p)) (λ vs s q r. whole-gives FoundTyped (record { is_default = false; values = vs; body = s }) r)
 
-case-default : (k : Context) (body : StmtMeaning) → PlainText k → OfStmt body → Gives FoundTyped (checked (looked_at (body k)) (λ s. whole (record { is_default = true; values = Ok []; body = s })))
+case-default : (k : Context) (body : StmtMeaning) → PlainText k → OfStmt body → Gives FoundTyped (checked (tried (body k)) (λ s. whole (record { is_default = true; values = Ok []; body = s })))
 case-default k body p h =
-    checked-gives LookedTyped FoundTyped (looked_at (body k)) (λ s. whole (record { is_default = true; values = Ok []; body = s })) (looked-gives (body k) (h k p))
+    checked-gives LookedTyped FoundTyped (tried (body k)) (λ s. whole (record { is_default = true; values = Ok []; body = s })) (looked-gives (body k) (h k p))
     (λ s q. whole-gives FoundTyped (record { is_default = true; values = Ok []; body = s }) q)
 
 -- `for`

@@ -17,16 +17,16 @@ use Rattle.sv_types.specs.Expressions.{meaning}
 use Rattle.eval_parts.proofs.TypeKinds.{wide-is}
 use Rattle.eval_stmts.specs.Targets.{values_of}
 use Rattle.expr_type.specs.declared.operand.Valued.{Valued}
-use Rattle.expr_type.specs.Typings.{Checked, refused, unless, at_all, where_whole, lesser, joined, all_of}
+use Rattle.expr_type.specs.Typings.{Checked, refused, unless, at_all, where_whole, joined, all_of}
 use Rattle.expr_type.specs.Names.{Called, Context, position, spot}
 use Rattle.expr_type.specs.Operands.{Operand, too_wide, width, given}
 use Rattle.expr_type.specs.Operators.{exprs, by_itself}
 use Rattle.expr_type.specs.Shapes.{is_assignable, is_plain_to_enum}
-use Rattle.expr_type.specs.Statements.{BlockPart, IsStatement, IsDeclared, in_block, Block, built, result, return_value, CaseFound, CaseItem, whole_item, case_items, default_body, in_widest, too_wide_in, case_stmt, Actual, takes_result, is_inout, value_passed, actual_expr, all_actuals, call_stmt_of}
+use Rattle.expr_type.specs.Statements.{BlockPart, IsStatement, IsDeclared, in_block, Block, built, result, return_value, CaseFound, CaseItem, whole_item, case_items, default_body, item_at, selector_at, values_at, wide_in, widest, case_stmt, Actual, takes_result, is_inout, value_passed, actual_expr, all_actuals, call_stmt_of}
 use Rattle.typing_fits.specs.Types.{is_full}
 use Rattle.typing_fits.specs.Sound.{IsNarrowType, LimitedAt, Sound, AllSound, SoundFor}
 use Rattle.typing_fits.specs.Operands.{SoundFixed, SoundOperand, AllSoundFor, AllFormalsFull, KnownCall}
-use Rattle.typing_fits.proofs.Contexts.{refused-then, none-there, unless-none, none-left, none-right, whole-part, lesser-both, joined-both}
+use Rattle.typing_fits.proofs.Contexts.{refused-then, none-there, unless-is, unless-none, none-left, none-right, whole-part, joined-both}
 use Rattle.typing_fits.proofs.Limits.{at-width}
 use Rattle.typing_fits.proofs.Selects.{local-sound}
 use Rattle.typing_fits.proofs.Calls.{all-front, none-all, formal_types}
@@ -229,34 +229,88 @@ flat-values (c ∷ cs) = ap (λ vs. c.values ++ vs) (flat-values cs)
 abbrev both_of : Valued → List (List Valued) → Checked (Valued × List (List Valued))
 both_of v vss = Ok (v, vss)
 
+-- the selector and items at a width: none of their operators is too wide
+record AtWidth {A : Type 0} (x : Checked A) (a : A) (ats : List ℕ) : Type 0 where
+  pub whole : x ≡ Ok a
+  pub none : ats ≡ []
+
+selector-whole : (k : Context) (w : ℕ) (on : Checked Valued) (v : Valued) → selector_at k w on ≡ Ok v → AtWidth on v (too_wide w v.arithmetic)
+selector-whole k w (Ok u) v h =
+    let o = at_all k.source.instance 502 (too_wide w u.arithmetic) in
+    let same = unless-is o u v h in
+    let none = none-there k.source.instance 502 (too_wide w u.arithmetic) (unless-none o u v h) in
+    record { whole = ap (λ (x : Valued). valued_ok x) same; none = subst (λ (x : Valued). too_wide w x.arithmetic ≡ []) same none }
+  where
+    valued_ok : Valued → Checked Valued
+    valued_ok x = Ok x
+selector-whole k w (Err b) v h = absurd (cc)
+
+values-whole : (k : Context) (w : ℕ) (x : Checked (List Valued)) (vs : List Valued) → values_at k w x ≡ Ok vs → AtWidth x vs (wide_in w vs)
+values-whole k w (Ok us) vs h =
+    let o = at_all k.source.instance 502 (wide_in w us) in
+    let same = unless-is o us vs h in
+    let none = none-there k.source.instance 502 (wide_in w us) (unless-none o us vs h) in
+    record { whole = ap values_ok same; none = subst (λ (x : List Valued). wide_in w x ≡ []) same none }
+values-whole k w (Err b) vs h = absurd (cc)
+
+no-values-at : (k : Context) (w : ℕ) (x : Checked (List Valued)) → x ≡ Ok [] → values_at k w x ≡ Ok []
+no-values-at k w x h = ap (values_at k w) h
+
+at-sound : (k : Context) (w : ℕ) (cs : List CaseFound) (gs : List Function) → AllSoundFound cs gs → AllSoundFound (map (item_at k w) cs) gs
+at-sound k w [] gs s = tt
+at-sound k w (c ∷ cs) gs s = (
+  record {
+    default = λ is. no-values-at k w c.values (s.0.default is);
+    values = λ vs e. s.0.values vs (values-whole k w c.values vs e).whole;
+    body = s.0.body;
+  },
+  at-sound k w cs gs s.1,
+)
+
+-- the values of items that are whole at a width
+record AllAtWidth (w : ℕ) (cs : List CaseFound) (items : List CaseItem) : Type 0 where
+  pub values : all_of (map (λ (c : CaseFound). c.values) cs) ≡ Ok (map (λ (c : CaseItem). c.values) items)
+  pub none : wide_in w (item_values items) ≡ []
+
+none-append : (w : ℕ) (us vs : List Valued) → wide_in w us ≡ [] → wide_in w vs ≡ [] → wide_in w (us ++ vs) ≡ []
+none-append w us vs e f = flat-append w us vs ∙ ap (λ (ats : List ℕ). ats ++ wide_in w vs) e ∙ f
+
+all-at-width : (k : Context) (w : ℕ) (cs : List CaseFound) (items : List CaseItem) → all_of (map whole_item (map (item_at k w) cs)) ≡ Ok items → AllAtWidth w cs items
+all-at-width k w [] items h = subst (λ xs. AllAtWidth w [] xs) (sym (none-all items h)) (record { values = refl; none = refl })
+all-at-width k w (c ∷ cs) items h =
+    let r = all-front (whole_item (item_at k w c)) (map whole_item (map (item_at k w) cs)) items h in
+    let x = item-of (item_at k w c) r.first r.here in
+    let v = values-whole k w c.values r.first.values x.values in
+    let rest = all-at-width k w cs r.rest r.behind in
+    subst (λ xs. AllAtWidth w (c ∷ cs) xs) (sym r.is) (record {
+      values = all-values c.values (map (λ (d : CaseFound). d.values) cs) r.first.values (map (λ (i : CaseItem). i.values) r.rest) v.whole rest.values;
+      none = none-append w r.first.values (item_values r.rest) v.none rest.none;
+    })
+
 pub case-sound : (k : Context) (kind : CaseKind) (on : Checked Valued) (cs : List CaseFound) (s : R.Stmt) (gs : List Function) → case_stmt k kind on cs ≡ Ok s → ((v : Valued) → on ≡ Ok v → Sound v gs) → AllSoundFound cs gs → SoundStmt s gs
 case-sound k kind on cs s gs h x y =
-    let found = joined on (all_of (map whole_item cs)) in
     let values = joined on (all_of (map (λ (c : CaseFound). c.values) cs)) in
-    let limit = unless (at_all k.source.instance 502 (too_wide_in values)) kind in
-    let a = whole-part (lesser found limit) (λ p. Ok (V.Case kind p.0.0.expr (case_items p.0.1) (default_body p.0.1))) s h in
-    let b = lesser-both found limit a.part a.is in
-    let c = joined-both on (all_of (map whole_item cs)) a.part.0 b.left in
-    let v = a.part.0.0 in
-    let items = a.part.0.1 in
-    let r = items-of cs items gs c.right y in
+    let w = widest values in
+    let found = map (item_at k w) cs in
+    let a = whole-part (joined (selector_at k w on) (all_of (map whole_item found))) (λ p. Ok (V.Case kind p.0.expr (case_items p.1) (default_body p.1))) s h in
+    let c = joined-both (selector_at k w on) (all_of (map whole_item found)) a.part a.is in
+    let v = a.part.0 in
+    let items = a.part.1 in
+    let at = selector-whole k w on v c.left in
+    let r = items-of found items gs c.right (at-sound k w cs gs y) in
+    let there = all-at-width k w cs items c.right in
     let known : values ≡ both_of v (map (λ (i : CaseItem). i.values) items) =
-    ap (λ z. joined z (all_of (map (λ (d : CaseFound). d.values) cs))) c.left ∙ ap (λ z. joined {A = Valued} (Ok v) z) r.values in
-    let none : too_wide_in values ≡ [] = none-there k.source.instance 502 (too_wide_in values) (unless-none (at_all k.source.instance 502 (too_wide_in values)) kind a.part.1 b.right) in
-    let all : in_widest (v ∷ item_values items) ≡ [] =
-    ap (λ vs. in_widest (v ∷ vs)) (sym (flat-values items)) ∙ sym (ap too_wide_in known) ∙ none in
-    let w = most (map width (v ∷ item_values items)) in
+    ap (λ z. joined z (all_of (map (λ (d : CaseFound). d.values) cs))) at.whole ∙ ap (λ z. joined {A = Valued} (Ok v) z) there.values in
+    let most_of : w ≡ most (map width (v ∷ item_values items)) = ap widest known ∙ ap (λ vs. most (map width (v ∷ vs))) (flat-values items) in
     let same : w ≡ widest_of (meaning v.expr ∷ values_of (case_items items)) =
     let e = wide-is v.expr in let f = case-widest items r.defaults in omega arith in
-    let sound = x v c.left in
-    let here = too_wide w v.arithmetic in
-    let rest = flat_map (λ (u : Valued). too_wide w u.arithmetic) (item_values items) in
+    let sound = x v at.whole in
     stmt-is (V.Case kind v.expr (case_items items) (default_body items)) s gs a.made
     (S.select-sound kind v.expr (case_items items) (default_body items) gs
     (record {
       of = sound.of;
-      selector = subst (λ n. LimitedAt (meaning v.expr) n gs) same (at-width (meaning v.expr) v.arithmetic gs w sound.limits (none-left here rest all));
-      values = subst (λ n. ItemsLimitedAt (case_items items) n gs) same (case-values items w gs r.sound (none-right here rest all));
+      selector = subst (λ n. LimitedAt (meaning v.expr) n gs) same (at-width (meaning v.expr) v.arithmetic gs w sound.limits at.none);
+      values = subst (λ n. ItemsLimitedAt (case_items items) n gs) same (case-values items w gs r.sound there.none);
     })
     (case-bodies items gs r.bodies) (default-sound items gs r.bodies))
 
