@@ -23,7 +23,7 @@ use Rattle.sv_types.specs.declared.types.SvType.{SvType}
 use Rattle.sv_types.specs.Layouts.{width_of}
 use Rattle.sv_types.proofs.OperatorLengths.{length-vec}
 use Rattle.expr_type.specs.declared.operand.Valued.{Valued}
-use Rattle.expr_type.specs.Breaks.{At, Quiet}
+use Rattle.expr_type.specs.Breaks.{Breaks, At, Quiet}
 use Rattle.expr_type.specs.Typings.{Checked, Typing, whole, broken, rule, checked, both, both_by, all, looked_at, tried, known_behind}
 use Rattle.expr_type.specs.Shapes.{vector}
 use Rattle.expr_type.specs.Names.{Called, Context, LocalId, Thing, Local, position, thing, found, or_thing, local_in, value_in, type_in, signal_in, is_whole, Interface, Other, local_id}
@@ -139,6 +139,9 @@ pub record PathOf (C : SvType → Type 0) (t : Target) (gs : List Function) : Ty
   pub of : C path.expr.of
   pub sound : SoundFixed path gs
 
+abbrev FixedOf : (SvType → Type 0) → Valued → List Function → Type 0
+FixedOf C v gs = C v.expr.of × SoundFixed v gs
+
 path-lasts : (C : SvType → Type 0) → Lasts (PathOf C)
 path-lasts C t gs hs e s = record { path = s.path; is = s.is; of = s.of; sound = fixed-lasts s.path gs hs e s.sound }
 
@@ -179,28 +182,25 @@ local-target k at n t gs v is h =
     let same : x ≡ v = cc in
     ap (λ (u : Valued). u.expr.of) (sym same)
 
+abbrev looked_ok : {A : Type 0} → Checked A → Checked (Checked A)
+looked_ok c = Ok c
+
+looked-as : {A : Type 0} (P : A → List Function → Type 0) (c r : Checked A) (gs : List Function) → looked_ok c ≡ Ok r → Looked P c gs → Looked P r gs
+looked-as P c r gs e s = let is : c ≡ r = cc in subst (λ y. Looked P y gs) is s
+
+none-looked : {A : Type 0} (P : A → List Function → Type 0) (b : Breaks) (gs : List Function) → Looked P (Err b) gs
+none-looked P b gs = λ a g. absurd (cc)
+
 module _ (Q : List Function → Type 0) where
   -- what is looked at
-  abbrev looked_ok : {A : Type 0} → Checked A → Checked (Checked A)
-  looked_ok c = Ok c
-
   pub looked-keeps : {A : Type 0} (P : A → List Function → Type 0) (x : Typing A) → Keeps Q P x → Keeps Q (Looked P) (looked_at x)
   looked-keeps P x h gs q =
       let c = h gs q in
       record { extends = c.extends; kept = c.kept; sound = λ r e. looked-as P (x gs).result r (x gs).functions e c.sound }
-    where
-      looked-as : {A : Type 0} (P : A → List Function → Type 0) (c r : Checked A) (gs : List Function) → looked_ok c ≡ Ok r → Looked P c gs → Looked P r gs
-      looked-as P c r gs e s = let is : c ≡ r = cc in subst (λ y. Looked P y gs) is s
 
   tried-kept : {A : Type 0} (P : A → List Function → Type 0) (c : Checked A) (gs hs : List Function) → Q gs → Extends gs hs → Q hs → Looked P c hs → Kept (Checked A) Q (Looked P) gs (record { result = Ok c; functions = known_behind c gs hs })
-  tried-kept P (Ok a) gs hs q e r s = record { extends = e; kept = r; sound = λ y h. tried-as (Ok a) y hs h s }
-    where
-      tried-as : (c y : Checked _) (js : List Function) → looked_ok c ≡ Ok y → Looked P c js → Looked P y js
-      tried-as c y js h s = let is : c ≡ y = cc in subst (λ z. Looked P z js) is s
-  tried-kept P (Err b) gs hs q e r s = record { extends = extends-itself gs; kept = q; sound = λ y h. none-looked b y gs h }
-    where
-      none-looked : (b : _) (y : Checked _) (js : List Function) → looked_ok (Err b) ≡ Ok y → Looked P y js
-      none-looked b y js h = let is : Err b ≡ y = cc in λ a g. absurd (let no : Err b ≡ Ok a = is ∙ g in cc)
+  tried-kept P (Ok a) gs hs q e r s = record { extends = e; kept = r; sound = λ y h. looked-as P (Ok a) y hs h s }
+  tried-kept P (Err b) gs hs q e r s = record { extends = extends-itself gs; kept = q; sound = λ y h. looked-as P (Err b) y gs h (none-looked P b gs) }
 
   pub tried-keeps : {A : Type 0} (P : A → List Function → Type 0) (x : Typing A) → Keeps Q P x → Keeps Q (Looked P) (tried x)
   tried-keeps P x h gs q = let c = h gs q in tried-kept P (x gs).result gs (x gs).functions q c.extends c.kept c.sound
@@ -288,13 +288,9 @@ module _ (Q : List Function → Type 0) where
   -- the step of a loop, whose target meets a condition
   any-path : (k : Context) (name : ℕ) (C : SvType → Type 0) → Surrounded Q k → ((gs : List Function) (v : Valued) → (named_target k true (simple_name name) [] gs).result ≡ Ok v → C v.expr.of) → Keeps Q (PathOf C) (loop_target k name)
   any-path k name C r c =
-      K.checked-keeps Q Both (PathOf C) (named_target k true (simple_name name) []) (λ v. whole (ToPath v)) both-of (λ v js q s. K.whole-kept Q (PathOf C) (ToPath v) js q (record { path = v; is = refl; of = s.0; sound = s.1 }))
-    where
-      abbrev Both : Valued → List Function → Type 0
-      Both v gs = C v.expr.of × SoundFixed v gs
-
-      both-of : Keeps Q Both (named_target k true (simple_name name) [])
-      both-of gs q = let h = P.target-keeps Q k true (simple_name name) [] r tt gs q in record { extends = h.extends; kept = h.kept; sound = λ v e. (c gs v e, h.sound v e) }
+      K.checked-keeps Q (FixedOf C) (PathOf C) (named_target k true (simple_name name) []) (λ v. whole (ToPath v))
+      (λ gs q. let h = P.target-keeps Q k true (simple_name name) [] r tt gs q in record { extends = h.extends; kept = h.kept; sound = λ v e. (c gs v e, h.sound v e) })
+      (λ v js q s. K.whole-kept Q (PathOf C) (ToPath v) js q (record { path = v; is = refl; of = s.0; sound = s.1 }))
 
   step-by : (k : Context) (step : LoopStep) (C : SvType → Type 0) → Surrounded Q k → step_written step ≡ true → Keeps Q (PathOf C) (loop_target k (stepped_name step)) → Keeps Q (ForSome C) (loop_step k step)
   step-by k (L.Assign name op at e) C r w h =

@@ -30,10 +30,10 @@ use Rattle.stmt_laws.proofs.Parts.{AllMean, assign-keeps, counted-keeps}
 use Rattle.stmt_laws.proofs.Statements as X
 use Rattle.stmt_laws.proofs.Statements.{Stands, OfPart, OfStmt, OfCase, AllParts, AllCases, ElseIf}
 
-abbrev case_meaning : CaseItem → CaseMeaning
+abbrev pub case_meaning : CaseItem → CaseMeaning
 case_meaning = fold-CaseItem PartMeaning CaseMeaning StmtMeaning StmtMeaning T.item_step T.case_step T.stmt_step T.else_step
 
-abbrev else_meaning : Else → StmtMeaning
+abbrev pub else_meaning : Else → StmtMeaning
 else_meaning = fold-Else PartMeaning CaseMeaning StmtMeaning StmtMeaning T.item_step T.case_step T.stmt_step T.else_step
 
 module _ (Q : List Function → Type 0) where
