@@ -10,13 +10,11 @@ use Rattle.sv_tree.specs.declared.expressions.PatternItem.{PatternItem, fold-Pat
 use Rattle.sv_tree.specs.declared.expressions.Select.{Select, fold-Select}
 use Rattle.sv_tree.specs.declared.expressions.SliceSize.{SliceSize, fold-SliceSize}
 use Rattle.sv_tree.specs.declared.expressions.ValueRange.{ValueRange, fold-ValueRange}
-use Rattle.sv_types.specs.declared.statement.Function.{Function}
 use Rattle.expr_type.specs.declared.operand.Valued.{Valued}
 use Rattle.expr_type.specs.Typings.{Typing, rule, checked, all}
 use Rattle.expr_type.specs.Names.{Context, Source}
 use Rattle.expr_type.specs.Operators.{concat_of, exprs}
 use Rattle.expr_type.specs.Forms.{SelectMeaning}
-use Rattle.expr_type.specs.Patterns.{Parts, Item}
 use Rattle.expr_type.specs.Expressions as E
 use Rattle.expr_type.specs.Expressions.{Meaning, CastMeaning, DimensionMeaning, PatternMeaning, ItemMeaning, SliceMeaning, RangeMeaning, meaning, select_meaning, dimension_meaning, slice_meaning, if_all, expr_step}
 use Rattle.expr_type.specs.TargetNames.{is_packed_target, packed_target}

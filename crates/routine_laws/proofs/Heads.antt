@@ -1,6 +1,6 @@
 -- Formals and results of functions in a sound text.
-use Rattle.std.proofs.Common.{◌≡◌, ℕ, ◌≤◌, Bool, true, false, ◌&&◌, cond, List, [], ◌∷◌, map, Option, Some, None, refl, arith, ap, sym, ◌∙◌, subst}
-use Rattle.std.specs.Prelude.{⊤, Ok}
+use Rattle.std.proofs.Common.{◌≡◌, ℕ, Bool, true, false, cond, List, [], ◌∷◌, map, Option, Some, None, refl, sym, subst}
+use Rattle.std.specs.Prelude.{Ok}
 use Rattle.sv_tree.specs.declared.expressions.Dimension.{Dimension}
 use Rattle.sv_tree.specs.declared.functions.Formal as G
 use Rattle.sv_tree.specs.declared.functions.FormalDirection.{FormalDirection}
@@ -17,12 +17,12 @@ use Rattle.sv_types.specs.declared.statement.Way.{Way}
 use Rattle.sv_types.specs.declared.types.SvType.{SvType}
 use Rattle.sv_types.specs.Layouts.{width_of}
 use Rattle.expr_type.specs.Breaks.{Quiet}
-use Rattle.expr_type.specs.Typings.{Checked, Typing, whole, broken, rule, both_by}
+use Rattle.expr_type.specs.Typings.{Checked, Typing, whole, broken, rule}
 use Rattle.expr_type.specs.Shapes.{one_bit}
-use Rattle.expr_type.specs.Names.{Context, LocalId, with_values, with_locals, local_id, spot}
+use Rattle.expr_type.specs.Names.{Context, LocalId, with_values, local_id, spot}
 use Rattle.expr_type.specs.Operators.{not_too_long}
 use Rattle.expr_type.specs.Types.{TypeFound, only, typed_text, declared_type}
-use Rattle.expr_type.specs.Functions.{way_by, Before, at_first, FormalFound, formal_found, type_if, names_if, typed_formal, type_before, formal_text, before_if, behind_formal, formals, behind_formals, ResultFound, function_result, result_type, own_result, in_body, is_plain, output_bits, Head, head_of, head, behind_head}
+use Rattle.expr_type.specs.Functions.{way_by, Before, at_first, FormalFound, formal_found, type_if, names_if, typed_formal, type_before, formal_text, before_if, behind_formal, formals, behind_formals, ResultFound, function_result, own_result, in_body, is_plain, output_bits, Head, head_of, head, behind_head}
 use Rattle.typing_fits.specs.Types.{is_full}
 use Rattle.typing_fits.specs.Sound.{Extends, IsNarrowType}
 use Rattle.typing_fits.specs.Operands.{AllValuesSound, AllLocalsNarrow, AllFormalsFull}
@@ -31,7 +31,6 @@ use Rattle.typing_fits.proofs.Names.{values-behind, locals-behind}
 use Rattle.typing_fits.proofs.Selects.{long-no, long-then}
 use Rattle.typing_fits.proofs.Vectors.{narrow-one_bit}
 use Rattle.typing_walks.specs.Keeps.{Kept, Keeps, Lasts, FullType, Surrounded}
-use Rattle.typing_walks.specs.Written.{all}
 use Rattle.typing_walks.specs.WrittenTypes.{dims_written, type_written}
 use Rattle.typing_walks.proofs.Keeping as Y
 use Rattle.typing_walks.proofs.Knowing as N

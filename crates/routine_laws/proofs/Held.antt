@@ -1,5 +1,5 @@
 -- Which signals statements write, form by form.
-use Rattle.std.proofs.Common.{◌≡◌, ℕ, Bool, List, [], ◌∷◌, ◌++◌, map, flat_map, Option, Some, None, refl, ap, sym, subst}
+use Rattle.std.proofs.Common.{◌≡◌, ℕ, Bool, List, [], ◌∷◌, ◌++◌, map, flat_map, Option, Some, None, sym, subst}
 use Rattle.std.specs.Prelude.{slice_get}
 use Rattle.sv_source.specs.declared.token.Spot.{Spot}
 use Rattle.sv_types.specs.declared.expression.Expr.{Expr}
@@ -11,16 +11,15 @@ use Rattle.sv_types.specs.declared.statement.Local.{Local}
 use Rattle.sv_types.specs.declared.statement.Stmt.{Stmt}
 use Rattle.sv_types.specs.declared.statement.Stmt.TheVariants as V
 use Rattle.sv_types.specs.declared.statement.Outcome.TheVariants as O
-use Rattle.sv_types.specs.Meanings.{Meaning}
-use Rattle.sv_types.specs.Surroundings.{Parameter, local_number}
+use Rattle.sv_types.specs.Surroundings.{Parameter}
 use Rattle.sv_types.specs.Expressions.{meaning}
-use Rattle.sv_types.specs.Functions.{parameter, parameters}
+use Rattle.sv_types.specs.Functions.{parameter}
 use Rattle.sv_types.specs.Statements.{Doing, Item, doing, counted, scope, branching, selecting, looping, assigning, calling, jumping, none_or, roots_by_way, actual_roots}
 use Rattle.sv_types.proofs.DoingLevels as D
 use Rattle.sv_types.proofs.DoingLevels.{item_of, perhaps}
 use Rattle.eval_stmts.specs.Environments.{AllHeld}
 use Rattle.expr_type.specs.Names.{Called}
-use Rattle.typing_fits.specs.Sound.{Extends, Knows}
+use Rattle.typing_fits.specs.Sound.{Knows}
 use Rattle.typing_fits.proofs.Given.{knows-fewer}
 use Rattle.typing_walks.specs.Keeps.{AllHold, Lasts}
 use Rattle.routine_laws.specs.Sound.{WritesLocals}

@@ -1,10 +1,8 @@
 -- Each statement whose targets find no signal writes none.
-use Rattle.std.proofs.Common.{◌≡◌, ℕ, Bool, true, false, ◌&&◌, List, [], ◌∷◌, map, Option, Some, None, refl, ap, sym, ◌∙◌, subst}
-use Rattle.std.specs.Option.{option_map}
-use Rattle.sv_tree.specs.declared.expressions.Expr as S
+use Rattle.std.proofs.Common.{◌≡◌, Bool, true, ◌&&◌, List, [], ◌∷◌, map, Some, None, refl, sym, ◌∙◌, subst}
 use Rattle.sv_tree.specs.declared.statements.BlockItem.{BlockItem, BlockItem-F, roll-BlockItem, map-BlockItem, ind-BlockItem, fold-roll-BlockItem}
-use Rattle.sv_tree.specs.declared.statements.CaseItem.{CaseItem, CaseItem-F, fold-CaseItem, roll-CaseItem, map-CaseItem, fold-roll-CaseItem}
-use Rattle.sv_tree.specs.declared.statements.Else.{Else, Else-F, fold-Else, roll-Else, map-Else, fold-roll-Else}
+use Rattle.sv_tree.specs.declared.statements.CaseItem.{CaseItem, CaseItem-F, roll-CaseItem, map-CaseItem, fold-roll-CaseItem}
+use Rattle.sv_tree.specs.declared.statements.Else.{Else, Else-F, roll-Else, map-Else, fold-roll-Else}
 use Rattle.sv_tree.specs.declared.statements.Stmt.{Stmt, Stmt-F, roll-Stmt, map-Stmt, ind-Stmt, fold-roll-Stmt}
 use Rattle.sv_types.specs.declared.statement.Function.{Function}
 use Rattle.expr_type.specs.Names.{Context}
@@ -13,24 +11,22 @@ use Rattle.expr_type.specs.Types.{typed_text}
 use Rattle.expr_type.specs.Statements as T
 use Rattle.expr_type.specs.Statements.{variables_of, selected_type, parameters, IsValue, PartMeaning, CaseMeaning, StmtMeaning, block, item_meaning, stmt_meaning}
 use Rattle.typing_fits.proofs.Full.{and-left, and-right}
-use Rattle.typing_walks.specs.Keeps.{Keeps, SoundMeaning}
+use Rattle.typing_walks.specs.Keeps.{Keeps}
 use Rattle.typing_walks.specs.Written as Z
-use Rattle.typing_walks.specs.Written.{is_written, if_there}
+use Rattle.typing_walks.specs.Written.{is_written}
 use Rattle.typing_walks.specs.WrittenTypes.{type_written}
-use Rattle.typing_walks.proofs.Walk.{expr-sound}
 use Rattle.stmt_walks.specs.Written.{lvalue_written}
-use Rattle.routine_fits.specs.Sound.{SoundStmt}
 use Rattle.stmt_laws.specs.Written as W
 use Rattle.stmt_laws.specs.Written.{declarators_written, selects_written, exprs_written, start_written, step_written, stmt_written, item_written, case_written, else_written, items_written}
 use Rattle.routine_laws.specs.Names as L
-use Rattle.routine_laws.specs.Names.{Signals, signals_of, finds_no_signal, lvalue_local, actual_local, stmt_local, item_local, case_local, else_local, items_local}
+use Rattle.routine_laws.specs.Names.{Signals, signals_of, stmt_local, item_local, case_local, else_local, items_local}
 use Rattle.stmt_laws.specs.Sound.{AroundStatements}
 use Rattle.stmt_laws.proofs.Declared.{text-keeps, selected-keeps, variables-keep, parameters-keep}
 use Rattle.stmt_laws.proofs.Walk.{case_meaning, else_meaning, all-mean}
 use Rattle.routine_laws.specs.Sound.{WritesLocals}
 use Rattle.routine_laws.proofs.Actuals.{actuals-local}
 use Rattle.routine_laws.proofs.Locals as X
-use Rattle.routine_laws.proofs.Locals.{Within, OfPart, OfStmt, OfCase, AllParts, AllCases, ElseIf}
+use Rattle.routine_laws.proofs.Locals.{Within, OfPart, OfStmt, OfCase, AllParts, AllCases}
 
 module _ (Q : List Function → Type 0) (s : Signals) where
   abbrev OfItem : BlockItem → Type 0

@@ -1,5 +1,5 @@
 -- Statements whose targets find no signal write none, form by form.
-use Rattle.std.proofs.Common.{◌≡◌, ℕ, Bool, true, false, ◌&&◌, ◌||◌, ◌==◌, cond, not, List, [], ◌∷◌, ◌++◌, length, map, Option, Some, None, refl, ap, sym, ◌∙◌, subst}
+use Rattle.std.proofs.Common.{◌≡◌, ℕ, Bool, true, false, ◌&&◌, ◌||◌, ◌==◌, cond, not, List, [], ◌∷◌, ◌++◌, length, map, Option, Some, None, refl, sym, subst}
 use Rattle.std.specs.Prelude.{Ok}
 use Rattle.std.specs.Option.{option_map}
 use Rattle.sv_tree.specs.declared.expressions.Expr as S
@@ -12,8 +12,6 @@ use Rattle.sv_tree.specs.declared.statements.LoopStart.{LoopStart}
 use Rattle.sv_tree.specs.declared.statements.LoopStep.{LoopStep}
 use Rattle.sv_tree.specs.declared.statements.Lvalue.{Lvalue}
 use Rattle.sv_types.specs.declared.expression.Expr.{Expr}
-use Rattle.sv_types.specs.declared.expression.Form.TheVariants as F
-use Rattle.sv_types.specs.declared.statement.CaseItem as J
 use Rattle.sv_types.specs.declared.statement.CaseKind.{CaseKind}
 use Rattle.sv_types.specs.declared.statement.Formal.{Formal}
 use Rattle.sv_types.specs.declared.statement.Function.{Function}
@@ -23,7 +21,6 @@ use Rattle.sv_types.specs.declared.statement.Stmt.TheVariants as V
 use Rattle.sv_types.specs.declared.statement.Way.{Way}
 use Rattle.sv_types.specs.declared.statement.Way.TheVariants as W
 use Rattle.sv_types.specs.declared.types.SvType.{SvType}
-use Rattle.sv_types.specs.Meanings.{Meaning}
 use Rattle.sv_types.specs.Expressions as T
 use Rattle.sv_types.specs.Statements.{roots_by_way}
 use Rattle.eval_stmts.specs.Environments.{AllHeld}
@@ -32,15 +29,15 @@ use Rattle.expr_type.specs.Breaks.{At}
 use Rattle.expr_type.specs.Typings.{Checked, Typing, whole, broken, rule, checked, both, both_by, all, all_of, looked_at, tried, where_whole, joined, refused}
 use Rattle.expr_type.specs.Shapes.{is_assignable, is_plain_to_enum}
 use Rattle.expr_type.specs.Names.{Called, Context, position, spot}
-use Rattle.expr_type.specs.Operands.{Operand, given, first_of, unstreamed}
-use Rattle.expr_type.specs.Operators.{by_itself, exprs}
+use Rattle.expr_type.specs.Operands.{Operand, given, first_of}
+use Rattle.expr_type.specs.Operators.{exprs}
 use Rattle.expr_type.specs.Forms.{needed_with}
 use Rattle.expr_type.specs.Expressions as E
 use Rattle.expr_type.specs.Expressions.{operand, select_meaning}
 use Rattle.expr_type.specs.TargetNames.{named_target}
 use Rattle.expr_type.specs.Targets as X
 use Rattle.expr_type.specs.Targets.{Target, ToPath, target, parts_of, simple_name}
-use Rattle.expr_type.specs.Statements.{operator_of, is_later, combined, assign, assignment, one, step_operator, counted, Declared, BlockPart, IsStatement, IsDeclared, PartMeaning, behind_part, block_parts, in_block, built, block, empty, result, return_value, returned, condition, Branches, branches, else_if, case_kind, CaseFound, CaseItem, CaseMeaning, whole_item, case_items, default_body, widest, selector_at, item_at, case_stmt, LoopVariable, loop_variable, in_loop, loop_step, Control, control, Turns, turns, loop_stmt, Actual, as_value, as_target, actual_by, ways, actuals, takes_result, is_inout, value_passed, actual_expr, all_actuals, call_stmt_of, call_stmt, StmtMeaning}
+use Rattle.expr_type.specs.Statements.{operator_of, is_later, combined, assign, assignment, one, step_operator, counted, Declared, BlockPart, IsStatement, IsDeclared, PartMeaning, behind_part, block_parts, in_block, built, block, empty, result, return_value, returned, condition, Branches, branches, else_if, case_kind, CaseFound, CaseItem, CaseMeaning, whole_item, case_items, default_body, widest, selector_at, item_at, case_stmt, LoopVariable, loop_variable, in_loop, loop_step, control, Turns, turns, loop_stmt, Actual, as_value, actual_by, ways, actuals, takes_result, is_inout, value_passed, actual_expr, all_actuals, call_stmt_of, call_stmt, StmtMeaning}
 use Rattle.typing_fits.specs.Sound.{Sound}
 use Rattle.typing_fits.specs.Operands.{SoundFixed, SoundOperand, KnownCall}
 use Rattle.typing_fits.proofs.Calls.{all-front, none-all}
@@ -62,12 +59,12 @@ use Rattle.stmt_laws.specs.Written.{start_written, step_written, selects_written
 use Rattle.stmt_laws.specs.Sound.{SoundDeclared, AroundStatements}
 use Rattle.stmt_laws.proofs.Declared.{declared-lasts, behind-sound}
 use Rattle.stmt_laws.proofs.Parts as Z
-use Rattle.stmt_laws.proofs.Parts.{Looked, looked-lasts, SoundVariable, looked-keeps, tried-keeps, AllMean, OfStart, start-lasts}
+use Rattle.stmt_laws.proofs.Parts.{Looked, looked-lasts, looked-keeps, tried-keeps, AllMean, OfStart, start-lasts}
 use Rattle.routine_laws.specs.Names.{Signals, signals_of, finds_no_signal, lvalue_local}
 use Rattle.routine_laws.specs.Sound.{WritesLocals}
 use Rattle.routine_laws.proofs.Giving as G
 use Rattle.routine_laws.proofs.Giving.{Gives, one-whole}
-use Rattle.routine_laws.proofs.Places.{none_held, held-append, LocalExpr, LocalValued, LocalTarget, path-target, target-local, named-local, local-itself, roots_in}
+use Rattle.routine_laws.proofs.Places.{none_held, held-append, LocalExpr, LocalValued, LocalTarget, path-target, target-local, named-local, local-itself}
 use Rattle.routine_laws.proofs.Actuals.{LocalActual, AllLocalActuals}
 use Rattle.routine_laws.proofs.Held as H
 use Rattle.routine_laws.proofs.Held.{writes-last, PerhapsWrites, BodyWrites, AllPassedLocal}

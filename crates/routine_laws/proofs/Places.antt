@@ -1,18 +1,14 @@
 -- Targets and actuals whose names find no signal stand on locals.
-use Rattle.std.proofs.Common.{◌≡◌, ℕ, ◌+◌, ◌%◌, ◌^◌, Bool, true, false, ◌&&◌, ◌==◌, cond, not, ℤ, List, [], ◌∷◌, ◌++◌, map, flat_map, Option, Some, None, is_none, refl, arith, ap, sym, ◌∙◌, subst}
-use Rattle.std.specs.Prelude.{pos, ◌-ℤ◌, nat_lt, unsigned_abs, Ok, Err}
-use Rattle.std.specs.Option.{option_map}
+use Rattle.std.proofs.Common.{◌≡◌, ℕ, ◌+◌, ◌%◌, ◌^◌, Bool, true, false, ◌&&◌, ◌==◌, cond, not, ℤ, List, [], ◌∷◌, ◌++◌, map, flat_map, Option, Some, None, refl, arith, ap, sym, ◌∙◌, subst}
+use Rattle.std.specs.Prelude.{is_none, pos, ◌-ℤ◌, nat_lt, unsigned_abs, Ok}
 use Rattle.std.specs.List.{list_any}
 use Rattle.std.proofs.lemmas.Bool.Decides.{nat_tests}
 use Rattle.sv_tree.specs.Extents.{qualified_first}
-use Rattle.sv_tree.specs.declared.expressions.Expr as S
 use Rattle.sv_tree.specs.declared.names.QualifiedName.{QualifiedName}
 use Rattle.sv_tree.specs.declared.statements.Lvalue.{Lvalue, Lvalue-F, roll-Lvalue, map-Lvalue, ind-Lvalue, fold-roll-Lvalue}
 use Rattle.sv_types.specs.declared.expression.Expr.{Expr}
 use Rattle.sv_types.specs.declared.expression.Form.{Form}
 use Rattle.sv_types.specs.declared.expression.Form.TheVariants as F
-use Rattle.sv_types.specs.declared.frame.SignalId.{SignalId}
-use Rattle.sv_types.specs.declared.statement.Function.{Function}
 use Rattle.sv_types.specs.declared.types.SvType.{SvType}
 use Rattle.sv_types.specs.Layouts.{Layout, layout, width_of}
 use Rattle.sv_types.specs.Meanings.{Meaning, roots_of}
@@ -31,18 +27,16 @@ use Rattle.expr_type.specs.declared.step.Step.TheVariants as T
 use Rattle.expr_type.specs.Breaks.{At, Quiet}
 use Rattle.expr_type.specs.Typings.{Checked, Typing, whole, broken, rule, checked, both, all, refused, where_whole}
 use Rattle.expr_type.specs.Shapes.{vector, is_enum, is_unpacked, element_of, members_of, is_indexed}
-use Rattle.expr_type.specs.Names.{Context, Source, Thing, Signal, Local, Constant, TypeName, Interface, Other, Nothing, or_thing, local_in, value_in, type_in, signal_in, thing_of, found, thing, position, word}
+use Rattle.expr_type.specs.Names.{Context, Source, Thing, Signal, Local, Constant, TypeName, Interface, Other, Nothing, or_thing, local_in, value_in, type_in, signal_in, found, thing, position, word}
 use Rattle.expr_type.specs.Operators.{by_itself, concat_of, exprs, all_bits, not_too_long}
 use Rattle.expr_type.specs.Selects as C
 use Rattle.expr_type.specs.Selects.{stepped, path, named, member_or, part_type, goes_wrong}
 use Rattle.expr_type.specs.Forms.{SelectMeaning, steps, stream_of, reverses}
-use Rattle.expr_type.specs.Expressions as E
 use Rattle.expr_type.specs.Expressions.{select_meaning}
-use Rattle.expr_type.specs.TargetNames.{named_target, thing_target, is_net_found, actual_target, is_net_thing, is_packed_target, packed_target}
+use Rattle.expr_type.specs.TargetNames.{named_target, thing_target, is_net_found, actual_target, is_net_thing}
 use Rattle.expr_type.specs.Targets.{Target, ToPath, ToParts, ToStream, TargetPart, TargetMeaning, whole_of, is_target_part, joined_target, stream_target, slice_or_one, simple_name, target_step, target, parts_of}
 use Rattle.typing_fits.proofs.Contexts.{refused-then, whole-part}
 use Rattle.typing_fits.proofs.Full.{and-left, and-right}
-use Rattle.typing_fits.proofs.Operators.{ok-is}
 use Rattle.typing_fits.proofs.Selects.{long-then}
 use Rattle.typing_walks.specs.Written as W
 use Rattle.routine_laws.specs.Names.{Signals, signals_of, is_no_signal, finds_no_signal, lvalue_step, lvalue_local}

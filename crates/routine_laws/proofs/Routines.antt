@@ -2,19 +2,16 @@
 use Rattle.std.proofs.Common.{◌≡◌, ℕ, zero, suc, ◌+◌, Bool, true, false, ◌&&◌, cond, List, [], ◌∷◌, ◌++◌, length, map, Option, Some, None, refl, arith, ap, sym, ◌∙◌, subst}
 use Rattle.std.specs.Prelude.{slice_get, Ok}
 use Rattle.sv_tree.specs.declared.functions.Formal as G
-use Rattle.sv_tree.specs.declared.functions.Function as A
-use Rattle.sv_tree.specs.declared.functions.Task.{Task}
 use Rattle.sv_tree.specs.declared.statements.BlockItem.{BlockItem}
 use Rattle.sv_types.specs.declared.statement.Function.{Function}
 use Rattle.sv_types.specs.declared.statement.FunctionKind.TheVariants as K
 use Rattle.sv_types.specs.declared.statement.Stmt.{Stmt}
 use Rattle.expr_type.specs.Breaks.{Quiet}
-use Rattle.expr_type.specs.Typings.{Checked, Typing, whole, broken, checked, both_by}
+use Rattle.expr_type.specs.Typings.{Checked, Typing, whole, broken, checked}
 use Rattle.expr_type.specs.Shapes.{one_bit}
 use Rattle.expr_type.specs.Names.{Called, Context, Home, RoutineText, OfFunction, OfTask, word}
 use Rattle.expr_type.specs.Statements.{block, item_meaning}
 use Rattle.expr_type.specs.Functions.{formals_of, ResultFound, function_result, Head, head, behind_head, behind_formals, function_path, function_of, typed_routine, outside, by_text, is_it, known_from, name_of, appended, known_or, routine_text, routine}
-use Rattle.typing_fits.specs.Sound.{Extends}
 use Rattle.typing_fits.specs.Operands.{KnownCall, SoundContext}
 use Rattle.typing_fits.proofs.Full.{and-left, and-right}
 use Rattle.typing_fits.proofs.Given.{extends-more}
@@ -23,16 +20,15 @@ use Rattle.typing_walks.specs.WrittenTypes.{dims_written}
 use Rattle.typing_walks.proofs.Keeping as Y
 use Rattle.typing_walks.proofs.Knowing as N
 use Rattle.typing_walks.proofs.Knowing.{IfKnown}
-use Rattle.routine_fits.specs.Sound.{SoundStmt, SoundFunction, EachSound, AllSoundFunctions, WritesNoSignal}
-use Rattle.routine_fits.proofs.Functions.{function-sound, function-later, one-more}
-use Rattle.stmt_laws.specs.Written.{items_written}
+use Rattle.routine_fits.specs.Sound.{SoundFunction, EachSound, AllSoundFunctions}
+use Rattle.routine_fits.proofs.Functions.{function-sound, one-more}
 use Rattle.stmt_laws.specs.Loops.{Scope, scope, items_steps}
 use Rattle.stmt_laws.specs.Sound.{AroundStatements}
 use Rattle.stmt_laws.proofs.Parts.{stmt-lasts}
 use Rattle.stmt_laws.proofs.Walk as S
 use Rattle.routine_laws.specs.Names.{Signals, signals_of, items_local}
-use Rattle.routine_laws.specs.Texts.{formals_written, result_written, head_written, items_of, SoundItems, SoundText, AllSoundTexts}
-use Rattle.routine_laws.specs.Sound.{WritesLocals, SoundBody, AllSoundFormals, SoundResult, SoundHead}
+use Rattle.routine_laws.specs.Texts.{formals_written, result_written, SoundItems, SoundText, AllSoundTexts}
+use Rattle.routine_laws.specs.Sound.{SoundBody, SoundResult, SoundHead}
 use Rattle.routine_laws.proofs.Giving.{one-whole}
 use Rattle.routine_laws.proofs.Held.{writes-last}
 use Rattle.routine_laws.proofs.Heads as H

@@ -6,7 +6,7 @@ use Rattle.sv_types.specs.Surroundings.{Parameter}
 use Rattle.sv_types.specs.Statements.{doing}
 use Rattle.eval_stmts.specs.Environments.{AllHeld}
 use Rattle.expr_type.specs.Types.{TypeFound}
-use Rattle.expr_type.specs.Functions.{Before, FormalFound, ResultFound, Head}
+use Rattle.expr_type.specs.Functions.{FormalFound, ResultFound, Head}
 use Rattle.typing_fits.specs.Sound.{Knows, IsNarrowType}
 use Rattle.typing_fits.specs.Operands.{AllValuesSound}
 use Rattle.routine_fits.specs.Sound.{SoundStmt}

@@ -1,8 +1,7 @@
 -- Texts of functions and tasks: they are written, the steps of their loops assign to their variables (E404), and what their bodies assign to
 -- is no signal (E610).
-use Rattle.std.specs.Prelude.{◌≡◌, ℕ, Bool, true, ◌&&◌, List, Option, Some, None, map}
+use Rattle.std.specs.Prelude.{◌≡◌, ℕ, Bool, true, ◌&&◌, List, Some, map}
 use Rattle.sv_tree.specs.declared.functions.Formal as G
-use Rattle.sv_tree.specs.declared.functions.FormalList.{FormalList}
 use Rattle.sv_tree.specs.declared.functions.FunctionResult.{FunctionResult}
 use Rattle.sv_tree.specs.declared.functions.FunctionResult.TheVariants as R
 use Rattle.sv_tree.specs.declared.ports.PortText.{PortText}

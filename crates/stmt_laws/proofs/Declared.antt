@@ -1,5 +1,5 @@
 -- What the declarations of a block declare is sound, and so is the text behind them.
-use Rattle.std.proofs.Common.{◌≡◌, ℕ, ◌-◌, max, Bool, true, false, cond, not, List, [], ◌∷◌, ◌++◌, length, map, Option, Some, None, refl, ap, sym, ◌∙◌, subst}
+use Rattle.std.proofs.Common.{◌≡◌, ℕ, ◌-◌, max, Bool, true, false, cond, not, List, [], ◌∷◌, ◌++◌, length, map, Option, Some, None, refl, subst}
 use Rattle.std.specs.Prelude.{Ok}
 use Rattle.std.specs.Option.{option_map}
 use Rattle.sv_tree.specs.declared.declarations.Declarator.{Declarator}
@@ -19,7 +19,7 @@ use Rattle.sv_types.specs.Layouts.{width_of}
 use Rattle.sv_types.specs.Values.{bits}
 use Rattle.expr_type.specs.declared.operand.Valued.{Valued}
 use Rattle.expr_type.specs.Breaks.{At, Quiet}
-use Rattle.expr_type.specs.Typings.{Checked, Typing, whole, broken, rule, by_functions, checked, refused, where_whole, lesser}
+use Rattle.expr_type.specs.Typings.{Checked, Typing, whole, broken, rule, by_functions, checked, where_whole, lesser}
 use Rattle.expr_type.specs.Shapes.{is_assignable, is_plain_to_enum}
 use Rattle.expr_type.specs.Names.{Context, LocalId, Source, position, with_values, with_types}
 use Rattle.expr_type.specs.Operands as X
@@ -33,28 +33,26 @@ use Rattle.expr_type.specs.Targets.{simple_name}
 use Rattle.expr_type.specs.Types.{TypeFound, dims, typed_text, declared_type}
 use Rattle.expr_type.specs.Statements.{Declared, nothing, behind, behind_if, and_then, in_turn, initial_value, local_of, local_type, with_type, variable, type_names, names_if, variables_of, selected_type, param_value, constant_value, constant, is_unwritten, written_type, with_dimensions, Kind, IsType, IsValue, Parameter, type_parameter, by_dimensions, value_parameter, parameter, kind_if, declared_if, parameters}
 use Rattle.typing_fits.specs.Types.{is_full}
-use Rattle.typing_fits.specs.Sound.{Extends, IsNarrowType, Sound, SoundFor}
-use Rattle.typing_fits.specs.Operands.{SoundOperand, SoundConstant, AllValuesSound, AllTypesFull, AllLocalsNarrow}
+use Rattle.typing_fits.specs.Sound.{Extends, IsNarrowType, SoundFor}
+use Rattle.typing_fits.specs.Operands.{SoundOperand, AllTypesFull, AllLocalsNarrow}
 use Rattle.typing_fits.proofs.Contexts.{refused-then, whole-part, lesser-both}
 use Rattle.typing_fits.proofs.Full.{and-left, and-right}
 use Rattle.typing_fits.proofs.Given.{for-later, given-sound, constant-value-sound, constant-is}
 use Rattle.typing_fits.proofs.Names.{values-behind, types-behind, locals-behind}
 use Rattle.typing_fits.proofs.Selects.{long-no, long-then}
 use Rattle.typing_walks.specs.Keeps.{Kept, Keeps, Lasts, Anything, FullType, Surrounded}
-use Rattle.typing_walks.specs.Written as W
 use Rattle.typing_walks.specs.Written.{is_written}
 use Rattle.typing_walks.specs.WrittenTypes.{dims_written, initial_written, type_written}
 use Rattle.typing_walks.proofs.Keeping as K
 use Rattle.typing_walks.proofs.Knowing as N
 use Rattle.typing_walks.proofs.Knowing.{IfKnown}
-use Rattle.typing_walks.proofs.Lasting.{full-lasts}
 use Rattle.typing_walks.proofs.Types as Y
 use Rattle.typing_walks.proofs.Types.{SoundFound, full-unpacked, full-implicit, more-values}
 use Rattle.typing_walks.proofs.TypeForms.{type-sound}
 use Rattle.typing_walks.proofs.Uses as Z
 use Rattle.typing_walks.proofs.Walk.{expr-sound}
 use Rattle.stmt_walks.proofs.Targets.{all-selects}
-use Rattle.routine_fits.specs.Sound.{SoundStart, SoundLocal, AllSoundLocals}
+use Rattle.routine_fits.specs.Sound.{SoundStart, AllSoundLocals}
 use Rattle.stmt_laws.specs.Written.{declarator_written, declarators_written, body_written, bodies_written, selects_written}
 use Rattle.stmt_laws.specs.Sound.{SoundType, SoundDeclared, PerhapsFull, KindFull, SoundParameter}
 use Rattle.stmt_laws.proofs.Values.{NoStream, no-stream, value-has}

@@ -1,12 +1,10 @@
 -- Parts of statements: what is looked at, conditions, targets, actuals and the heads of loops.
-use Rattle.std.proofs.Common.{◌≡◌, ℕ, ◌<◌, ◌≤◌, Bool, true, false, ◌==◌, cond, List, [], ◌∷◌, length, map, Option, Some, None, refl, arith, ap, sym, ◌∙◌, subst}
+use Rattle.std.proofs.Common.{◌≡◌, ℕ, Bool, true, false, ◌==◌, cond, List, [], ◌∷◌, map, Option, Some, None, refl, arith, ap, sym, ◌∙◌, subst}
 use Rattle.std.specs.Prelude.{pos, Ok, Err}
 use Rattle.std.proofs.lemmas.Bool.Decides.{nat_tests}
 use Rattle.b4_core.specs.Vectors.{vec}
-use Rattle.sv_tree.specs.Extents.{qualified_first}
 use Rattle.sv_tree.specs.declared.expressions.Expr as S
 use Rattle.sv_tree.specs.declared.expressions.Select.{Select}
-use Rattle.sv_tree.specs.declared.names.QualifiedName.{QualifiedName}
 use Rattle.sv_tree.specs.declared.operators.AssignmentOperator.{AssignmentOperator}
 use Rattle.sv_tree.specs.declared.operators.StepOperator.{StepOperator}
 use Rattle.sv_tree.specs.declared.statements.Lvalue.{Lvalue}
@@ -16,7 +14,6 @@ use Rattle.sv_tree.specs.declared.statements.LoopStep.TheVariants as L
 use Rattle.sv_types.specs.declared.expression.Expr.{Expr}
 use Rattle.sv_types.specs.declared.expression.Form.TheVariants as F
 use Rattle.sv_types.specs.declared.statement.Function.{Function}
-use Rattle.sv_types.specs.declared.statement.Stmt as R
 use Rattle.sv_types.specs.declared.statement.Way.{Way}
 use Rattle.sv_types.specs.declared.statement.Way.TheVariants as W
 use Rattle.sv_types.specs.declared.types.SvType.{SvType}
@@ -24,15 +21,12 @@ use Rattle.sv_types.specs.Layouts.{width_of}
 use Rattle.sv_types.proofs.OperatorLengths.{length-vec}
 use Rattle.expr_type.specs.declared.operand.Valued.{Valued}
 use Rattle.expr_type.specs.Breaks.{Breaks, At, Quiet}
-use Rattle.expr_type.specs.Typings.{Checked, Typing, whole, broken, rule, checked, both, both_by, all, looked_at, tried, known_behind}
-use Rattle.expr_type.specs.Shapes.{vector}
-use Rattle.expr_type.specs.Names.{Called, Context, LocalId, Thing, Local, position, thing, found, or_thing, local_in, value_in, type_in, signal_in, is_whole, Interface, Other, local_id}
-use Rattle.expr_type.specs.Operands as X
+use Rattle.expr_type.specs.Typings.{Checked, Typing, whole, broken, rule, checked, both, looked_at, tried, known_behind}
+use Rattle.expr_type.specs.Names.{Context, Thing, Local, position, thing, found, or_thing, local_in, value_in, type_in, signal_in, Interface, Other, local_id}
 use Rattle.expr_type.specs.Operands.{Operand, first_of, unstreamed}
 use Rattle.expr_type.specs.Operators.{by_itself, not_too_long}
-use Rattle.expr_type.specs.Expressions.{Meaning, meaning, operand, select_meaning}
+use Rattle.expr_type.specs.Expressions.{Meaning, operand, select_meaning}
 use Rattle.expr_type.specs.Selects.{path}
-use Rattle.expr_type.specs.Forms.{SelectMeaning, steps}
 use Rattle.expr_type.specs.TargetNames.{named_target, thing_target, is_net_found}
 use Rattle.expr_type.specs.Targets.{Target, ToPath, ToParts, ToStream, simple_name, target}
 use Rattle.expr_type.specs.Types.{TypeFound, typed_text}
@@ -49,19 +43,19 @@ use Rattle.typing_walks.specs.WrittenTypes.{type_written}
 use Rattle.typing_walks.proofs.Keeping as K
 use Rattle.typing_walks.proofs.Knowing as N
 use Rattle.typing_walks.proofs.Knowing.{IfKnown}
-use Rattle.typing_walks.proofs.Lasting.{fixed-lasts, operand-lasts}
+use Rattle.typing_walks.proofs.Lasting.{fixed-lasts}
 use Rattle.typing_walks.proofs.Operands as O
 use Rattle.typing_walks.proofs.Paths as P
 use Rattle.typing_walks.proofs.Walk.{expr-sound}
 use Rattle.stmt_walks.proofs.Targets.{target-sound, all-selects}
 use Rattle.stmt_walks.specs.Written.{lvalue_written}
 use Rattle.routine_fits.specs.Sound.{SoundStmt}
-use Rattle.routine_fits.specs.Targets.{SoundTarget, ValueSound, TargetSound, SoundActual, AllSoundActuals}
+use Rattle.routine_fits.specs.Targets.{SoundTarget, ValueSound, TargetSound, SoundActual}
 use Rattle.routine_fits.proofs.Functions.{statement-later}
 use Rattle.routine_fits.proofs.Targets.{assignment-sound}
 use Rattle.routine_fits.proofs.Loops.{FirstSound, first-sound, step-sound}
-use Rattle.stmt_laws.specs.Written.{selects_written, start_written, step_written}
-use Rattle.stmt_laws.specs.Loops.{Scope, scope, is_declaration, stepped_name, steps_its_variable}
+use Rattle.stmt_laws.specs.Written.{selects_written, step_written}
+use Rattle.stmt_laws.specs.Loops.{scope, is_declaration, stepped_name, steps_its_variable}
 use Rattle.stmt_laws.specs.Sound.{SoundType}
 use Rattle.stmt_laws.proofs.Declared.{text-keeps}
 

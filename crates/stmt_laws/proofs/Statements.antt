@@ -1,25 +1,24 @@
 -- Statements of a sound text, form by form.
-use Rattle.std.proofs.Common.{◌≡◌, ℕ, Bool, true, false, List, [], ◌∷◌, length, map, Option, Some, None, refl, ap, sym, ◌∙◌, subst}
-use Rattle.std.specs.Prelude.{Ok, Err}
+use Rattle.std.proofs.Common.{◌≡◌, ℕ, true, false, List, [], ◌∷◌, length, map, Option, Some, None, refl, sym, subst}
+use Rattle.std.specs.Prelude.{Ok}
 use Rattle.std.specs.Option.{option_map}
 use Rattle.sv_tree.specs.declared.expressions.Expr as S
 use Rattle.sv_tree.specs.declared.names.QualifiedName.{QualifiedName}
 use Rattle.sv_tree.specs.declared.statements.CaseKeyword.{CaseKeyword}
 use Rattle.sv_tree.specs.declared.statements.LoopStart.{LoopStart}
 use Rattle.sv_tree.specs.declared.statements.LoopStep.{LoopStep}
-use Rattle.sv_types.specs.declared.expression.Expr.{Expr}
 use Rattle.sv_types.specs.declared.statement.Function.{Function}
 use Rattle.sv_types.specs.declared.statement.Stmt as R
 use Rattle.sv_types.specs.declared.statement.Stmt.TheVariants as V
 use Rattle.sv_types.specs.declared.types.SvType.{SvType}
 use Rattle.expr_type.specs.declared.operand.Valued.{Valued}
 use Rattle.expr_type.specs.Typings.{Checked, Typing, whole, rule, checked, both, both_by, all, looked_at, tried}
-use Rattle.expr_type.specs.Names.{Called, Context, spot}
+use Rattle.expr_type.specs.Names.{Context, spot}
 use Rattle.expr_type.specs.Operands.{Operand}
 use Rattle.expr_type.specs.Forms.{needed_with}
 use Rattle.expr_type.specs.Expressions.{Meaning, operand}
 use Rattle.expr_type.specs.Statements.{BlockPart, IsStatement, IsDeclared, PartMeaning, behind_part, block_parts, built, block, empty, returned, return_value, condition, Branches, branches, else_if, case_kind, CaseFound, CaseMeaning, case_stmt, LoopVariable, loop_variable, in_loop, loop_step, Control, control, Turns, turns, loop_stmt, Actual, ways, actuals, call_stmt_of, call_stmt, StmtMeaning, Declared}
-use Rattle.typing_fits.specs.Sound.{Extends, Sound, AllSound, SoundAlone, SoundFor}
+use Rattle.typing_fits.specs.Sound.{Sound, AllSound, SoundAlone, SoundFor}
 use Rattle.typing_fits.specs.Operands.{SoundOperand, KnownCall}
 use Rattle.typing_fits.proofs.Full.{and-left, and-right}
 use Rattle.typing_fits.proofs.Given.{alone-later, for-later}

@@ -1,5 +1,5 @@
 -- Constants have as many bits as their types.
-use Rattle.std.proofs.Common.{◌≡◌, ℕ, ◌≤◌, max, Bool, true, false, ◌||◌, List, [], ◌∷◌, length, map, take, refl, arith, ap, sym, ◌∙◌, subst, rules, length-take}
+use Rattle.std.proofs.Common.{◌≡◌, ℕ, max, Bool, true, false, ◌||◌, List, [], ◌∷◌, length, map, refl, arith, ap, sym, ◌∙◌, subst, rules, length-take}
 use Rattle.std.specs.Prelude.{slice_index_or, Ok}
 use Rattle.std.specs.List.{list_any}
 use Rattle.sv_types.specs.declared.expression.Expr.{Expr, Expr-F, roll-Expr, map-Expr, ind-Expr, fold-roll-Expr, the_lemmas}
@@ -8,8 +8,8 @@ use Rattle.sv_types.specs.declared.expression.Form.TheVariants as V
 use Rattle.sv_types.specs.declared.expression.Choice.{Choice, Choice-F, roll-Choice, map-Choice, fold-roll-Choice}
 use Rattle.sv_types.specs.declared.statement.Function.{Function}
 use Rattle.sv_types.specs.declared.types.SvType.{SvType}
-use Rattle.sv_types.specs.Layouts.{layout, width_of, stored}
-use Rattle.sv_types.specs.Meanings.{Meaning, wide, signed}
+use Rattle.sv_types.specs.Layouts.{layout, width_of}
+use Rattle.sv_types.specs.Meanings.{wide, signed}
 use Rattle.sv_types.specs.Surroundings.{Around}
 use Rattle.sv_types.specs.Values.{bits}
 use Rattle.sv_types.specs.Expressions.{meaning}
@@ -138,7 +138,7 @@ stream-held e reversed n es is =
 abbrev AnyChoice : Choice → Type 0
 AnyChoice c = Unit {0}
 
-abbrev NoStream : Expr → Type 0
+abbrev pub NoStream : Expr → Type 0
 NoStream e = (uses e U.nothing).streams ≡ false
 
 abbrev CutForm : Form → Type 0

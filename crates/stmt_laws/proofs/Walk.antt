@@ -1,6 +1,5 @@
 -- Each statement of a sound text is sound.
-use Rattle.std.proofs.Common.{◌≡◌, ℕ, Bool, true, false, ◌&&◌, List, [], ◌∷◌, map, Option, Some, None, refl, ap, sym, ◌∙◌, subst}
-use Rattle.std.specs.Option.{option_map}
+use Rattle.std.proofs.Common.{◌≡◌, Bool, true, ◌&&◌, List, [], ◌∷◌, map, Some, None, refl, sym, ◌∙◌, subst}
 use Rattle.sv_tree.specs.declared.expressions.Expr as S
 use Rattle.sv_tree.specs.declared.statements.BlockItem.{BlockItem, BlockItem-F, roll-BlockItem, map-BlockItem, ind-BlockItem, fold-roll-BlockItem}
 use Rattle.sv_tree.specs.declared.statements.CaseItem.{CaseItem, CaseItem-F, fold-CaseItem, roll-CaseItem, map-CaseItem, fold-roll-CaseItem}
@@ -13,9 +12,9 @@ use Rattle.expr_type.specs.Types.{typed_text}
 use Rattle.expr_type.specs.Statements as T
 use Rattle.expr_type.specs.Statements.{variables_of, selected_type, parameters, IsValue, PartMeaning, CaseMeaning, StmtMeaning, block, item_meaning, stmt_meaning}
 use Rattle.typing_fits.proofs.Full.{and-left, and-right}
-use Rattle.typing_walks.specs.Keeps.{Keeps, SoundMeaning}
+use Rattle.typing_walks.specs.Keeps.{Keeps}
 use Rattle.typing_walks.specs.Written as Z
-use Rattle.typing_walks.specs.Written.{is_written, if_there}
+use Rattle.typing_walks.specs.Written.{is_written}
 use Rattle.typing_walks.specs.WrittenTypes.{type_written}
 use Rattle.typing_walks.proofs.Walk.{expr-sound}
 use Rattle.stmt_walks.specs.Written.{lvalue_written}
@@ -28,7 +27,7 @@ use Rattle.stmt_laws.specs.Sound.{AroundStatements}
 use Rattle.stmt_laws.proofs.Declared.{text-keeps, selected-keeps, variables-keep, parameters-keep}
 use Rattle.stmt_laws.proofs.Parts.{AllMean, assign-keeps, counted-keeps}
 use Rattle.stmt_laws.proofs.Statements as X
-use Rattle.stmt_laws.proofs.Statements.{Stands, OfPart, OfStmt, OfCase, AllParts, AllCases, ElseIf}
+use Rattle.stmt_laws.proofs.Statements.{Stands, OfPart, OfStmt, OfCase, AllParts, AllCases}
 
 abbrev pub case_meaning : CaseItem → CaseMeaning
 case_meaning = fold-CaseItem PartMeaning CaseMeaning StmtMeaning StmtMeaning T.item_step T.case_step T.stmt_step T.else_step

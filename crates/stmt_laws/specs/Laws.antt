@@ -1,5 +1,5 @@
 -- The laws: what types, declarations and statements of a sound text keep.
-use Rattle.std.specs.Prelude.{◌≡◌, ℕ, true, List, Option, Some, map}
+use Rattle.std.specs.Prelude.{◌≡◌, ℕ, true, List, Some, map}
 use Rattle.sv_tree.specs.declared.declarations.Declarator.{Declarator}
 use Rattle.sv_tree.specs.declared.declarations.ParameterBody.{ParameterBody}
 use Rattle.sv_tree.specs.declared.expressions.Dimension.{Dimension}

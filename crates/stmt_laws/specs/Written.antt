@@ -1,6 +1,6 @@
 -- Declarations and statements in which each concatenation, replication and stream has a part, and each struct and union a member with a
 -- name, as those that are read from a text.
-use Rattle.std.specs.Prelude.{Bool, true, ◌&&◌, List, Option, map}
+use Rattle.std.specs.Prelude.{Bool, true, ◌&&◌, List, map}
 use Rattle.std.specs.Option.{option_map}
 use Rattle.sv_tree.specs.declared.declarations.Declarator.{Declarator}
 use Rattle.sv_tree.specs.declared.declarations.ParameterBody.{ParameterBody}
