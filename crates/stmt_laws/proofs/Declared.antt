@@ -157,7 +157,7 @@ as-value : (a v : ParamValue) (gs : List Function) → value_ok a ≡ Ok v → L
 as-value a v gs h s = let is : a ≡ v = cc in subst (λ x. LongValue x gs) is s
 
 value-long : (k : Context) (at : ℕ) (t : SvType) (e : Expr) (v : ParamValue) (gs : List Function) → param_value k at t gs e ≡ Ok v → is_full t ≡ true → NoStream e → LongValue v gs
-value-long k at t e v gs h full no = as-value (record { decl = k.declared at; of = t; value = value_by gs t e }) v gs h (record { full = full; long = value-has gs t e no })
+value-long k at t e v gs h full free = as-value (record { decl = k.declared at; of = t; value = value_by gs t e }) v gs h (record { full = full; long = value-has gs t e free })
 
 constant-long : (k : Context) (at : ℕ) (t : Option SvType) (o : Operand) (v : ParamValue) (gs : List Function) → constant_value k at t o gs ≡ Ok v → PerhapsFull t → SoundOperand o gs → LongValue v gs
 constant-long k at None o v gs h full s =

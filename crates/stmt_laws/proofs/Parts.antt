@@ -127,6 +127,9 @@ pub record ForSome (C : SvType → Type 0) (e : Expr) (gs : List Function) : Typ
   pub is : C of
   pub sound : SoundFor e of gs
 
+abbrev pub GivenTo : SvType → Expr → List Function → Type 0
+GivenTo t e gs = SoundFor e t gs
+
 pub record PathOf (C : SvType → Type 0) (t : Target) (gs : List Function) : Type 0 where
   pub path : Valued
   pub is : t ≡ ToPath path
@@ -307,9 +310,6 @@ module _ (Q : List Function → Type 0) where
       record { extends = h.extends; kept = h.kept; sound = λ a e. tt }
 
   -- and in the loop of its own variable
-  abbrev pub GivenTo : SvType → Expr → List Function → Type 0
-  GivenTo t e gs = SoundFor e t gs
-
   given-to : (t : SvType) (x : Typing Expr) → Keeps Q (ForSome (λ u. u ≡ t)) x → Keeps Q (GivenTo t) x
   given-to t x h gs q =
       let c = h gs q in

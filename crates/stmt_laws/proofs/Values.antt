@@ -151,47 +151,47 @@ cut-steps : Steps AnyChoice CutForm CutExpr
 cut-steps = record {
   value = λ e h. tt;
   range = λ low high h g. tt;
-  expr = λ e h no. h e refl no;
-  literal = λ v goes_on e is no. G.cut-Literal e v goes_on is;
-  fill = λ b e is no. G.cut-Fill e b is;
-  constant = λ v e is no. G.cut-Constant e v is;
-  signal = λ n e is no. G.cut-Signal e n is;
-  local = λ n e is no. G.cut-Local e n is;
-  member = λ x k h0 e is no. G.cut-Member e x k is;
-  index = λ x y h0 h1 e is no. G.cut-Index e x y is;
-  part_select = λ x left right h0 e is no. G.cut-Part e x left right is;
-  sliding = λ x y n up h0 h1 e is no. G.cut-Slide e x y n up is;
-  unary = λ op x h1 e is no. G.cut-Unary e op x is;
-  reduce = λ op x h1 e is no. G.cut-Reduce e op x is;
-  negate = λ x h0 e is no. G.cut-Negate e x is;
-  binary = λ op x y h1 h2 e is no. G.cut-Binary e op x y is;
-  shift = λ op x y h1 h2 e is no. G.cut-Shift e op x y is;
-  power = λ x y h0 h1 e is no. G.cut-Power e x y is;
-  order = λ op x y h1 h2 e is no. G.cut-Order e op x y is;
-  equal = λ op negated x y h2 h3 e is no. G.cut-Equal e op negated x y is;
-  both = λ x y h0 h1 e is no. G.cut-Both e x y is;
-  either = λ x y h0 h1 e is no. G.cut-Either e x y is;
-  choose = λ z x y h0 h1 h2 e is no. G.cut-Choose e z x y is;
-  concat = λ es h0 e is no. G.cut-Concat e es is;
-  repeat = λ n es h1 e is no. G.cut-Repeat e n es is;
-  inside = λ x cs h0 h1 e is no. G.cut-Inside e x cs is;
-  cast = λ x h0 e is no. G.cut-Cast e x is;
-  clog2 = λ x h0 e is no. G.cut-Clog2 e x is;
-  pattern = λ es h0 e is no. G.cut-Pattern e es is;
-  call = λ f es h1 e is no. G.cut-Call e f es is;
-  stream = λ reversed n es h2 e is no. absurd (let h = stream-held e reversed n es is in cc);
+  expr = λ e h free. h e refl free;
+  literal = λ v goes_on e is free. G.cut-Literal e v goes_on is;
+  fill = λ b e is free. G.cut-Fill e b is;
+  constant = λ v e is free. G.cut-Constant e v is;
+  signal = λ n e is free. G.cut-Signal e n is;
+  local = λ n e is free. G.cut-Local e n is;
+  member = λ x k h0 e is free. G.cut-Member e x k is;
+  index = λ x y h0 h1 e is free. G.cut-Index e x y is;
+  part_select = λ x left right h0 e is free. G.cut-Part e x left right is;
+  sliding = λ x y n up h0 h1 e is free. G.cut-Slide e x y n up is;
+  unary = λ op x h1 e is free. G.cut-Unary e op x is;
+  reduce = λ op x h1 e is free. G.cut-Reduce e op x is;
+  negate = λ x h0 e is free. G.cut-Negate e x is;
+  binary = λ op x y h1 h2 e is free. G.cut-Binary e op x y is;
+  shift = λ op x y h1 h2 e is free. G.cut-Shift e op x y is;
+  power = λ x y h0 h1 e is free. G.cut-Power e x y is;
+  order = λ op x y h1 h2 e is free. G.cut-Order e op x y is;
+  equal = λ op negated x y h2 h3 e is free. G.cut-Equal e op negated x y is;
+  both = λ x y h0 h1 e is free. G.cut-Both e x y is;
+  either = λ x y h0 h1 e is free. G.cut-Either e x y is;
+  choose = λ z x y h0 h1 h2 e is free. G.cut-Choose e z x y is;
+  concat = λ es h0 e is free. G.cut-Concat e es is;
+  repeat = λ n es h1 e is free. G.cut-Repeat e n es is;
+  inside = λ x cs h0 h1 e is free. G.cut-Inside e x cs is;
+  cast = λ x h0 e is free. G.cut-Cast e x is;
+  clog2 = λ x h0 e is free. G.cut-Clog2 e x is;
+  pattern = λ es h0 e is free. G.cut-Pattern e es is;
+  call = λ f es h1 e is free. G.cut-Call e f es is;
+  stream = λ reversed n es h2 e is free. absurd (let h = stream-held e reversed n es is in cc);
 }
 
 cut-of : (e : Expr) → NoStream e → IsCut (meaning e)
 cut-of = by-expr AnyChoice CutForm CutExpr cut-steps
 
 assigned-long : (e : Expr) (marks : List Bool) (a : Around) → NoStream e → length (assigned_to marks (meaning e) a) ≡ length marks
-assigned-long e marks a no =
+assigned-long e marks a free =
     let n = length marks in
     let m = meaning e in
     let x = m.value (max n (wide m)) (signed m) a in
     let long : length x ≡ max n (wide m) = length-value e (max n (wide m)) (signed m) a in
-    let cut : length (m.given n a) ≡ n = ap length ((cut-of e no).given n a) ∙ omega (arith, length-take n x, long) in
+    let cut : length (m.given n a) ≡ n = ap length ((cut-of e free).given n a) ∙ omega (arith, length-take n x, long) in
     length-stored marks (m.given n a) cut
 
 -- constants
@@ -204,9 +204,9 @@ no-stream {A = A} k first fs e other a h =
     let inner = where_whole (lesser other (calls_no_stream k first fs e)) (λ p. refused (stops fs e) (position k first) 608 (Ok p.0)) in
     let p = whole-part (lesser other (calls_no_stream k first fs e)) (λ p. refused (stops fs e) (position k first) 608 (Ok p.0)) a (refused-then (names_any e) (position k first) 406 inner a h) in
     let b = lesser-both other (calls_no_stream k first fs e) p.part p.is in
-    let no = refused-no (holds_stream fs e) (position k first) 512 (Ok e) p.part.1 b.right in
-    no-left (uses e U.nothing).streams (list_any (λ n. slice_index_or (stream_marks fs) n false) (uses e U.nothing).calls) no
+    let free = refused-no (holds_stream fs e) (position k first) 512 (Ok e) p.part.1 b.right in
+    no-left (uses e U.nothing).streams (list_any (λ n. slice_index_or (stream_marks fs) n false) (uses e U.nothing).calls) free
 
 pub value-has : (fs : List Function) (t : SvType) (e : Expr) → NoStream e → length (bits (value_by fs t e)) ≡ width_of t
-value-has fs t e no =
-    value-long t (assigned_to (layout t).two_state (meaning e) (nothing_held fs)) (assigned-long e (layout t).two_state (nothing_held fs) no)
+value-has fs t e free =
+    value-long t (assigned_to (layout t).two_state (meaning e) (nothing_held fs)) (assigned-long e (layout t).two_state (nothing_held fs) free)
