@@ -23,7 +23,7 @@ use Rattle.typing_walks.proofs.Knowing.{IfKnown}
 use Rattle.routine_fits.specs.Sound.{SoundFunction, EachSound, AllSoundFunctions}
 use Rattle.routine_fits.proofs.Functions.{function-sound, one-more}
 use Rattle.stmt_laws.specs.Loops.{Scope, scope, items_steps}
-use Rattle.stmt_laws.specs.Sound.{AroundStatements}
+use Rattle.stmt_laws.specs.Sound.{NarrowResult, AroundStatements}
 use Rattle.stmt_laws.proofs.Parts.{stmt-lasts}
 use Rattle.stmt_laws.proofs.Walk as S
 use Rattle.routine_laws.specs.Names.{Signals, signals_of, items_local}
@@ -75,7 +75,7 @@ module _ (Q : List Function → Type 0) where
 
   body-behind : (k : Context) (name : ℕ) (items : List BlockItem) (o : Option Head) (gs : List Function) → Surrounded Q k → SoundItems k items → k.result ≡ None → Q gs → IfKnown SoundHead o gs
       → Kept Stmt Q SoundBody gs (block (behind_head k name o) (map item_meaning items) gs)
-  body-behind k name items None gs r s none q x = body-keeps k items (record { around = r; result = subst _ (sym none) tt }) s gs q
+  body-behind k name items None gs r s none q x = body-keeps k items (record { around = r; result = subst NarrowResult (sym none) tt }) s gs q
   body-behind k name items (Some h) gs r s none q x =
       body-keeps (behind_head k name (Some h)) items (H.behind-sound Q k name h gs r x) (items-there k (behind_head k name (Some h)) items (sees-head (scope k) (signals_of k) k name h (refl, refl)) s) gs q
 
@@ -104,28 +104,36 @@ module _ (Q : List Function → Type 0) where
       typed-keeps j (k.home n) t.name (whole (record { kind = K.Routine; of = one_bit; names = [] })) (formals_of t.formals) t.items (outside-sound k n r) refl s.head (outside-items k n t.items s.items) (H.no-result Q K.Routine)
 
 -- functions that are known
+abbrev AtPlaces : ℕ → List Function → List Function → Type 0
+AtPlaces n fs gs = (i : ℕ) (f : Function) → slice_get fs i ≡ Some f → slice_get gs (n + i) ≡ Some f
+
+one-further : (n : ℕ) (f : Function) (fs gs : List Function) → AtPlaces n (f ∷ fs) gs → AtPlaces (suc n) fs gs
+one-further n f fs gs there i x is = subst (λ m. slice_get gs m ≡ Some x) (omega arith) (there (suc i) x is)
+
+at-itself : (gs : List Function) → AtPlaces 0 gs gs
+at-itself gs i f is = subst (λ m. slice_get gs m ≡ Some f) (omega arith) is
+
 abbrev some_call : Called → Option Called
 some_call c = Some c
 
-each-known : (fs gs : List Function) (n : ℕ) (instance at : ℕ) (path : List ℕ) (c : Called) → known_from n instance at path fs ≡ Some c → EachSound fs gs → ((i : ℕ) (f : Function) → slice_get fs i ≡ Some f → slice_get gs (n + i) ≡ Some f) → KnownCall c gs
+this-one : (n : ℕ) (f : Function) (fs gs : List Function) (c : Called) → some_call (record { place = n; of = f }) ≡ Some c → AtPlaces n (f ∷ fs) gs → SoundFunction f gs → KnownCall c gs
+this-one n f fs gs c h there s =
+    let is : record { place = n; of = f } ≡ c = cc in
+    subst (λ (x : Called). KnownCall x gs) is (record { known = subst (λ m. slice_get gs m ≡ Some f) (omega arith) (there 0 f refl); result = s.result; formals = s.formals })
+
+-- a part of a choice
+chosen-call : (b : Bool) (o : Option Called) (d c : Called) (gs : List Function) → cond b (Some d) o ≡ Some c → (some_call d ≡ Some c → KnownCall c gs) → (o ≡ Some c → KnownCall c gs) → KnownCall c gs
+chosen-call true o d c gs h this rest = this h
+chosen-call false o d c gs h this rest = rest h
+
+each-known : (fs gs : List Function) (n instance at : ℕ) (path : List ℕ) (c : Called) → known_from n instance at path fs ≡ Some c → EachSound fs gs → AtPlaces n fs gs → KnownCall c gs
 each-known [] gs n instance at path c h s there = absurd (cc)
 each-known (f ∷ fs) gs n instance at path c h s there =
-    by-test (is_it instance at path f) h
-  where
-    next : (i : ℕ) (x : Function) → slice_get fs i ≡ Some x → slice_get gs (suc n + i) ≡ Some x
-    next i x is = subst (λ m. slice_get gs m ≡ Some x) (omega arith) (there (suc i) x is)
-
-    here : (d : Called) → some_call (record { place = n; of = f }) ≡ Some d → KnownCall d gs
-    here d is =
-        let same : record { place = n; of = f } ≡ d = cc in
-        subst (λ (x : Called). KnownCall x gs) same (record { known = subst (λ m. slice_get gs m ≡ Some f) (omega arith) (there 0 f refl); result = s.0.result; formals = s.0.formals })
-
-    by-test : (b : Bool) → cond b (Some (record { place = n; of = f })) (known_from (suc n) instance at path fs) ≡ Some c → KnownCall c gs
-    by-test true is = here c is
-    by-test false is = each-known fs gs (suc n) instance at path c is s.1 next
+    chosen-call (is_it instance at path f) (known_from (suc n) instance at path fs) (record { place = n; of = f }) c gs h (λ is. this-one n f fs gs c is there s.0)
+    (λ is. each-known fs gs (suc n) instance at path c is s.1 (one-further n f fs gs there))
 
 pub known-sound : (instance at : ℕ) (path : List ℕ) (gs : List Function) (c : Called) → known_from 0 instance at path gs ≡ Some c → AllSoundFunctions gs → KnownCall c gs
-known-sound instance at path gs c h s = each-known gs gs 0 instance at path c h s (λ i f is. is)
+known-sound instance at path gs c h s = each-known gs gs 0 instance at path c h s (at-itself gs)
 
 -- and one more
 last-there : (gs : List Function) (f : Function) → slice_get (gs ++ f ∷ []) (length gs) ≡ Some f
@@ -151,7 +159,7 @@ or-kept (Some c) x gs q known k = Y.whole-kept AllSoundFunctions KnownCall c gs 
 
 text-known : (o : Option RoutineText) (k : Context) (n : ℕ) → Surrounded AllSoundFunctions k → ((t : RoutineText) → o ≡ Some t → SoundText k t) → Keeps AllSoundFunctions KnownCall (routine_text o k n)
 text-known None k n r s = Y.broken-keeps AllSoundFunctions KnownCall Quiet
-text-known (Some t) k n r s gs q =
+text-known (Some t) k n r s = λ gs q.
     let h = k.home n in
     let path = function_path h (word k.source (name_of t)) in
     or-kept (known_from 0 h.instance (name_of t) path gs) (checked (by_text k n t) appended) gs q (λ c is. known-sound h.instance (name_of t) path gs c is q)

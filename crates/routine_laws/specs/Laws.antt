@@ -33,5 +33,5 @@ pub record RoutinesAreSound : Type 0 where
   pub text : (k : Context) (n : ℕ) (t : RoutineText) → Surrounded AllSoundFunctions k → SoundText k t → Keeps AllSoundFunctions SoundFunction (by_text k n t)
   pub one_more : (gs : List Function) (f : Function) → AllSoundFunctions gs → SoundFunction f gs → AllSoundFunctions (gs ++ f ∷ [])
   pub known : (instance at : ℕ) (path : List ℕ) (gs : List Function) (c : Called) → known_from 0 instance at path gs ≡ Some c → AllSoundFunctions gs → KnownCall c gs
-  pub routine : (depth : ℕ) (k : Context) (n : ℕ) → SoundContext k → AllSoundTexts k → Keeps AllSoundFunctions KnownCall (routine depth k n)
+  pub needed : (depth : ℕ) (k : Context) (n : ℕ) → SoundContext k → AllSoundTexts k → Keeps AllSoundFunctions KnownCall (routine depth k n)
   pub surrounded : (depth : ℕ) (k : Context) → SoundContext k → AllSoundTexts k → Surrounded AllSoundFunctions (record k { routine = routine depth k })
