@@ -26,7 +26,6 @@ use Rattle.expr_type.specs.Names.{Context, Thing, Local, position, thing, found,
 use Rattle.expr_type.specs.Operands.{Operand, first_of, unstreamed}
 use Rattle.expr_type.specs.Operators.{by_itself, not_too_long}
 use Rattle.expr_type.specs.Expressions.{Meaning, operand, select_meaning}
-use Rattle.expr_type.specs.Selects.{path}
 use Rattle.expr_type.specs.TargetNames.{named_target, thing_target, is_net_found}
 use Rattle.expr_type.specs.Targets.{Target, ToPath, ToParts, ToStream, simple_name, target}
 use Rattle.expr_type.specs.Types.{TypeFound, typed_text}
