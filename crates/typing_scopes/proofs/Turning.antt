@@ -4,7 +4,7 @@ use Rattle.std.specs.Prelude.{Result, Ok, Err}
 use Rattle.sv_types.specs.declared.statement.Function.{Function}
 use Rattle.expr_type.specs.declared.halt.Halt.{Halt}
 use Rattle.expr_type.specs.declared.halt.Halt.TheVariants as H
-use Rattle.expr_type.specs.Typings.{Typed, Typing, beside_by, both_by, checked, whole}
+use Rattle.expr_type.specs.Typings.{Typed, Typing, beside_by, both_by, whole}
 use Rattle.typing_steps.specs.Steps.{StopsBy, TypesTo}
 use Rattle.typing_steps.proofs.Combining.{checked-fine, checked-stops}
 use Rattle.typing_steps.proofs.Following.{by-fine, by-breaks, by-second, by-quiet, by-behind-quiet}
