@@ -10,7 +10,8 @@ pub fn bodies_are_sound()
     ensures { BodiesAreSound }
 {}
 
-/// The formals and the result of a function have narrow types, and the text behind its head is sound again (clauses 13.3 to 13.5).
+/// The formals of a function have narrow types, its head is sound where its result is, and the text behind a sound head is sound again
+/// (clauses 13.3 to 13.5).
 pub fn heads_are_sound()
     ensures { HeadsAreSound }
 {}
