@@ -1,0 +1,12 @@
+pub mod InTurn
+pub mod Zipping
+pub mod Widths
+pub mod Joins
+pub mod Wides
+pub mod Turns
+pub mod Splits
+pub mod Blocks
+pub mod Returns
+pub mod Calls
+pub mod Loops
+pub mod Zeros
