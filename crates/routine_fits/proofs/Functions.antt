@@ -16,7 +16,7 @@ formals : (fs : List Formal) → AllFormalsNarrow fs → AllNarrow fs
 formals [] n = tt
 formals (f ∷ fs) n = (omega (arith, n.0), formals fs n.1)
 
-pub function-sound : (f : Function) (gs : List Function) → AllFormalsNarrow f.formals → width_of f.of ≤ 65536 → SoundStmt f.body gs → WritesNoSignal f gs → SoundFunction f gs
+pub function-sound : (f : Function) (gs : List Function) → AllFormalsNarrow f.formals → width_of f.of ≤ 4194304 → SoundStmt f.body gs → WritesNoSignal f gs → SoundFunction f gs
 function-sound f gs narrow short s w = record {
   runs = λ fs k. record {
     types = record { formals = formals f.formals narrow; result = omega (arith, short) };

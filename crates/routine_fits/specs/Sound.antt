@@ -47,7 +47,7 @@ AllSoundLocals (l ∷ ls) gs = SoundLocal l gs × AllSoundLocals ls gs
 -- what an assignment writes, and its value at the larger width of both
 pub record SoundAssign (to : List Expr) (e : Expr) (gs : List Function) : Type 0 where
   pub targets : AllSoundAlone to gs
-  pub width : width_of_all (map meaning to) ≤ 65536
+  pub width : width_of_all (map meaning to) ≤ 4194304
   pub of : IsNarrowType e.of
   pub value : LimitedAt (meaning e) (max (width_of_all (map meaning to)) (width_of e.of)) gs
 
@@ -93,4 +93,4 @@ pub record WritesNoSignal (f : Function) (gs : List Function) : Type 0 where
 
 abbrev pub AllFormalsNarrow : List Formal → Type 0
 AllFormalsNarrow [] = ⊤
-AllFormalsNarrow (f ∷ fs) = (width_of f.local.of ≤ 65536) × AllFormalsNarrow fs
+AllFormalsNarrow (f ∷ fs) = (width_of f.local.of ≤ 4194304) × AllFormalsNarrow fs

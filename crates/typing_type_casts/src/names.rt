@@ -7,6 +7,7 @@ ghost use Rattle.expr_type.specs.Typings.{Typing};
 ghost use Rattle.expr_type.specs.declared.operand.Valued as values;
 ghost use Rattle.sv_types.specs.declared.statement.Function.{Function};
 ghost use Rattle.typing_fits.specs.Operands.{SoundContext};
+ghost use Rattle.typing_fits.specs.Sound.{Extends};
 ghost use Rattle.typing_parts.specs.Operands.{as_operand};
 ghost use Rattle.typing_parts.specs.Typists.{AllCanType, FitsIfOk, IsReady};
 ghost use Rattle.typing_steps.specs.Steps.{TypesTo};
@@ -53,6 +54,7 @@ fn to_size<S: Names, F: Fn(&Expr, &mut Known) -> Result<Operand, Halt>>(
     requires ready { IsReady known.old }
     ensures value { TypesTo result (size_named (S.context names.now) of selects.now cast.now known.old.functions) known.new.functions }
     ensures ready { IsReady known.new }
+    ensures keeps { Extends known.old.functions known.new.functions }
 {
     let v = named_path(alloc, names, typed, of, selects, known);
     let size = plain_operand(v);
@@ -78,6 +80,7 @@ pub fn to_name<S: Names, F: Fn(&Expr, &mut Known) -> Result<Operand, Halt>>(
     requires ready { IsReady known.old }
     ensures value { TypesTo result (part.to_name (S.context names.now) of selects.now cast.now known.old.functions) known.new.functions }
     ensures ready { IsReady known.new }
+    ensures keeps { Extends known.old.functions known.new.functions }
 {
     match type_of_name(names, of) {
         Some(t) => {
