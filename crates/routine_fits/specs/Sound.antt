@@ -16,6 +16,7 @@ use Rattle.eval_stmts.specs.Environments.{AllHeld}
 use Rattle.eval_stmts.specs.Limits.{StmtFits}
 use Rattle.eval_stmts.specs.Targets.{values_of}
 use Rattle.eval_runs.specs.Functions.{CanRun}
+use Rattle.typing_fits.specs.Operands.{AllFormalsFull}
 use Rattle.typing_fits.specs.Sound.{Knows, IsNarrowType, LimitedAt, SoundAlone, AllSoundAlone, SoundFor}
 
 -- A statement, where these functions are known: it keeps the limits of statements, whichever signals are held.
@@ -75,8 +76,10 @@ abbrev pub AllSoundBodies : List CaseItem → List Function → Type 0
 AllSoundBodies [] gs = ⊤
 AllSoundBodies (i ∷ is) gs = SoundStmt i.body gs × AllSoundBodies is gs
 
--- a function that can be run where these functions are known
+-- a function that can be run where these functions are known, with full types
 pub record SoundFunction (f : Function) (gs : List Function) : Type 0 where
+  pub result : IsNarrowType f.of
+  pub formals : AllFormalsFull f.formals
   pub runs : (fs : ℕ → List Parameter) → Knows gs fs → CanRun f fs
 
 abbrev pub EachSound : List Function → List Function → Type 0
