@@ -13,7 +13,7 @@ use Rattle.typing_steps.proofs.Combining.{joined-fine, joined-loud, joined-quiet
 use Rattle.expr_type.specs.Names.{Context, Source}
 use Rattle.stmt_types.specs.Lists.{as_meant, listed}
 use Rattle.stmt_types.specs.Cases.{found_by, joins}
-use Rattle.stmt_types.proofs.Widths.{halts}
+use Rattle.stmt_types.proofs.Widening.{halts}
 
 -- what is found gives what it means
 pub found-gives : {A : Type 0} (k : Source) (r : Result A Halt) → Gives r (found_by k r)

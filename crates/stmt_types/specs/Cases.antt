@@ -1,5 +1,5 @@
 -- Items of a `case` as the code has them.
-use Rattle.std.specs.Prelude.{ℕ, Bool, true, false, ◌||◌, nat_lt, cond, List, [], ◌∷◌, map, Option, Some, None, Result, Ok, Err, Vec}
+use Rattle.std.specs.Prelude.{◌≡◌, ⊤, ℕ, Bool, true, false, ◌||◌, nat_lt, cond, List, [], ◌∷◌, ◌++◌, map, Option, Some, None, Result, Ok, Err, Vec}
 use Rattle.std.specs.declared.alloc.Global.{Global}
 use Rattle.sv_types.specs.declared.statement.Stmt.{Stmt}
 use Rattle.sv_types.specs.Layouts.{width_of}
@@ -7,6 +7,7 @@ use Rattle.sv_types.specs.Meanings.{most}
 use Rattle.expr_type.specs.declared.halt.Halt.{Halt}
 use Rattle.expr_type.specs.declared.halt.Halt.TheVariants as H
 use Rattle.expr_type.specs.declared.operand.Valued.{Valued}
+use Rattle.expr_type.specs.Answers.{reason}
 use Rattle.expr_type.specs.Breaks.{Breaks, At, Quiet}
 use Rattle.expr_type.specs.Names.{Context, Source, position}
 use Rattle.expr_type.specs.Operands.{width}
@@ -82,7 +83,31 @@ abbrev pub first_in : List Valued → Option ℕ
 first_in [] = None
 first_in (v ∷ vs) = or_first (first_operator v.arithmetic) (first_in vs)
 
--- what stands at the first `default`
-abbrev pub first_default : Option Stmt → Stmt → Option Stmt
-first_default None s = Some s
-first_default (Some t) s = Some t
+-- what stands at each `default`
+abbrev pub default_bodies : List CaseItem → List Stmt
+default_bodies [] = []
+default_bodies (c ∷ cs) = cond c.is_default (c.body ∷ []) [] ++ default_bodies cs
+
+-- Items of a text as the code finds them: no want of memory, and behind values that break a rule nothing is looked at.
+abbrev pub Stops : {A : Type 0} → Result A Halt → Type 0 → Type 0
+Stops (Ok a) further = further
+Stops (Err H.Memory) further = ⊥
+Stops (Err (H.Breaks at rule)) further = ⊤
+Stops (Err H.Quiet) further = further
+
+abbrev pub Found : {A : Type 0} → Result A Halt → Checked A → Type 0
+Found (Ok a) m = m ≡ Ok a
+Found (Err H.Memory) m = ⊥
+Found (Err (H.Breaks at rule)) m = reason m ≡ Some (Some (record { at = at; rule = rule }))
+Found (Err H.Quiet) m = reason m ≡ Some None
+
+pub record IsFound (c : CaseFound) (d : D.CaseFound) : Type 0 where
+  pub default : c.is_default ≡ d.is_default
+  pub values : Found (listed c.values) d.values
+  pub body : Stops (listed c.values) (Found c.body d.body)
+
+abbrev pub AllFound : List CaseFound → List D.CaseFound → Type 0
+AllFound [] [] = ⊤
+AllFound [] (d ∷ ds) = ⊥
+AllFound (c ∷ cs) [] = ⊥
+AllFound (c ∷ cs) (d ∷ ds) = IsFound c d × Stops (listed c.values) (AllFound cs ds)

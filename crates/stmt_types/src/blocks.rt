@@ -7,6 +7,7 @@ ghost use Rattle.expr_type.specs.Operators as operator;
 ghost use Rattle.expr_type.specs.Statements as statement;
 ghost use Rattle.sv_types.specs.Layouts.{width_of};
 ghost use Rattle.sv_types.specs.declared.statement.Stmt.TheVariants as made;
+ghost use Rattle.stmt_types.specs.declared.blocks.BlockPart.TheVariants as part;
 ghost use Rattle.stmt_types.specs.Blocks.{block_stmt, built_of, open_block, part_built};
 
 use expr_type::Halt;
@@ -45,7 +46,7 @@ pub fn local_type(at: u32, t: SvType) -> Result<SvType, Halt>
 }
 
 // Locals with others in front of them, the last ones first.
-#[tactic(auto, using(crate::proofs::Blocks::locals))]
+#[tactic(auto, using(crate::proofs::Building::locals))]
 fn with_locals(locals: Vec<Local>, before: Locals) -> Result<Vec<Local>, AllocError>
     ensures { IfOk result (λ v. v.items ≡ locals.items ++ reverse before) }
 {
@@ -74,7 +75,7 @@ fn closed(under: Open) -> Stmt
 }
 
 // What stands behind a statement: a block where it has locals.
-#[tactic(auto, using(crate::proofs::Blocks::behinds))]
+#[tactic(auto, using(crate::proofs::Building::behinds))]
 fn behind(alloc: Global, under: Open) -> Result<Vec<Stmt>, AllocError>
     ensures { IfOk result (λ v. reverse v.items ≡ statement.in_block (open_block under).locals (open_block under).body) }
 {
@@ -86,33 +87,42 @@ fn behind(alloc: Global, under: Open) -> Result<Vec<Stmt>, AllocError>
     Ok(body)
 }
 
+// A statement in front of what stands behind it.
+#[tactic(auto, using(crate::proofs::Building::parts))]
+fn with_statement(alloc: Global, under: Open, s: Stmt) -> Result<Open, AllocError>
+    ensures { IfOk result (λ o. open_block o ≡ part_built (part.Statement s) (open_block under)) }
+{
+    let (mut body, s) = pairs::both(behind(alloc, under), Ok(s))?;
+    body.push(s)?;
+    Ok(Open {
+        locals: Vec::new(alloc),
+        body,
+    })
+}
+
+// The locals of a declaration in front of what stands behind it.
+#[tactic(auto, using(crate::proofs::Building::parts))]
+fn with_declared(under: Open, before: Locals) -> Result<Open, AllocError>
+    ensures { IfOk result (λ o. open_block o ≡ part_built (part.Declared before) (open_block under)) }
+{
+    let Open { locals, body } = under;
+    let (locals, body) = pairs::both(with_locals(locals, before), Ok(body))?;
+    Ok(Open { locals, body })
+}
+
 // One part more in front.
-#[tactic(auto, using(crate::proofs::Blocks::parts))]
 fn with_part(alloc: Global, under: Open, part: BlockPart) -> Result<Open, AllocError>
     ensures { IfOk result (λ o. open_block o ≡ part_built part (open_block under)) }
 {
     match part {
-        BlockPart::Statement(s) => {
-            let mut body = behind(alloc, under)?;
-            body.push(s)?;
-            Ok(Open {
-                locals: Vec::new(alloc),
-                body,
-            })
-        }
-        BlockPart::Declared(before) => {
-            let Open { locals, body } = under;
-            match with_locals(locals, before) {
-                Ok(locals) => Ok(Open { locals, body }),
-                Err(want) => Err(want),
-            }
-        }
+        BlockPart::Statement(s) => with_statement(alloc, under, s),
+        BlockPart::Declared(before) => with_declared(under, before),
     }
 }
 
 /// A block of its parts in the order of the text (IEEE 1800-2017 clause 9.3.1): a declaration behind statements opens a block with
 /// what stands behind it.
-#[tactic(auto, using(crate::proofs::Blocks::built))]
+#[tactic(auto, using(crate::proofs::Building::built))]
 pub fn block_of(alloc: Global, parts: Vec<BlockPart>) -> Result<Stmt, AllocError>
     ensures { IfOk result (λ s. s ≡ block_stmt (built_of parts.items)) }
 {

@@ -78,7 +78,7 @@ fn actual_expr(
     formal: &Formal,
     actual: Actual,
 ) -> Result<Expr, Halt>
-    ensures { (k : Context) → k.source ≡ source text.entry → Gives result (statement.actual_expr k formal.now (actual_of k.source actual)) }
+    ensures { (k : Context) → source text.entry ≡ k.source → Gives result (statement.actual_expr k formal.now (actual_of k.source actual)) }
 {
     match actual {
         Actual::Value(o) => passed(alloc, text, &formal.local.of, o),
@@ -93,7 +93,7 @@ fn all_actuals(
     formals: &[Formal],
     actuals: Vec<Actual>,
 ) -> Result<Exprs, Halt>
-    ensures { (k : Context) → k.source ≡ source text.entry → Gives result (all_of (map (pair_expr k) (zip formals.now (map (actual_of k.source) actuals.items)))) }
+    ensures { (k : Context) → source text.entry ≡ k.source → Gives result (all_of (map (pair_expr k) (zip formals.now (map (actual_of k.source) actuals.items)))) }
 {
     let mut made: Result<Vec<Expr>, Halt> = Ok(Vec::new(alloc));
     for (formal, actual) in formals.iter().zip(actuals) {
@@ -112,18 +112,16 @@ fn call(
 ) -> Result<Stmt, AllocError>
     ensures { IfOk result (λ s. s ≡ made.Call place actuals (spot (source text.entry) at)) }
 {
-    match spot_at(alloc, text, at) {
-        Ok(spot) => Ok(Stmt::Call {
-            function: place,
-            actuals,
-            spot,
-        }),
-        Err(want) => Err(want),
-    }
+    let (spot, actuals) = pairs::both(spot_at(alloc, text, at), Ok(actuals))?;
+    Ok(Stmt::Call {
+        function: place,
+        actuals,
+        spot,
+    })
 }
 
 // A call of a function at a place.
-#[tactic(auto, using(crate::proofs::Calls::calling))]
+#[tactic(auto, using(crate::proofs::Calling::calling))]
 fn call_of(
     alloc: Global,
     text: Source<'_>,
@@ -132,7 +130,7 @@ fn call_of(
     function: &Function,
     actuals: Vec<Actual>,
 ) -> Result<Stmt, Halt>
-    ensures { (k : Context) → k.source ≡ source text.entry → Gives result (statement.call_stmt_of k at (record { place = place; of = function.now }) (map (actual_of k.source) actuals.items)) }
+    ensures { (k : Context) → source text.entry ≡ k.source → Gives result (statement.call_stmt_of k at (record { place = place; of = function.now }) (map (actual_of k.source) actuals.items)) }
 {
     if function.formals.len() != actuals.len() {
         return Err(Halt::Breaks { at, rule: 405 });
@@ -151,7 +149,7 @@ pub fn called_stmt(
     actuals: Vec<Actual>,
     functions: &[Function],
 ) -> Result<Stmt, Halt>
-    ensures { (k : Context) → k.source ≡ source text.entry → CallsTask k at place (slice_get functions.now place) (map (actual_of k.source) actuals.items) result }
+    ensures { (k : Context) → source text.entry ≡ k.source → CallsTask k at place (slice_get functions.now place) (map (actual_of k.source) actuals.items) result }
 {
     match sv_source::at(functions, place as usize) {
         None => Err(Halt::Quiet),

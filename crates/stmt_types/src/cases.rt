@@ -1,6 +1,6 @@
 //! `case` statements.
 
-ghost use Rattle.std.specs.Prelude.{◌≡◌, ℕ, map, nat_lt, IfOk};
+ghost use Rattle.std.specs.Prelude.{◌≡◌, ℕ, List, map, nat_lt, IfOk};
 ghost use Rattle.expr_type.specs.Answers.{Gives};
 ghost use Rattle.expr_type.specs.Operands.{width};
 ghost use Rattle.expr_type.specs.Operators.{exprs};
@@ -8,9 +8,10 @@ ghost use Rattle.expr_type.specs.Statements as statement;
 ghost use Rattle.expr_type.specs.Typings.{all_of};
 ghost use Rattle.sv_types.specs.Meanings.{most};
 ghost use Rattle.sv_types.specs.declared.statement.Stmt.TheVariants as made;
+ghost use Rattle.stmt_types.specs.declared.cases.CaseItem.{CaseItem};
 ghost use Rattle.stmt_types.specs.Lists.{all_meant, as_meant, listed};
 ghost use Rattle.expr_type.specs.Names.{Context};
-ghost use Rattle.stmt_types.specs.Cases.{first_in, first_operator, first_default, found_by, item_found, item_of, item_whole, joins, wide_of, widest_found, wides};
+ghost use Rattle.stmt_types.specs.Cases.{default_bodies, first_in, first_operator, found_by, item_found, item_of, item_whole, joins, wide_of, widest_found, wides};
 
 use crate::lists::followed;
 use expr_type::{Halt, Valued};
@@ -100,6 +101,7 @@ fn is_wide(on: &Result<Valued, Halt>, items: &[CaseFound]) -> bool
 }
 
 // The first operator of a list.
+#[tactic(auto, using(crate::proofs::Widening::heads))]
 fn first_operator(operators: &Items<u32>) -> Option<u32>
     ensures { result ≡ first_operator operators.now }
 {
@@ -121,7 +123,7 @@ fn first_in(values: &[Valued]) -> Option<u32>
 }
 
 // The selector at the width of the widest: none of its operators does arithmetic on more than 128 bits (E502).
-#[tactic(auto, using(crate::proofs::Widths::widths))]
+#[tactic(auto, using(crate::proofs::Widening::widths))]
 fn selector_at(wide: bool, on: Result<Valued, Halt>) -> Result<Valued, Halt>
     ensures { (k : Context) (w : ℕ) → wide ≡ nat_lt 128 w → Gives result (statement.selector_at k w (found_by k.source on)) }
 {
@@ -136,7 +138,7 @@ fn selector_at(wide: bool, on: Result<Valued, Halt>) -> Result<Valued, Halt>
 }
 
 // The values of an item at the width of the widest, likewise.
-#[tactic(auto, using(crate::proofs::Widths::widths))]
+#[tactic(auto, using(crate::proofs::Widening::widths))]
 fn values_at(wide: bool, values: Result<Vec<Valued>, Halt>) -> Result<Vec<Valued>, Halt>
     ensures { (k : Context) (w : ℕ) → wide ≡ nat_lt 128 w → Gives (listed result) (statement.values_at k w (found_by k.source (listed values))) }
 {
@@ -210,30 +212,18 @@ fn exprs_of(alloc: Global, values: Vec<Valued>) -> Result<Exprs, AllocError>
 fn item_of(alloc: Global, values: Vec<Valued>, body: Stmt) -> Result<sv_types::CaseItem, AllocError>
     ensures { IfOk result (λ c. c ≡ record { values = exprs values.items; body = body }) }
 {
-    match exprs_of(alloc, values) {
-        Ok(values) => Ok(sv_types::CaseItem { values, body }),
-        Err(want) => Err(want),
-    }
+    let (values, body) = pairs::both(exprs_of(alloc, values), Ok(body))?;
+    Ok(sv_types::CaseItem { values, body })
 }
 
-// What stands at the first `default`.
-fn first_default(other: Option<Stmt>, body: Stmt) -> Option<Stmt>
-    ensures { result ≡ first_default other body }
-{
-    match other {
-        None => Some(body),
-        Some(other) => Some(other),
-    }
-}
-
-// The items that have values, and what stands at `default`.
+// The items that have values, and what stands at each `default`.
 #[tactic(auto, using(crate::proofs::Splits::splits))]
-fn split(alloc: Global, items: Vec<CaseItem>) -> Result<(CaseItems, Option<Stmt>), AllocError>
+fn split(alloc: Global, items: Vec<CaseItem>) -> Result<(CaseItems, Vec<Stmt>), AllocError>
     ensures items { IfOk result (λ p. p.0 ≡ statement.case_items (map item_of items.items)) }
-    ensures other { IfOk result (λ p. p.1 ≡ statement.default_body (map item_of items.items)) }
+    ensures others { IfOk result (λ p. p.1.items ≡ default_bodies items.items) }
 {
     let mut made = CaseItems::new(alloc);
-    let mut other: Option<Stmt> = None;
+    let mut others = Vec::new(alloc);
     for item in items {
         let CaseItem {
             is_default,
@@ -241,12 +231,22 @@ fn split(alloc: Global, items: Vec<CaseItem>) -> Result<(CaseItems, Option<Stmt>
             body,
         } = item;
         if is_default {
-            other = first_default(other, body);
+            others.push(body)?;
         } else {
             made.push(item_of(alloc, values, body)?)?;
         }
     }
-    Ok((made, other))
+    Ok((made, others))
+}
+
+// What stands at the first `default`.
+#[tactic(auto, using(crate::proofs::Splits::defaults))]
+fn first_of(bodies: Vec<Stmt>) -> Option<Stmt>
+    ensures { (cs : List CaseItem) → bodies.items ≡ default_bodies cs → result ≡ statement.default_body (map item_of cs) }
+{
+    let mut rest = bodies;
+    rest.reverse();
+    rest.pop()
 }
 
 // A statement that may be left out, as a part of another one.
@@ -268,9 +268,8 @@ fn case_of(
 ) -> Result<Stmt, AllocError>
     ensures { IfOk result (λ s. s ≡ made.Case kind on (statement.case_items (map item_of items.items)) (statement.default_body (map item_of items.items))) }
 {
-    let (items, other) = split(alloc, items)?;
-    let other = boxed(alloc, other);
-    let (items, other) = pairs::both(Ok(items), other)?;
+    let (items, others) = split(alloc, items)?;
+    let (items, other) = pairs::both(Ok(items), boxed(alloc, first_of(others)))?;
     Ok(Stmt::Case {
         kind,
         on,

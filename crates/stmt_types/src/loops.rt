@@ -37,10 +37,8 @@ fn expr_of(
 ) -> Result<Expr, AllocError>
     ensures { IfOk result (λ e. e ≡ expr_at (source text.entry) first of form) }
 {
-    match spot_at(alloc, text, first) {
-        Ok(spot) => Ok(Expr { of, spot, form }),
-        Err(want) => Err(want),
-    }
+    let (spot, (of, form)) = pairs::both(spot_at(alloc, text, first), Ok((of, form)))?;
+    Ok(Expr { of, spot, form })
 }
 
 // An expression that is cast to a type.
@@ -91,7 +89,7 @@ fn zeros(alloc: Global, count: u32) -> Result<Vec4, AllocError>
 
 // A test that is always true.
 fn always(alloc: Global, text: Source<'_>, at: u32) -> Result<Expr, AllocError>
-    ensures { (k : Context) → k.source ≡ source text.entry → IfOk result (λ e. e ≡ statement.always k at) }
+    ensures { (k : Context) → source text.entry ≡ k.source → IfOk result (λ e. e ≡ statement.always k at) }
 {
     let mut bits = Vec::new(alloc);
     bits.push(Bit4::One)?;
@@ -124,27 +122,23 @@ fn three(alloc: Global, a: Expr, b: Expr, c: Expr) -> Result<Form, AllocError>
 
 // A value as the arm of a `?:` of so many bits that is always taken.
 fn chosen(alloc: Global, text: Source<'_>, at: u32, width: u32, e: Expr) -> Result<Expr, AllocError>
-    ensures { (k : Context) → k.source ≡ source text.entry → IfOk result (λ c. c ≡ chosen_of k at width e) }
+    ensures { (k : Context) → source text.entry ≡ k.source → IfOk result (λ c. c ≡ chosen_of k at width e) }
 {
     let signed = is_signed(&e.of);
     let parts = pairs::both(
         always(alloc, text, at),
         zero(alloc, text, at, width, signed),
     );
-    match parts {
-        Ok((test, other)) => {
-            let form = three(alloc, test, e, other);
-            let (of, form) = pairs::both(vector(alloc, width, signed), form)?;
-            expr_of(alloc, text, at, of, form)
-        }
-        Err(want) => Err(want),
-    }
+    let ((test, other), e) = pairs::both(parts, Ok(e))?;
+    let form = three(alloc, test, e, other);
+    let (of, form) = pairs::both(vector(alloc, width, signed), form)?;
+    expr_of(alloc, text, at, of, form)
 }
 
 // A value of at least so many bits.
 fn widened(alloc: Global, text: Source<'_>, at: u32, bits: u32, e: Expr) -> Result<Expr, AllocError>
     requires { IsNarrowExpr e }
-    ensures { (k : Context) → k.source ≡ source text.entry → IfOk result (λ c. c ≡ statement.widened k at bits e) }
+    ensures { (k : Context) → source text.entry ≡ k.source → IfOk result (λ c. c ≡ statement.widened k at bits e) }
 {
     if width(&e.of) >= bits {
         return Ok(e);
@@ -153,11 +147,11 @@ fn widened(alloc: Global, text: Source<'_>, at: u32, bits: u32, e: Expr) -> Resu
 }
 
 // A first value that is no pattern.
-#[tactic(auto, using(crate::proofs::Loops::looping))]
+#[tactic(auto, using(crate::proofs::Looping::looping))]
 fn value_first(alloc: Global, text: Source<'_>, t: &SvType, v: Valued) -> Result<Expr, Halt>
     requires short { width_of t.now ≤ 65536 }
     requires narrow { IsNarrow v }
-    ensures { (k : Context) → k.source ≡ source text.entry → Gives result (statement.loop_first k t.now (rule.Plain v)) }
+    ensures { (k : Context) → source text.entry ≡ k.source → Gives result (statement.loop_first k t.now (rule.Plain v)) }
 {
     may_give(text, t, &v)?;
     let Valued { first, expr, .. } = v;
@@ -166,7 +160,7 @@ fn value_first(alloc: Global, text: Source<'_>, t: &SvType, v: Valued) -> Result
 }
 
 // A first value that is a pattern at its `'`.
-#[tactic(auto, using(crate::proofs::Loops::looping))]
+#[tactic(auto, using(crate::proofs::Looping::looping))]
 fn pattern_first(
     alloc: Global,
     text: Source<'_>,
@@ -174,7 +168,7 @@ fn pattern_first(
     tick: u32,
     o: Operand,
 ) -> Result<Expr, Halt>
-    ensures { (k : Context) → k.source ≡ source text.entry → Gives result (pattern_cast k.source t.now tick (rule.passed k.source t.now (operand_of k.source o))) }
+    ensures { (k : Context) → source text.entry ≡ k.source → Gives result (pattern_cast k.source t.now tick (rule.passed k.source t.now (operand_of k.source o))) }
 {
     let value = passed(alloc, text, t, o)?;
     Ok(cast(alloc, text, tick, t, value)?)
@@ -182,11 +176,11 @@ fn pattern_first(
 
 /// The first value of a loop's variable, of a type of at most 65,536 bits (IEEE 1800-2017 clause 12.7.1): a value has the width of the
 /// variable at least and is converted to its type, as is a pattern, and no stream can stand there (E512).
-#[tactic(auto, using(crate::proofs::Loops::firsts))]
+#[tactic(auto, using(crate::proofs::Looping::firsts))]
 pub fn loop_first(alloc: Global, text: Source<'_>, t: &SvType, o: Operand) -> Result<Expr, Halt>
     requires short { width_of t.now ≤ 65536 }
     requires narrow { NarrowPlain o }
-    ensures { (k : Context) → k.source ≡ source text.entry → Gives result (statement.loop_first k t.now (operand_of k.source o)) }
+    ensures { (k : Context) → source text.entry ≡ k.source → Gives result (statement.loop_first k t.now (operand_of k.source o)) }
 {
     match o {
         Operand::Plain(v) => value_first(alloc, text, t, v),
@@ -245,8 +239,6 @@ pub fn loop_stmt(
     ensures { IfOk result (λ s. s ≡ made.Loop head.local head.first head.test head.step body (spot (source text.entry) at)) }
 {
     let parts = pairs::both(Boxed::new(alloc, body), spot_at(alloc, text, at));
-    match parts {
-        Ok((body, spot)) => Ok(loop_by(head, body, spot)),
-        Err(want) => Err(want),
-    }
+    let ((body, spot), head) = pairs::both(parts, Ok(head))?;
+    Ok(loop_by(head, body, spot))
 }

@@ -40,15 +40,13 @@ fn result_assigned(
     ensures { IfOk result (λ s. s ≡ made.Assign (operator.expr_at (source text.entry) at of.now (form.Local 0) ∷ []) value false (spot (source text.entry) at)) }
 {
     let to = pairs::both(result_of(alloc, text, at, of), spot_at(alloc, text, at));
-    match to {
-        Ok((to, spot)) => Ok(Stmt::Assign {
-            to,
-            value,
-            later: false,
-            spot,
-        }),
-        Err(want) => Err(want),
-    }
+    let ((to, spot), value) = pairs::both(to, Ok(value))?;
+    Ok(Stmt::Assign {
+        to,
+        value,
+        later: false,
+        spot,
+    })
 }
 
 // A statement and a `return` behind it.
@@ -66,7 +64,7 @@ fn then_return(alloc: Global, s: Stmt) -> Result<Stmt, AllocError>
 
 /// A `return` at its word of a value, in a function with a result of a type (IEEE 1800-2017 clauses 12.8 and 13.4.1): the value is
 /// given to the result, and the function ends. Where there is no result the declaration is broken.
-#[tactic(auto, using(crate::proofs::Returns::returning))]
+#[tactic(auto, using(crate::proofs::Returning::returning))]
 pub fn return_value(
     alloc: Global,
     text: Source<'_>,
@@ -75,7 +73,7 @@ pub fn return_value(
     o: Operand,
 ) -> Result<Stmt, Halt>
     requires { IsNarrowStream o }
-    ensures { (k : Context) → k.source ≡ source text.entry → Gives result (statement.return_value k at (option_copied of.entry) (operand_of k.source o)) }
+    ensures { (k : Context) → source text.entry ≡ k.source → Gives result (statement.return_value k at (option_copied of.entry) (operand_of k.source o)) }
 {
     match of {
         None => Err(Halt::Quiet),

@@ -7,4 +7,4 @@ use Rattle.stmt_types.specs.Lists.{listed}
 use Rattle.stmt_types.proofs.calls.all_actuals.Given as goal
 
 abbrev pub invariant-loop-formal : goal.invariant-loop-formal
-invariant-loop-formal l = (k : Context) → k.source ≡ source l.text → Gives (listed l.made) (all_of (map (λ p. pair_expr k (p.0.now, actual_of k.source p.1)) l.yielded))
+invariant-loop-formal l = (k : Context) → source l.text ≡ k.source → Gives (listed l.made) (all_of (map (λ p. pair_expr k (p.0.now, actual_of k.source p.1)) l.yielded))

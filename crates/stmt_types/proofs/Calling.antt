@@ -50,14 +50,14 @@ call-stops k at place f as' h same g =
     (where-stops (all_of (D.all_actuals k f.formals (actuals_of k as'))) (made_call k at place) h
     (subst (λ (cs : List (Checked Expr)). Gives {A = List Expr} (Err h) (all_of cs)) (pairs-are k f.formals (actuals_of k as')) g))
 
-pub call-fine : (k : Context) (src : Source) (at place : ℕ) (f : Function) (as' : List Actual) (es : List Expr) (s : Stmt) → k.source ≡ src → (length f.formals == length as') ≡ true
+pub call-fine : (k : Context) (src : Source) (at place : ℕ) (f : Function) (as' : List Actual) (es : List Expr) (s : Stmt) → src ≡ k.source → (length f.formals == length as') ≡ true
     → all_of (map (pair_expr k) (zip f.formals (actuals_of k as'))) ≡ Ok es → s ≡ S.Call place es (spot src at)
     → D.call_stmt_of k at (record { place = place; of = f }) (actuals_of k as') ≡ Ok s
 call-fine k src at place f as' es s x same g is =
     counted k at place f as' true same
     ∙ ap (λ (cs : List (Checked Expr)). where_whole (all_of cs) (made_call k at place)) (sym (pairs-are k f.formals (actuals_of k as')))
     ∙ ap (λ (c : Checked (List Expr)). where_whole c (made_call k at place)) g
-    ∙ ap (λ (y : Source). ok (S.Call place es (spot y at))) x ∙ ap ok (sym is)
+    ∙ ap (λ (y : Source). ok (S.Call place es (spot y at))) (sym x) ∙ ap ok (sym is)
   where
     ok : Stmt → Checked Stmt
     ok u = Ok u

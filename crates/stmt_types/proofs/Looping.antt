@@ -27,32 +27,32 @@ abbrev cast_by : Context → Source → SvType → Valued → Expr → Checked E
 cast_by k src t v e = Ok (cast_expr src v.first t (widened k v.first (width_of t) e)).expr
 
 -- a value
-pub value-fine : (k : Context) (src : Source) (t : SvType) (v : Valued) (wide c : Expr) → k.source ≡ src → is_given src t v ≡ Ok v.expr → wide ≡ widened k v.first (width_of t) v.expr
+pub value-fine : (k : Context) (src : Source) (t : SvType) (v : Valued) (wide c : Expr) → src ≡ k.source → is_given src t v ≡ Ok v.expr → wide ≡ widened k v.first (width_of t) v.expr
     → c ≡ (cast_expr src v.first t wide).expr → loop_first k t (Plain v) ≡ Ok c
 value-fine k src t v wide c s g w e =
-    ap (λ (x : Source). where_whole (is_given x t v) (cast_by k x t v)) s
+    ap (λ (x : Source). where_whole (is_given x t v) (cast_by k x t v)) (sym s)
     ∙ ap (λ (d : Checked Expr). where_whole d (cast_by k src t v)) g
     ∙ ap (λ (u : Expr). as_ok (cast_expr src v.first t u).expr) (sym w) ∙ ap as_ok (sym e)
   where
     as_ok : Expr → Checked Expr
     as_ok u = Ok u
 
-pub value-stops : (k : Context) (src : Source) (t : SvType) (v : Valued) (h : Halt) → k.source ≡ src → HaltsBy h (reason (is_given src t v)) → Gives {A = Expr} (Err h) (loop_first k t (Plain v))
-value-stops k src t v h s g = where-stops (is_given k.source t v) (cast_of k t v) h (subst (λ (x : Source). HaltsBy h (reason (is_given x t v))) (sym s) g)
+pub value-stops : (k : Context) (src : Source) (t : SvType) (v : Valued) (h : Halt) → src ≡ k.source → HaltsBy h (reason (is_given src t v)) → Gives {A = Expr} (Err h) (loop_first k t (Plain v))
+value-stops k src t v h s g = where-stops (is_given k.source t v) (cast_of k t v) h (subst (λ (x : Source). HaltsBy h (reason (is_given x t v))) s g)
 
 -- a pattern
-pub pattern-fine : (k : Context) (src : Source) (t : SvType) (tick : ℕ) (o : Source → Checked Expr) (e c : Expr) → k.source ≡ src → o src ≡ Ok e → c ≡ (cast_expr src tick t e).expr
+pub pattern-fine : (k : Context) (src : Source) (t : SvType) (tick : ℕ) (o : Source → Checked Expr) (e c : Expr) → src ≡ k.source → o src ≡ Ok e → c ≡ (cast_expr src tick t e).expr
     → pattern_cast k.source t tick (o k.source) ≡ Ok c
 pattern-fine k src t tick o e c s g m =
-    ap (λ (x : Source). pattern_cast x t tick (o x)) s ∙ ap (pattern_cast src t tick) g ∙ ap as_ok (sym m)
+    ap (λ (x : Source). pattern_cast x t tick (o x)) (sym s) ∙ ap (pattern_cast src t tick) g ∙ ap as_ok (sym m)
   where
     as_ok : Expr → Checked Expr
     as_ok u = Ok u
 
-pub pattern-stops : (k : Context) (src : Source) (t : SvType) (tick : ℕ) (o : Source → Checked Expr) (h : Halt) → k.source ≡ src → Gives {A = Expr} (Err h) (o src)
+pub pattern-stops : (k : Context) (src : Source) (t : SvType) (tick : ℕ) (o : Source → Checked Expr) (h : Halt) → src ≡ k.source → Gives {A = Expr} (Err h) (o src)
     → Gives {A = Expr} (Err h) (pattern_cast k.source t tick (o k.source))
 pattern-stops k src t tick o h s g =
-    where-stops (o k.source) (λ e. Ok (cast_expr k.source tick t e).expr) h (subst (λ (x : Source). HaltsBy h (reason (o x))) (sym s) g)
+    where-stops (o k.source) (λ e. Ok (cast_expr k.source tick t e).expr) h (subst (λ (x : Source). HaltsBy h (reason (o x))) s g)
 
 pub ruleset looping = (value-fine, value-stops, pattern-fine, pattern-stops)
 

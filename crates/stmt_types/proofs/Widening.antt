@@ -1,6 +1,6 @@
 -- A selector and values at the width of the widest.
 use Rattle.std.proofs.Common.{◌≡◌, ℕ, Bool, true, false, cond, List, [], ◌∷◌, ◌++◌, flat_map, Option, Some, None, refl, sym, ap, ◌∙◌, subst}
-use Rattle.std.specs.Prelude.{Result, Ok, Err, nat_lt}
+use Rattle.std.specs.Prelude.{Result, Ok, Err, nat_lt, slice_get}
 use Rattle.expr_type.specs.declared.halt.Halt.{Halt}
 use Rattle.expr_type.specs.declared.halt.Halt.TheVariants as H
 use Rattle.expr_type.specs.declared.operand.Valued.{Valued}
@@ -11,6 +11,13 @@ use Rattle.expr_type.specs.Operands.{sized, too_wide}
 use Rattle.expr_type.specs.Statements.{selector_at, values_at, wide_in}
 use Rattle.expr_type.specs.Typings.{Checked, and_at, at_all, unless, where_whole}
 use Rattle.stmt_types.specs.Cases.{break_of, first_in, first_operator, found_by, or_first}
+
+-- the first of some operators
+pub head-of : (ats : List ℕ) → slice_get ats 0 ≡ first_operator ats
+head-of [] = refl
+head-of (at ∷ ats) = refl
+
+pub ruleset heads = (head-of)
 
 -- what isn't whole shows its break
 pub halts : (k : Source) (h : Halt) → HaltsBy h (Some (first_break (break_of k h)))
