@@ -1,7 +1,7 @@
 //! At which place of a list each function stands.
 
 ghost use Rattle.std.specs.Prelude.{◌≡◌, None, OnOk, OnErr};
-ghost use Rattle.function_places.specs.Places.{places_in, put_place};
+ghost use Rattle.function_places.specs.Places.{Declared, places_in, put_place, without_place};
 
 use indexmap::IndexMap;
 use std::alloc::{AllocError, Global};
@@ -35,10 +35,17 @@ impl FunctionPlaces {
 
     /// Puts a function at a place, whatever was there before; where it wants memory, nothing is changed.
     pub fn put(&mut self, declared: WhereDeclared, place: usize) -> Result<(), AllocError>
-        ensures ok { OnOk result (places_in self.new ≡ put_place (places_in self.old) declared place) }
-        ensures err { OnErr result (self.new ≡ self.old) }
+        ensures ok { OnOk result ((d : Declared) → places_in self.new d ≡ put_place (places_in self.old) declared place d) }
+        ensures err { OnErr result ((d : Declared) → places_in self.new d ≡ places_in self.old d) }
     {
         self.places.insert(declared, place)?;
         Ok(())
+    }
+
+    /// Takes away the place of the function that is declared there, if there is one.
+    pub fn remove(&mut self, declared: &WhereDeclared)
+        ensures { (d : Declared) → places_in self.new d ≡ without_place (places_in self.old) declared.now d }
+    {
+        self.places.swap_remove(declared);
     }
 }
