@@ -1,13 +1,8 @@
 pub mod InTurn
-pub mod Zipping
 pub mod Widening
 pub mod Joins
 pub mod Wides
 pub mod Turns
 pub mod Splits
 pub mod Building
-pub mod Returning
-pub mod Calling
-pub mod Looping
-pub mod Zeros
 pub mod Alike
