@@ -21,6 +21,7 @@ use typing_casts::by_size;
 use typing_parts::{Known, Names};
 
 /// A call of a function, or a cast to the size that it gives.
+#[tactic(auto, using(typing_parts::proofs::Keeping::keepings))]
 pub fn called<
     S: Names,
     F: Fn(&Expr, &mut Known) -> Result<Operand, Halt>,

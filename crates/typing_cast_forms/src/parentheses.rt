@@ -55,6 +55,7 @@ fn operand<S: Names, F: Fn(&Expr, &mut Known) -> Result<Operand, Halt>>(
 }
 
 /// `(value)`, which begins at its `(`, or a cast to the size that it gives.
+#[tactic(auto, using(typing_parts::proofs::Keeping::keepings))]
 pub fn parenthesized<S: Names, F: Fn(&Expr, &mut Known) -> Result<Operand, Halt>>(
     alloc: Global,
     names: &S,

@@ -48,7 +48,7 @@ fn size_by<S: Names>(
 }
 
 // A cast to a size, which may be missing.
-#[tactic(auto, using(crate::proofs::Putting::both))]
+#[tactic(auto, using(crate::proofs::Putting::both, typing_parts::proofs::Keeping::keepings))]
 fn sized<S: Names, F: Fn(&Expr, &mut Known) -> Result<Operand, Halt>>(
     alloc: Global,
     names: &S,
@@ -81,6 +81,7 @@ fn sized<S: Names, F: Fn(&Expr, &mut Known) -> Result<Operand, Halt>>(
 
 /// A cast to a size that an operand gives, which is typed already: a constant from 1 to 2^32 - 1 (E411). The whole begins with the
 /// token `first`. A size of more than 65,536 bits breaks E701 at the tick.
+#[tactic(auto, using(typing_parts::proofs::Keeping::keepings))]
 pub fn by_size<S: Names, F: Fn(&Expr, &mut Known) -> Result<Operand, Halt>>(
     alloc: Global,
     names: &S,

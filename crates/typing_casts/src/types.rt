@@ -157,7 +157,7 @@ fn cast_to(
 /// A cast to a type, which is typed already: a value is converted as an assignment does it, but an enum takes any value that has bits
 /// (E501), and a pattern is given to the type (E505 and what its items break). The whole begins with the token `first`. A type of more
 /// than 65,536 bits breaks E701 at the tick.
-#[tactic(auto, using(crate::proofs::Putting::both))]
+#[tactic(auto, using(crate::proofs::Putting::both, typing_parts::proofs::Keeping::keepings))]
 pub fn by_type<S: Names, F: Fn(&Expr, &mut Known) -> Result<Operand, Halt>>(
     alloc: Global,
     names: &S,

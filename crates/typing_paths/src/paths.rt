@@ -21,7 +21,7 @@ use typing_parts::{Known, Names};
 use typing_values::behind_quiet;
 
 // A value and the select behind it: where what stands before isn't whole and breaks nothing, the select is looked at for its breaks.
-#[tactic(auto, using(typing_steps::proofs::Combining::besides))]
+#[tactic(auto, using(typing_steps::proofs::Combining::besides, typing_parts::proofs::Keeping::keepings))]
 fn stepping<S: Names, F: Fn(&Expr, &mut Known) -> Result<Operand, Halt>>(
     alloc: Global,
     names: &S,

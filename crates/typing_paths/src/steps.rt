@@ -18,7 +18,7 @@ use typing_parts::{Known, Names};
 use typing_values::{behind_quiet, index, width};
 
 // A base and a width in the order of the text.
-#[tactic(auto, using(typing_steps::proofs::Combining::besides))]
+#[tactic(auto, using(typing_steps::proofs::Combining::besides, typing_parts::proofs::Keeping::keepings))]
 fn sliding<S: Names, F: Fn(&Expr, &mut Known) -> Result<Operand, Halt>>(
     alloc: Global,
     names: &S,

@@ -38,6 +38,7 @@ pub fn plain_operand(v: Result<Valued, Halt>) -> Result<Operand, Halt>
 }
 
 // A cast to the size that a name with selects behind it gives.
+#[tactic(auto, using(typing_parts::proofs::Keeping::keepings))]
 fn to_size<S: Names, F: Fn(&Expr, &mut Known) -> Result<Operand, Halt>>(
     alloc: Global,
     names: &S,
@@ -63,7 +64,7 @@ fn to_size<S: Names, F: Fn(&Expr, &mut Known) -> Result<Operand, Halt>>(
 
 /// A cast to what a name with selects behind it stands for: a type, of which the selects are packed dimensions, or a size. That a size
 /// can be valued is asked of what names it (`PathFits`).
-#[tactic(auto, using(crate::proofs::Naming::names))]
+#[tactic(auto, using(crate::proofs::Naming::names, typing_parts::proofs::Keeping::keepings))]
 pub fn to_name<S: Names, F: Fn(&Expr, &mut Known) -> Result<Operand, Halt>>(
     alloc: Global,
     names: &S,

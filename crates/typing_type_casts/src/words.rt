@@ -17,6 +17,7 @@ use typing_dimensions::type_of_word;
 use typing_parts::{Known, Names};
 
 /// A cast to the type of a word with packed dimensions behind it.
+#[tactic(auto, using(typing_parts::proofs::Keeping::keepings))]
 pub fn to_word<S: Names, F: Fn(&Expr, &mut Known) -> Result<Operand, Halt>>(
     alloc: Global,
     names: &S,

@@ -1,3 +1,5 @@
+use Rattle.std.proofs.Common.{rules}
+use Rattle.typing_parts.proofs.Keeping.{extends-then}
 use Rattle.typing_values.specs.Children.{in_dimension}
 use Rattle.typing_dimensions.proofs.Typable.{can-in}
 use Rattle.typing_dimensions.proofs.written.dimensions.Goals as goal
@@ -5,3 +7,10 @@ use Rattle.typing_dimensions.proofs.written.dimensions.Goals as goal
 pub next_dimension-dims-requires-clause-can : goal.next_dimension-dims-requires-clause-can
 next_dimension-dims-requires-clause-can g c =
     can-in _ _ _ _ _ _ _ in_dimension c.args.ds.now c.loop-d.d-index c.d-item.result c.loop-d-test.true c.d-item.is c.requires.can
+
+pub loop-d-preserved : goal.loop-d-preserved
+loop-d-preserved g c = record {
+  value = search rules;
+  ready = c.next_dimension-dims.ensures.ready;
+  keeps = extends-then _ _ _ c.loop-d.invariant.keeps c.next_dimension-dims.ensures.keeps;
+}
