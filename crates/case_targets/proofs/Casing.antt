@@ -91,7 +91,7 @@ module _ (e : Expr) (gs : List Given) (i : Index) (ps : List PathIndex) (k : ℤ
         ∙ (λ j. number_in (of_index.sign j) c.number)
         ∙ is.has
 
-    case-set : IsSet bits c.path (all_of c.done ps) vec a sc v
+    pub case-set : IsSet bits c.path (all_of c.done ps) vec a sc v
     case-set = record {
       number = h.number;
       of = h.of;

@@ -6,7 +6,7 @@ use Rattle.sv_types.specs.declared.types.SvType.{SvType}
 use Rattle.sv_types.specs.Layouts.{layout, width_of}
 use Rattle.sv_types.specs.Windows.{falls}
 use Rattle.sv_types.specs.Surroundings.{Around}
-use Rattle.v_meaning.specs.Scopes.{Scope}
+use Rattle.v_meaning.specs.Scopes.{Scope, Named}
 use Rattle.target_laws.specs.Elements.{far_from}
 use Rattle.target_flatten.specs.declared.writes.Image.{Image}
 use Rattle.target_walk.specs.declared.given.Given.{Given}
@@ -16,11 +16,12 @@ use Rattle.target_walk.specs.Giving.{moved_given, IsSmall, AllSmall}
 use Rattle.target_walk.specs.Naming.{FlattensIn}
 use Rattle.target_walk.specs.Rooms.{IsKnownIn, Followed, MakesRoom}
 use Rattle.target_walk.specs.Walking as W
+use Rattle.target_walk.specs.Walking.{Indexed}
 use Rattle.typed_paths.specs.Typed.{Indexing, IsTypedPath, of_signal, of_local, of_member, of_index, of_part, of_slide}
 use Rattle.filled_paths.specs.Filling.{index_in, put_index}
 use Rattle.case_targets.specs.declared.indices.PathIndex.{PathIndex}
 use Rattle.case_targets.specs.declared.indices.PathIndex.TheVariants as I
-use Rattle.case_targets.specs.Spreading.{all_of, Pairwise, StandsFor, SpreadsFlat}
+use Rattle.case_targets.specs.Spreading.{all_of, Pairwise, StandsFor, IsSet, SpreadsFlat}
 
 moved-known : (part : Bool) (g : Given) (f : ℤ) → IsKnownIn part g → IsKnownIn part (moved_given g f)
 moved-known part (G.Known k) f h = tt
@@ -43,12 +44,16 @@ followed number t a sc v e xs part [] (of_slide y from i n up ys b is has bounds
 followed number t a sc v e xs part (g ∷ gs) (of_slide y from i n up ys b is has bounds path) given =
     W.of_slide y from i n up g gs b is given.0.0 bounds (λ j test. moved-known b g (far_from (falls (layout from.of)) up n j) given.0.1) (followed number t a sc v from ys b gs path given.1)
 
--- targets for indices of which none is left
+-- indices of which none is left
+pub set-flat : (im : Image) (e : Expr) (gs : List Given) → im.bits < 2 ^ 32 → MakesRoom e gs im.room → (vec : Named) (a : Around) (sc : Scope) (v : Valuation) (h : IsSet im.bits e (all_of gs []) vec a sc v)
+    → Indexed im.room im.bits a sc v e gs h.part
+set-flat im e gs small room vec a sc v h =
+    room im.room im.bits a sc v h.part (omega arith) (subst (λ n. Followed n a sc v e gs h.part) h.width (followed h.number h.of a sc v e h.indices h.part gs h.path h.stand))
+
 pub spreads-flat : (im : Image) (e : Expr) (gs : List Given) (r : Targets) → im.bits < 2 ^ 32 → 1 ≤ im.room → im.bits < 2 ^ im.room → MakesRoom e gs im.room → FlattensIn im e gs r
     → SpreadsFlat im.bits e gs r.writes
 spreads-flat im e gs r small some enough room flattens vec a sc v h =
-    (flattens vec a sc v h.part h.vector small some enough h.typed
-    (room im.room im.bits a sc v h.part (omega arith) (subst (λ n. Followed n a sc v e gs h.part) h.width (followed h.number h.of a sc v e h.indices h.part gs h.path h.stand)))).path
+    (flattens vec a sc v h.part h.vector small some enough h.typed (set-flat im e gs small room vec a sc v h)).path
 
 -- one more of the others
 pub done-more : (gs : List Given) (g : Given) (ps : List PathIndex) → all_of gs (I.Plain g ∷ ps) ≡ all_of (gs ++ g ∷ []) ps

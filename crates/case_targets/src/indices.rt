@@ -2,6 +2,7 @@
 
 ghost use Rattle.std.specs.Prelude.{◌≡◌, Some, [], ◌∷◌, ◌++◌, IfOk};
 ghost use Rattle.target_walk.specs.declared.given.Given.TheVariants as givens;
+ghost use Rattle.case_targets.specs.Naming.{given_for, givens_for};
 
 use path_flatten::{Index, copy_expr};
 use std::alloc::{AllocError, Global};
@@ -20,6 +21,18 @@ pub enum PathIndex {
 /// Indices of which targets are made, the last step's first.
 pub(crate) type Indices = Items<Given>;
 
+/// A copy of a lowered index.
+fn copy_index(alloc: Global, index: &Index) -> Result<Index, AllocError>
+    ensures { IfOk result (λ i. i ≡ index.now) }
+{
+    let expr = copy_expr(alloc, &index.expr)?;
+    Ok(Index {
+        expr,
+        width: index.width,
+        signed: index.signed,
+    })
+}
+
 /// A copy of an index.
 fn copy_given(alloc: Global, given: &Given) -> Result<Given, AllocError>
     ensures { IfOk result (λ g. g ≡ given.now) }
@@ -27,12 +40,7 @@ fn copy_given(alloc: Global, given: &Given) -> Result<Given, AllocError>
     match given {
         Given::Known(k) => Ok(Given::Known(*k)),
         Given::Lowered { index, by } => {
-            let expr = copy_expr(alloc, &index.expr)?;
-            let index = Index {
-                expr,
-                width: index.width,
-                signed: index.signed,
-            };
+            let index = copy_index(alloc, index)?;
             Ok(Given::Lowered { index, by: *by })
         }
     }
@@ -68,5 +76,29 @@ pub(crate) fn with_number(alloc: Global, indices: &[Given], k: i128) -> Result<I
 {
     let mut made = copies(alloc, indices)?;
     made.push(Given::Known(Some(k)))?;
+    Ok(made)
+}
+
+/// An index by its number, or as it is lowered, whatever it selects from.
+fn given_of(alloc: Global, index: &PathIndex) -> Result<Given, AllocError>
+    ensures { IfOk result (λ g. g ≡ given_for index.now) }
+{
+    match index {
+        PathIndex::Plain(given) => copy_given(alloc, given),
+        PathIndex::InPart(index) => {
+            let index = copy_index(alloc, index)?;
+            Ok(Given::Lowered { index, by: 0 })
+        }
+    }
+}
+
+/// All indices so.
+pub(crate) fn givens_of(alloc: Global, indices: &[PathIndex]) -> Result<Indices, AllocError>
+    ensures { IfOk result (λ gs. gs ≡ givens_for indices.now) }
+{
+    let mut made = Indices::new(alloc);
+    for index in indices {
+        made.push(given_of(alloc, index)?)?;
+    }
     Ok(made)
 }

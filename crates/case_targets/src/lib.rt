@@ -1,10 +1,11 @@
-//! Targets of select paths of which indices select from part-selects.
+//! Targets of select paths of which indices may select from part-selects.
 #![tactic(auto)]
 
 mod cases;
 mod indices;
 mod numbers;
+mod spread;
 mod targets;
 
 pub use indices::PathIndex;
-pub use targets::spread_target;
+pub use spread::spread_target;

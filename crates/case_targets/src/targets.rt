@@ -1,11 +1,12 @@
 //! Targets for each number that an index may have which selects from a part-select.
 
-ghost use Rattle.std.specs.Prelude.{◌≤◌, ◌^◌, ◌∷◌, unsigned_abs, IfOk, OnOk};
+ghost use Rattle.std.specs.Prelude.{◌≤◌, ◌^◌, [], ◌∷◌, unsigned_abs, IfOk, OnOk};
 ghost use Rattle.sv_types.specs.Expressions.{meaning};
 ghost use Rattle.target_flatten.specs.Owning.{AllOwn};
 ghost use Rattle.target_walk.specs.Giving.{IsSmall, AllSmall};
 ghost use Rattle.case_targets.specs.declared.indices.PathIndex.TheVariants as indices;
 ghost use Rattle.case_targets.specs.Spreading.{AllShort, IsShaped, Spreads, SpreadsFlat, SpreadsBetween, AddsCase, KeepsOwn, all_of};
+ghost use Rattle.case_targets.specs.Naming.{NamesEach, KeepsNames, PlainOf};
 
 use crate::cases::{case_of, put_case};
 use crate::indices::{PathIndex, with_given};
@@ -28,7 +29,9 @@ fn flat(
     requires narrow { (meaning e.now).widest ≤ 4194304 }
     requires small { AllSmall done.now }
     ensures writes { IfOk result (SpreadsFlat bits e.now done.now) }
+    ensures names { IfOk result (NamesEach bits e.now (all_of done.now [])) }
     ensures own { IfOk result (AllOwn name.now bits) }
+    ensures plain { IfOk result (PlainOf name.now (all_of done.now [])) }
 {
     let name = name.copy(alloc)?;
     let image = Image {
@@ -60,12 +63,13 @@ fn add_case(
     requires rest { AllShort rest.now }
     requires near { unsigned_abs k ≤ 2 ^ 64 }
     ensures case { OnOk result (AddsCase bits e.now done.now i.now rest.now k all.old all.new) }
+    ensures names { OnOk result (KeepsNames bits e.now (all_of done.now (indices.InPart i.now ∷ rest.now)) all.old all.new) }
     ensures own { OnOk result (KeepsOwn name.now bits all.old all.new) }
 {
     match case_of(alloc, e, done, i, k)? {
         None => Ok(()),
         Some(case) => {
-            let one = spread_target(alloc, name, bits, &case.path, case.done.as_slice(), rest)?;
+            let one = spread(alloc, name, bits, &case.path, case.done.as_slice(), rest)?;
             put_case(alloc, i, &case.number, one, all)
         }
     }
@@ -91,6 +95,7 @@ fn cases_between(
     requires low { unsigned_abs numbers.low ≤ 2 ^ 64 }
     requires high { unsigned_abs numbers.high ≤ 2 ^ 64 }
     ensures writes { IfOk result (SpreadsBetween bits e.now done.now i.now rest.now numbers) }
+    ensures names { IfOk result (NamesEach bits e.now (all_of done.now (indices.InPart i.now ∷ rest.now))) }
     ensures own { IfOk result (AllOwn name.now bits) }
 {
     let mut all = Writes::new(alloc);
@@ -117,7 +122,9 @@ fn cases(
     requires short { i.now.width ≤ 64 }
     requires rest { AllShort rest.now }
     ensures writes { IfOk result (Spreads bits e.now (all_of done.now (indices.InPart i.now ∷ rest.now))) }
+    ensures names { IfOk result (NamesEach bits e.now (all_of done.now (indices.InPart i.now ∷ rest.now))) }
     ensures own { IfOk result (AllOwn name.now bits) }
+    ensures plain { IfOk result (PlainOf name.now (all_of done.now (indices.InPart i.now ∷ rest.now))) }
 {
     let numbers = numbers_at(e, done.len());
     cases_between(alloc, name, bits, e, done, i, rest, numbers)
@@ -140,16 +147,18 @@ fn plain(
     requires small { IsSmall given.now }
     requires rest { AllShort rest.now }
     ensures writes { IfOk result (Spreads bits e.now (all_of done.now (indices.Plain given.now ∷ rest.now))) }
+    ensures names { IfOk result (NamesEach bits e.now (all_of done.now (indices.Plain given.now ∷ rest.now))) }
     ensures own { IfOk result (AllOwn name.now bits) }
+    ensures plain { IfOk result (PlainOf name.now (all_of done.now (indices.Plain given.now ∷ rest.now))) }
 {
     let done = with_given(alloc, done, given)?;
-    spread_target(alloc, name, bits, e, done.as_slice(), rest)
+    spread(alloc, name, bits, e, done.as_slice(), rest)
 }
 
-/// Targets for a path, whose first indices, the last step's first, are done: for each number that an index of a part-select may have
-/// those for the path with that number in its place, under the condition that the index has it. Or want of memory.
+/// Targets for a path whose first indices are done: for each number that another one may have which selects from a part-select those
+/// for the path with that number in its place, under the condition that the index has it.
 #[cycle(spread)]
-pub fn spread_target(
+pub(crate) fn spread(
     alloc: Global,
     name: &Text,
     bits: u32,
@@ -162,7 +171,9 @@ pub fn spread_target(
     requires done { AllSmall done.now }
     requires rest { AllShort rest.now }
     ensures writes { IfOk result (Spreads bits e.now (all_of done.now rest.now)) }
+    ensures names { IfOk result (NamesEach bits e.now (all_of done.now rest.now)) }
     ensures own { IfOk result (AllOwn name.now bits) }
+    ensures plain { IfOk result (PlainOf name.now (all_of done.now rest.now)) }
 {
     match rest {
         [] => flat(alloc, name, bits, e, done),

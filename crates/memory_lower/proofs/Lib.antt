@@ -4,3 +4,4 @@ pub mod Inside
 pub mod Lowered
 pub mod Naming
 pub mod Preparing
+pub mod Choosing

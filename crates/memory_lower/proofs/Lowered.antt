@@ -1,5 +1,5 @@
 -- Targets in the words of a memory stand for a path on an element of the signal.
-use Rattle.std.proofs.Common.{◌≡◌, ℕ, ◌<◌, ◌≤◌, ◌^◌, Bool, true, false, List, [], ◌∷◌, ◌++◌, length, Option, refl, arith, sym, ◌∙◌, subst}
+use Rattle.std.proofs.Common.{◌≡◌, ℕ, Bool, true, false, List, [], ◌∷◌, ◌++◌, length, Option, refl, sym, subst}
 use Rattle.b4_core.specs.declared.bit.Bit4.TheVariants.{Zero}
 use Rattle.lowering_laws.specs.NamedImages.{AreImages}
 use Rattle.lowering_laws.proofs.Naming.{both-images}
@@ -7,14 +7,16 @@ use Rattle.path_flatten.proofs.Naming.{same-itself, same-then, same-joined}
 use Rattle.path_steps.proofs.PathNames.{images-like}
 use Rattle.target_walk.specs.declared.never.Targets.{Targets}
 use Rattle.target_walk.specs.Giving.{all_names}
-use Rattle.target_walk.specs.Naming.{FlattenedIn, target_names}
+use Rattle.target_walk.specs.Naming.{target_names}
+use Rattle.case_targets.specs.Naming.{givens_for, Spread}
+use Rattle.case_targets.specs.Spreading.{IsSet}
 use Rattle.memory_targets.specs.Names.{word_names}
 use Rattle.memory_lower.proofs.Naming.{word-named, names-in-word}
 use Rattle.row_machine.specs.Valuation.{Valuation}
 use Rattle.sv_types.specs.declared.expression.Expr.{Expr}
 use Rattle.sv_types.specs.declared.statement.Function.{Function}
 use Rattle.sv_types.specs.declared.types.SvType.{SvType}
-use Rattle.sv_types.specs.Layouts.{layout, width_of, count_of, stored_bit}
+use Rattle.sv_types.specs.Layouts.{layout, count_of, stored_bit}
 use Rattle.sv_types.specs.Surroundings.{Around, local_number}
 use Rattle.sv_types.specs.Meanings as S
 use Rattle.sv_types.specs.Paths as P
@@ -33,19 +35,18 @@ use Rattle.path_flatten.specs.declared.offsets.Index.{Index}
 use Rattle.path_flatten.specs.Helping.{EachHelps}
 use Rattle.path_flatten.specs.Sliding.{IsIndexOf}
 use Rattle.typed_paths.specs.Typed.{Indexing, IsTypedPath, IsTyped}
+use Rattle.typed_paths.proofs.Opening.{stands-on}
 use Rattle.target_flatten.specs.Owning.{AreUsesOf, AllWrite}
 use Rattle.target_flatten.specs.Writing.{pieces, pieces_in, WritesPath}
 use Rattle.target_walk.specs.declared.given.Given.{Given}
 use Rattle.target_walk.specs.declared.given.Given.TheVariants as G
-use Rattle.target_walk.specs.Rooms.{Followed}
-use Rattle.target_walk.specs.Walking.{Indexed}
 use Rattle.expr_lower.specs.Leaves.{Elements, leaves, Each}
 use Rattle.expr_lower.specs.Lowering.{LeafStands, ShowsElements, IsShownInWords}
 use Rattle.expr_lower.specs.Named.{signal_name, is_memory}
 use Rattle.expr_lower.specs.Paths.{Indexes}
-use Rattle.target_lower.specs.Made.{IsMade, AreMade}
-use Rattle.target_lower.proofs.Making.{made-given, made-named}
-use Rattle.target_lower.proofs.Following.{followed, indices-named}
+use Rattle.target_lower.specs.Made.{StandsForIndex, AreMade}
+use Rattle.target_lower.proofs.Making.{made-stand, made-named}
+use Rattle.target_lower.proofs.Following.{indices-named}
 use Rattle.memory_laws.specs.InWords.{Inner, IsMemoryOf, word_alone, word_pieces, SelectsWord, IsWrittenInWords}
 use Rattle.memory_words.specs.Words.{NumbersWord}
 use Rattle.memory_paths.proofs.Inner.{InnerPath, inner-path, inner-typed, outer-names}
@@ -56,7 +57,7 @@ use Rattle.memory_targets.specs.Pieces.{inners}
 use Rattle.memory_targets.proofs.Pieces.{words-are, targets-written, targets-change}
 use Rattle.memory_targets.proofs.Selecting.{exact-selects, known-selects}
 use Rattle.memory_lower.specs.Lowered.{StandsInMemory, LowersInMemory, IsWordFor, IsInWord}
-use Rattle.memory_lower.specs.Made.{WordOf, LowersMemory}
+use Rattle.memory_lower.specs.Made.{WordOf}
 use Rattle.memory_lower.proofs.Inside.{Inside, inside, LeavesOf, leaves-of, stands-on-signal}
 
 -- targets in a word may write the memory alone
@@ -92,14 +93,14 @@ zero-stored : (b : Bool) → stored_bit b Zero ≡ Zero
 zero-stored true = refl
 zero-stored false = refl
 
-small-bits : (n : ℕ) → n ≤ 4194304 → n < 2 ^ 32
-small-bits n h = omega arith
-
 module _ (names : NameMap) (fs : List Function) (hs : List Helper) (n : ℕ) (t : SvType) (i e : Expr) (made : Targets) (h : IsInWord names fs hs n t i e made) (xs : List Indexing) (part : Bool)
     (path : IsTypedPath n t e xs part) (typed : (meaning e).misfits ≡ 0)
     (im : Images) (a : Around) (sc : Scope) (distinct : AreDistinct im) (memory : is_memory names.signals n ≡ true) (all : Each (LeafStands names fs im a sc) (leaves e)) (helps : EachHelps hs sc) where
   abbrev w : ℕ
   w = length (layout t).element.two_state
+
+  abbrev name : Name
+  name = signal_name names.signals n
 
   in_element : Inside n t i h.inner
   in_element = inside n t i e h.inner h.is_inner typed
@@ -110,8 +111,8 @@ module _ (names : NameMap) (fs : List Function) (hs : List Helper) (n : ℕ) (t 
   stand : Each (LeafStands names fs im a sc) (Elements n (layout t) ∷ kept.others)
   stand = subst (Each (LeafStands names fs im a sc)) kept.is all
 
-  shown : IsShownInWords h.image.name im sc n (layout t)
-  shown = subst (λ k. IsShownInWords k im sc n (layout t)) (sym h.named) (subst (λ b. ShowsElements b (signal_name names.signals n) im sc n (layout t)) memory stand.0)
+  shown : IsShownInWords name im sc n (layout t)
+  shown = subst (λ b. ShowsElements b name im sc n (layout t)) memory stand.0
 
   inner : InnerPath n t i h.inner xs part
   inner = inner-path n t i e h.inner h.is_inner xs part path
@@ -119,37 +120,40 @@ module _ (names : NameMap) (fs : List Function) (hs : List Helper) (n : ℕ) (t 
   fits : (meaning h.inner).misfits ≡ 0
   fits = inner-typed n t i e h.inner h.is_inner typed
 
-  wide : width_of inner.of ≡ h.image.bits
-  wide = in_element.wide (local_number 0) inner.of inner.indices part inner.path ∙ sym h.bits
-
-  are-made : AreMade names fs hs inner.indices h.given
+  are-made : AreMade names fs hs inner.indices h.indices
   are-made = subst (AreMade names fs hs inner.indices) (sym h.puts.is) (h.puts.made (local_number 0) inner.of inner.indices part inner.path)
 
-  indexed : (now v : Valuation) → Agree im now v → Indexed h.image.room h.image.bits (record a { now = now }) sc v h.inner h.given part
-  indexed now v agree =
-      let b : Around = record a { now = now } in
-      let given = made-given names fs hs im a sc helps (local_number 0) inner.of h.inner inner.indices part h.given inner.path fits
-      (kept.inner stand.1 (local_number 0) inner.of inner.indices part inner.path) are-made now v agree in
-      h.room h.image.room h.image.bits b sc v part (omega arith)
-      (subst (λ k. Followed k b sc v h.inner h.given part) wide (followed (local_number 0) inner.of b sc v h.inner inner.indices part h.given inner.path given))
+  set : (now v : Valuation) → Agree im now v → IsSet w h.inner h.indices (word_alone w) (record a { now = now }) sc v
+  set now v agree = record {
+    number = local_number 0;
+    of = inner.of;
+    indices = inner.indices;
+    part = part;
+    path = inner.path;
+    typed = fits;
+    width = in_element.wide (local_number 0) inner.of inner.indices part inner.path;
+    vector = record { vector = refl; width = refl };
+    stand = made-stand names fs hs im a sc helps (local_number 0) inner.of h.inner inner.indices part h.indices inner.path fits
+        (kept.inner stand.1 (local_number 0) inner.of inner.indices part inner.path) are-made now v agree;
+  }
 
-  flat : (now v : Valuation) → Agree im now v → FlattenedIn (word_alone w) h.inner h.given h.alone (record a { now = now }) sc v
-  flat now v agree = h.flattens (word_alone w) (record a { now = now }) sc v part (record { vector = refl; width = sym h.bits }) (small-bits h.image.bits h.narrow) h.some h.enough fits (indexed now v agree)
+  spread : (now v : Valuation) → Agree im now v → Spread h.inner h.indices h.alone (word_alone w) (record a { now = now }) sc v
+  spread now v agree = h.spreads (word_alone w) (record a { now = now }) sc v (set now v agree)
 
   written : (now v : Valuation) → Agree im now v → WritesPath (word_alone w) (meaning h.inner) (record a { now = now }) (pieces_in (word_alone w) h.alone.writes) sc v
-  written now v agree = (flat now v agree).path
+  written now v agree = (spread now v agree).path
 
   selected : (now v : Valuation) → Agree im now v → SelectsWord (layout t) (P.index_of (meaning i) (record a { now = now })) (word_guard h.word) (word_sel h.word) sc v
   selected now v agree = word-selected names fs hs im a sc helps t i in_element.typed (kept.index stand.1) now v agree h.word h.is_word
 
   -- all indices of the path, by those of the path in the element and what names the word
-  indices-images : AreImages im.number (meaning e).index_names (word_names h.word sc ++ all_names h.given sc)
+  indices-images : AreImages im.number (meaning e).index_names (word_names h.word sc ++ all_names (givens_for h.indices) sc)
   indices-images =
-      subst (λ l. AreImages im.number l (word_names h.word sc ++ all_names h.given sc)) (sym (outer-names n t i e h.inner h.is_inner))
-      (both-images im.number (meaning i).names (meaning h.inner).index_names (word_names h.word sc) (all_names h.given sc)
+      subst (λ l. AreImages im.number l (word_names h.word sc ++ all_names (givens_for h.indices) sc)) (sym (outer-names n t i e h.inner h.is_inner))
+      (both-images im.number (meaning i).names (meaning h.inner).index_names (word_names h.word sc) (all_names (givens_for h.indices) sc)
       (word-named names fs hs im a sc helps t i (kept.index stand.1) h.word h.is_word)
-      (indices-named im.number sc (local_number 0) inner.of h.inner inner.indices part h.given inner.path
-      (made-named names fs hs im a sc helps (local_number 0) inner.of h.inner inner.indices part h.given inner.path fits
+      (indices-named im.number sc (local_number 0) inner.of h.inner inner.indices part h.indices inner.path
+      (made-named names fs hs im a sc helps (local_number 0) inner.of h.inner inner.indices part h.indices inner.path fits
       (kept.inner stand.1 (local_number 0) inner.of inner.indices part inner.path) are-made)))
 
   zeros-agree : Agree im zeros zeros
@@ -158,45 +162,45 @@ module _ (names : NameMap) (fs : List Function) (hs : List Helper) (n : ℕ) (t 
   all-named : AreImages im.number (meaning e).index_names (target_names made sc)
   all-named =
       let ns = word_names h.word sc in
-      images-like im.number (meaning e).index_names (ns ++ all_names h.given sc) (target_names made sc) indices-images
-      (same-then (ns ++ all_names h.given sc) (ns ++ target_names h.alone sc) (target_names made sc)
-      (same-joined ns ns (all_names h.given sc) (target_names h.alone sc) (same-itself ns) (flat zeros zeros zeros-agree).names)
-      (names-in-word h.word h.image.name h.image.bits h.alone.writes made.writes h.alone.named made.named sc h.own h.all h.apart))
+      images-like im.number (meaning e).index_names (ns ++ all_names (givens_for h.indices) sc) (target_names made sc) indices-images
+      (same-then (ns ++ all_names (givens_for h.indices) sc) (ns ++ target_names h.alone sc) (target_names made sc)
+      (same-joined ns ns (all_names (givens_for h.indices) sc) (target_names h.alone sc) (same-itself ns) (spread zeros zeros zeros-agree).names)
+      (names-in-word h.word name w h.alone.writes made.writes h.alone.named made.named sc h.own h.all h.apart))
 
-  is-memory : IsMemoryOf h.image.name (count_of (layout t).left (layout t).right) w sc
+  is-memory : IsMemoryOf name (count_of (layout t).left (layout t).right) w sc
   is-memory = record { words = shown.words; bits = shown.width }
 
   pub stands-in-memory : StandsInMemory im a sc n (layout t) (meaning e) made
   stands-in-memory = record {
     writes = λ now v agree.
         subst (λ k. IsWrittenInWords (layout t) ((meaning e).window (record a { now = now })) (S.wide (meaning e)) k (pieces made.writes) sc v) shown.number
-        (targets-written n t i e h.inner h.is_inner typed xs part path h.word h.image.name h.image.bits h.alone.writes made.writes h.own h.all (record a { now = now }) sc v is-memory (selected now v agree) (written now v agree));
+        (targets-written n t i e h.inner h.is_inner typed xs part path h.word name w h.alone.writes made.writes h.own h.all (record a { now = now }) sc v is-memory (selected now v agree) (written now v agree));
     changes = λ now v agree.
-        targets-change n t i e h.inner h.is_inner typed xs part path h.word h.image.name h.image.bits h.alone.writes made.writes h.own h.all (record a { now = now }) sc v is-memory (selected now v agree) (written now v agree)
+        targets-change n t i e h.inner h.is_inner typed xs part path h.word name w h.alone.writes made.writes h.own h.all (record a { now = now }) sc v is-memory (selected now v agree) (written now v agree)
         im distinct (sym shown.number) shown.image shown.marks shown.in_words;
+    root = stands-on n t e xs part path;
     names = all-named;
-    own = subst (λ ps. AllWrite (im.number n) ps sc) (sym (words-are h.word h.image.name h.image.bits h.alone.writes made.writes h.own h.all))
-        (subst (λ k. AllWrite k (word_pieces h.image.name (word_guard h.word) (word_sel h.word) (inners h.alone.writes)) sc) shown.number
-        (words-write h.image.name (word_guard h.word) (word_sel h.word) (inners h.alone.writes) sc));
+    own = subst (λ ps. AllWrite (im.number n) ps sc) (sym (words-are h.word name w h.alone.writes made.writes h.own h.all))
+        (subst (λ k. AllWrite k (word_pieces name (word_guard h.word) (word_sel h.word) (inners h.alone.writes)) sc) shown.number
+        (words-write name (word_guard h.word) (word_sel h.word) (inners h.alone.writes) sc));
   }
 
-pub lowers-in-memory : (names : NameMap) (fs : List Function) (hs : List Helper) (n : ℕ) (t : SvType) (i e : Expr) (made : Targets) → IsInWord names fs hs n t i e made → (xs : List Indexing) (part : Bool)
+lowers-in-memory : (names : NameMap) (fs : List Function) (hs : List Helper) (n : ℕ) (t : SvType) (i e : Expr) (made : Targets) → IsInWord names fs hs n t i e made → (xs : List Indexing) (part : Bool)
     → IsTypedPath n t e xs part → (meaning e).misfits ≡ 0 → LowersInMemory names fs hs n t e made
 lowers-in-memory names fs hs n t i e made h xs part path typed im a sc distinct memory all helps = stands-in-memory names fs hs n t i e made h xs part path typed im a sc distinct memory all helps
 
 -- where it is typed
 pub lowers-memory : (names : NameMap) (fs : List Function) (hs : List Helper) (n : ℕ) (t : SvType) (i e : Expr) (made : Targets) → IsInWord names fs hs n t i e made → IsTyped e → (meaning e).misfits ≡ 0
-    → LowersMemory names fs hs e made
+    → LowersInMemory names fs hs n t e made
 lowers-memory names fs hs n t i e made h typed fits =
     let on = stands-on-signal n t i e h.inner h.is_inner typed.number typed.of typed.indices typed.part typed.path in
     let path : IsTypedPath n t e typed.indices typed.part =
     subst (λ k. IsTypedPath k t e typed.indices typed.part) (sym on.number) (subst (λ u. IsTypedPath typed.number u e typed.indices typed.part) (sym on.type) typed.path) in
-    record { signal = n; of = t; lowers = lowers-in-memory names fs hs n t i e made h typed.indices typed.part path fits }
+    lowers-in-memory names fs hs n t i e made h typed.indices typed.part path fits
 
 -- the word of an index as it is given
-pub word-for : (names : NameMap) (fs : List Function) (hs : List Helper) (t : SvType) (i : Expr) (part : Bool) (g : Given) (w : Word) → IsMade names fs hs (record { index = i; in_part = part }) g → WordOf t g w
-    → IsWordFor names fs hs t i w
-word-for names fs hs t i part (G.Known k) (W.Known x) h is = (k, h.stands, is)
-word-for names fs hs t i part (G.Known k) (W.Lowered r) h is = absurd is
-word-for names fs hs t i part (G.Lowered x d) (W.Known y) h is = absurd is
-word-for names fs hs t i part (G.Lowered x d) (W.Lowered r) h is = (x, h.stands.0, is.0, is.1)
+pub word-for : (names : NameMap) (fs : List Function) (hs : List Helper) (t : SvType) (i : Expr) (g : Given) (w : Word) → StandsForIndex names fs hs i g → WordOf t g w → IsWordFor names fs hs t i w
+word-for names fs hs t i (G.Known k) (W.Known x) h is = (k, h, is)
+word-for names fs hs t i (G.Known k) (W.Lowered r) h is = absurd is
+word-for names fs hs t i (G.Lowered x d) (W.Known y) h is = absurd is
+word-for names fs hs t i (G.Lowered x d) (W.Lowered r) h is = (x, h.0, is.0, is.1)

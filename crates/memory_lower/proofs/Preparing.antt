@@ -3,21 +3,22 @@ use Rattle.std.proofs.Common.{◌≡◌, ℕ, ◌≤◌, ◌<◌, Bool, ℤ, Lis
 use Rattle.sv_types.specs.declared.expression.Expr.{Expr}
 use Rattle.sv_types.specs.declared.types.SvType.{SvType}
 use Rattle.sv_types.specs.Layouts.{Layout, layout, width_of}
-use Rattle.sv_types.specs.Surroundings.{Parameter}
+use Rattle.sv_types.specs.Surroundings.{Parameter, local_number}
 use Rattle.sv_types.specs.Meanings as S
 use Rattle.sv_types.specs.Paths as P
 use Rattle.sv_types.specs.Expressions.{meaning}
 use Rattle.sv_types.proofs.Heads.{heads}
 use Rattle.eval_parts.specs.Limits.{FitsAlone}
 use Rattle.eval_parts.proofs.Selecting.{same-Local, same-Member, same-Index, same-Part, same-Slide}
+use Rattle.typed_paths.specs.Typed.{IsTypedPath, IsTyped}
 use Rattle.typed_paths.proofs.Narrowing.{own-narrow}
 use Rattle.expr_lower.specs.Leaves.{Leaf, Locals, onto, indexed, leaves, Each, IsLowered}
 use Rattle.expr_lower.proofs.AskedLeaves.{leaves-Local, leaves-Member, leaves-Index, leaves-Part, leaves-Slide}
 use Rattle.target_lower.proofs.Parting.{from-Member, from-Index, at-Index, from-Part, from-Slide, at-Slide}
 use Rattle.memory_paths.specs.Inner.{IsInner, of_element, of_member, of_index, of_part, of_slide}
-use Rattle.memory_paths.proofs.Inner.{inner-typed, same-wide}
+use Rattle.memory_paths.proofs.Inner.{inner-path, inner-typed, same-wide}
 use Rattle.memory_lower.specs.Made.{CanBeLowered}
-use Rattle.memory_lower.proofs.Inside.{both-each}
+use Rattle.memory_lower.proofs.Inside.{both-each, stands-on-signal}
 
 own-wide : (e : Expr) → S.wide (meaning e) ≡ width_of e.of
 own-wide e = ap (λ (l : Layout). length l.two_state) (heads e).kind
@@ -156,8 +157,16 @@ module _ (n : ℕ) (t : SvType) (i : Expr) (fs : ℕ → List Parameter) where
         some = r.some;
       }
 
-  pub can-be-lowered : (e d : Expr) → IsInner n t i e d → Each IsLowered (leaves e) → FitsAlone (meaning e) fs → CanBeLowered t i fs d
-  can-be-lowered e d h built fits =
+  inner-is-typed : (e d : Expr) → IsInner n t i e d → IsTyped e → IsTyped d
+  inner-is-typed e d h typed =
+      let on = stands-on-signal n t i e d h typed.number typed.of typed.indices typed.part typed.path in
+      let same : IsTypedPath n t e typed.indices typed.part =
+      subst (λ k. IsTypedPath k t e typed.indices typed.part) (sym on.number) (subst (λ u. IsTypedPath typed.number u e typed.indices typed.part) (sym on.type) typed.path) in
+      let r = inner-path n t i e d h typed.indices typed.part same in
+      record { number = local_number 0; of = r.of; indices = r.indices; part = typed.part; path = r.path }
+
+  pub can-be-lowered : (e d : Expr) → IsInner n t i e d → Each IsLowered (leaves e) → FitsAlone (meaning e) fs → IsTyped e → CanBeLowered t i fs d
+  can-be-lowered e d h built fits typed =
       let r = prepared e d h built fits in
       record {
         index_built = r.index_built;
@@ -165,6 +174,7 @@ module _ (n : ℕ) (t : SvType) (i : Expr) (fs : ℕ → List Parameter) where
         short = r.short;
         narrow = r.narrow;
         some = r.some;
+        typed = inner-is-typed e d h typed;
         built = subst (Each IsLowered) (sym r.is) (tt, r.built);
         fits = record {
           some = subst (λ k. 0 < k) (sym (same-wide n t i e d h)) fits.some;

@@ -1,3 +1,4 @@
 pub mod Lowered
 pub mod Made
 pub mod Named
+pub mod Written

@@ -1,6 +1,6 @@
 -- What targets for a path on an element of a signal promise, where the signal is a memory in the text (IEEE 1800-2017 clauses 10.4
 -- and 11.5.1, IEEE 1364-2005 clause 4.9).
-use Rattle.std.specs.Prelude.{◌≡◌, ℕ, ◌≤◌, ◌<◌, ◌^◌, true, ℤ, List, [], ◌∷◌, ◌++◌, length, Option}
+use Rattle.std.specs.Prelude.{◌≡◌, ℕ, true, ℤ, List, [], ◌∷◌, ◌++◌, length, Option, Some}
 use Rattle.row_machine.specs.Valuation.{Valuation}
 use Rattle.sv_types.specs.declared.expression.Expr.{Expr}
 use Rattle.sv_types.specs.declared.statement.Function.{Function}
@@ -20,14 +20,13 @@ use Rattle.path_flatten.specs.declared.offsets.Index.{Index}
 use Rattle.path_flatten.specs.Helping.{EachHelps}
 use Rattle.path_flatten.specs.Naming.{SameNumbers}
 use Rattle.path_steps.specs.Known.{IsKnown}
-use Rattle.target_flatten.specs.declared.writes.Image.{Image}
 use Rattle.target_flatten.specs.declared.writes.Write.{Write}
 use Rattle.target_flatten.specs.Owning.{AllOwn, AllWrite}
 use Rattle.target_flatten.specs.Writing.{pieces}
-use Rattle.target_walk.specs.declared.given.Given.{Given}
 use Rattle.target_walk.specs.declared.never.Targets.{Targets}
-use Rattle.target_walk.specs.Naming.{FlattensIn, target_names, apart_names}
-use Rattle.target_walk.specs.Rooms.{MakesRoom}
+use Rattle.target_walk.specs.Naming.{target_names, apart_names}
+use Rattle.case_targets.specs.declared.indices.PathIndex.{PathIndex}
+use Rattle.case_targets.specs.Naming.{SpreadsTo}
 use Rattle.expr_lower.specs.Leaves.{leaves, Each}
 use Rattle.expr_lower.specs.Lowering.{LeafStands}
 use Rattle.expr_lower.specs.Named.{signal_name, is_memory}
@@ -41,12 +40,13 @@ use Rattle.memory_targets.specs.declared.words.Word.TheVariants as W
 use Rattle.memory_targets.specs.Names.{word_names}
 use Rattle.memory_targets.specs.Pieces.{AllInWord}
 
--- On all valuations that agree, they write to the words of the signal's image each bit that a write through the path does, with its
+-- The path stands on the signal. On all valuations that agree, they write to the words of the signal's image each bit that a write through the path does, with its
 -- bit of the value, and no other bit; so images change as signals do by an assignment to the path. They, and an expression apart, name
 -- the images of what its indices name, all of them and no other. Each of them writes that image alone.
 pub record StandsInMemory (im : Images) (a : Around) (sc : Scope) (n : ℕ) (of : Layout) (e : S.Meaning) (x : Targets) : Type 0 where
   pub writes : (now v : Valuation) → Agree im now v → IsWrittenInWords of (e.window (record a { now = now })) (S.wide e) (im.number n) (pieces x.writes) sc v
   pub changes : (now v : Valuation) → Agree im now v → HasPieces im e (pieces x.writes) (record a { now = now }) sc v
+  pub root : e.root ≡ Some n
   pub names : AreImages im.number e.index_names (target_names x sc)
   pub own : AllWrite (im.number n) (pieces x.writes) sc
 
@@ -66,23 +66,16 @@ abbrev pub NamedInWord : Word → List Write → Option VExpr → Option VExpr �
 NamedInWord w [] old new = (sc : Scope) → SameNumbers (word_names w sc ++ apart_names old sc) (apart_names new sc)
 NamedInWord w (x ∷ xs) old new = new ≡ old
 
--- targets for the path in the element alone, in a vector of its bits, and those in the word
+-- targets for the path in the element alone, in a vector of its bits that has the signal's name, and those in the word
 pub record IsInWord (names : NameMap) (fs : List Function) (hs : List Helper) (n : ℕ) (t : SvType) (i e : Expr) (made : Targets) : Type 0 where
   pub inner : Expr
   pub is_inner : IsInner n t i e inner
   pub word : Word
   pub is_word : IsWordFor names fs hs t i word
-  pub given : List Given
-  pub puts : PutsIndices names fs hs inner [] given
-  pub image : Image
-  pub named : image.name ≡ signal_name names.signals n
-  pub bits : image.bits ≡ length (layout t).element.two_state
-  pub narrow : image.bits ≤ 4194304
-  pub room : MakesRoom inner given image.room
-  pub enough : image.bits < 2 ^ image.room
-  pub some : 1 ≤ image.room
+  pub indices : List PathIndex
+  pub puts : PutsIndices names fs hs inner [] indices
   pub alone : Targets
-  pub flattens : FlattensIn image inner given alone
-  pub own : AllOwn image.name image.bits alone.writes
+  pub spreads : SpreadsTo (length (layout t).element.two_state) inner indices alone
+  pub own : AllOwn (signal_name names.signals n) (length (layout t).element.two_state) alone.writes
   pub all : AllInWord word alone.writes made.writes
   pub apart : NamedInWord word alone.writes alone.named made.named

@@ -3,18 +3,19 @@
 ghost use Rattle.std.specs.Prelude.{◌≤◌, IfOk};
 ghost use Rattle.sv_types.specs.Expressions.{meaning};
 ghost use Rattle.sv_types.specs.Layouts.{width_of};
-ghost use Rattle.target_walk.specs.Giving.{AllSmall, IsSmall};
+ghost use Rattle.target_walk.specs.Giving.{IsSmall};
+ghost use Rattle.case_targets.specs.Spreading.{AllShort, IsShaped};
 ghost use Rattle.memory_lower.specs.Made.{WordOf, IsAloneFor, IsPutInWord, IsInWordFor};
 
 use crate::apart::with_word;
+use case_targets::{PathIndex, spread_target};
 use eval_parts::bounds_of;
 use memory_targets::{Word, in_words};
 use memory_words::{known_word, word_of};
 use std::alloc::{AllocError, Global};
 use sv_types::{Expr, SvType};
-use target_flatten::Image;
 use target_lower::signal_text;
-use target_walk::{Given, Targets, flatten_target, room_of};
+use target_walk::{Given, Targets};
 use v_tree::NameMap;
 
 /// The word of an index of what has a type.
@@ -40,21 +41,16 @@ fn targets_alone(
     signal: u32,
     of: &SvType,
     inner: &Expr,
-    indices: &[Given],
+    indices: &[PathIndex],
 ) -> Result<Targets, AllocError>
     requires narrow { (meaning inner.now).widest ≤ 4194304 }
     requires of { width_of of.now ≤ 4194304 }
-    requires small { AllSmall indices.now }
+    requires shaped { IsShaped inner.now indices.now }
+    requires short { AllShort indices.now }
     ensures { IfOk result (IsAloneFor names.now signal of.now inner.now indices.now) }
 {
     let name = signal_text(alloc, names.signals.as_slice(), signal)?;
-    let bits = bounds_of(of).element;
-    let image = Image {
-        name,
-        bits,
-        room: room_of(inner, indices, bits),
-    };
-    flatten_target(alloc, &image, inner, indices)
+    spread_target(alloc, &name, bounds_of(of).element, inner, indices)
 }
 
 /// Targets in a word, of those in the element alone.
@@ -81,11 +77,12 @@ pub(crate) fn word_targets(
     of: &SvType,
     inner: &Expr,
     word: &Word,
-    indices: &[Given],
+    indices: &[PathIndex],
 ) -> Result<Targets, AllocError>
     requires narrow { (meaning inner.now).widest ≤ 4194304 }
     requires of { width_of of.now ≤ 4194304 }
-    requires small { AllSmall indices.now }
+    requires shaped { IsShaped inner.now indices.now }
+    requires short { AllShort indices.now }
     ensures { IfOk result (IsInWordFor names.now signal of.now inner.now word.now indices.now) }
 {
     let alone = targets_alone(alloc, names, signal, of, inner, indices)?;

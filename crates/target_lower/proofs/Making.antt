@@ -1,5 +1,5 @@
 -- What is made of indices stands for them.
-use Rattle.std.proofs.Common.{◌≡◌, ℕ, ◌≤◌, Bool, false, ℤ, pos, ◌+ℤ◌, List, [], ◌∷◌, Option, Some, None, refl, arith, ap, sym, ◌∙◌, subst}
+use Rattle.std.proofs.Common.{◌≡◌, ℕ, ◌≤◌, Bool, true, false, ℤ, pos, ◌+ℤ◌, List, [], ◌∷◌, Option, Some, None, refl, arith, ap, sym, ◌∙◌, subst}
 use Rattle.std.proofs.lemmas.Int.{ints}
 use Rattle.row_machine.specs.Valuation.{Valuation}
 use Rattle.sv_types.specs.declared.expression.Expr.{Expr}
@@ -23,18 +23,21 @@ use Rattle.path_flatten.specs.declared.offsets.Index.{Index}
 use Rattle.path_flatten.specs.Helping.{EachHelps, Grows}
 use Rattle.path_flatten.specs.Sliding.{IsIndexOf}
 use Rattle.path_flatten.proofs.Helping.{helps-before}
-use Rattle.target_lower.specs.Given.{Pairwise, IsGivenFor, NamesAs, AreGivenFor, AllNameAs}
-use Rattle.typed_paths.specs.Typed.{Indexing, IsTypedPath, of_signal, of_local, of_member, of_index, of_part, of_slide}
+use Rattle.target_lower.specs.Given.{AllStandFor, NamesAs, AllNameAs}
+use Rattle.typed_paths.specs.Typed.{Indexing, IsTypedPath, IsTyped, of_signal, of_local, of_member, of_index, of_part, of_slide}
 use Rattle.typed_paths.proofs.Marking.{part-marks}
 use Rattle.target_laws.specs.Distances.{moved_by}
 use Rattle.target_walk.specs.declared.given.Given.{Given}
 use Rattle.target_walk.specs.declared.given.Given.TheVariants as G
-use Rattle.target_walk.specs.Giving.{IsGiven, given_names}
+use Rattle.target_walk.specs.Giving.{IsGiven, IsSmall, given_names}
+use Rattle.case_targets.specs.declared.indices.PathIndex.{PathIndex}
+use Rattle.case_targets.specs.declared.indices.PathIndex.TheVariants as I
+use Rattle.case_targets.specs.Spreading.{Pairwise, HasWidth, IsShort, AllShort, IsShaped, StandsFor}
 use Rattle.expr_lower.specs.Leaves.{Leaf, leaves, Each}
 use Rattle.expr_lower.specs.Lowering.{LeafStands}
 use Rattle.expr_lower.specs.Paths.{Indexes}
 use Rattle.expr_lower.proofs.AskedLeaves.{each-left, each-right}
-use Rattle.target_lower.specs.Made.{StandsForIndex, IsMade, AreMade}
+use Rattle.target_lower.specs.Made.{StandsForIndex, GivenFor, path_index, IsMade, AreMade, PutsIndices}
 use Rattle.target_lower.specs.Roots.{index_leaves}
 
 -- more helpers
@@ -45,8 +48,23 @@ stands-more : (names : NameMap) (fs : List Function) (old new : List Helper) (i 
 stands-more names fs old new i (G.Known k) grows h = h
 stands-more names fs old new i (G.Lowered x d) grows h = (indexes-more names fs old new i x grows h.0, h.1)
 
-pub made-more : (names : NameMap) (fs : List Function) (old new : List Helper) (x : Indexing) (g : Given) → Grows old new → IsMade names fs old x g → IsMade names fs new x g
-made-more names fs old new x g grows h = record { stands = stands-more names fs old new x.index g grows h.stands; known_in = h.known_in }
+pub given-more : (names : NameMap) (fs : List Function) (old new : List Helper) (i : Expr) (g : Given) → Grows old new → GivenFor names fs old i g → GivenFor names fs new i g
+given-more names fs old new i g grows h = (stands-more names fs old new i g grows h.0, h.1)
+
+pub made-more : (names : NameMap) (fs : List Function) (old new : List Helper) (x : Indexing) (p : PathIndex) → Grows old new → IsMade names fs old x p → IsMade names fs new x p
+made-more names fs old new x (I.Plain g) grows h = (stands-more names fs old new x.index g grows h.0, h.1)
+made-more names fs old new x (I.InPart i) grows h = indexes-more names fs old new x.index i grows h
+
+-- an index as one of a path
+pub index-made : (names : NameMap) (fs : List Function) (hs : List Helper) (i : Expr) (part : Bool) (g : Given) → GivenFor names fs hs i g → IsMade names fs hs (record { index = i; in_part = part }) (path_index part g)
+index-made names fs hs i part (G.Known k) h = (h.0, tt)
+index-made names fs hs i true (G.Lowered x d) h = h.0.0
+index-made names fs hs i false (G.Lowered x d) h = (h.0, tt)
+
+pub index-short : (part : Bool) (g : Given) → IsSmall g → IsShort (path_index part g)
+index-short part (G.Known k) h = h
+index-short true (G.Lowered x d) h = h.0
+index-short false (G.Lowered x d) h = h
 
 -- one index
 module _ (names : NameMap) (fs : List Function) (hs : List Helper) (im : Images) (a : Around) (sc : Scope) (helps : EachHelps hs sc) where
@@ -81,43 +99,76 @@ module _ (names : NameMap) (fs : List Function) (hs : List Helper) (im : Images)
   given-named i (G.Known k) all h = subst (λ l. AreImages im.number l []) (sym h.none) no-images
   given-named i (G.Lowered x d) all h = (h.0.lowers im a sc all helps).names
 
+  one-stands : (now v : Valuation) → Agree im now v → (x : Indexing) (p : PathIndex) → (meaning x.index).misfits ≡ 0 → Each (LeafStands names fs im a sc) (leaves x.index) → IsMade names fs hs x p
+      → StandsFor (record a { now = now }) sc v x p
+  one-stands now v agree x (I.Plain g) typed all h = (given-number x.index g typed all h.0 now v agree, h.1)
+  one-stands now v agree x (I.InPart i) typed all h = index-of x.index i h (has-bits x.index typed) all now v agree
+
+  one-named : (x : Indexing) (p : PathIndex) → Each (LeafStands names fs im a sc) (leaves x.index) → IsMade names fs hs x p → NamesAs im.number sc x p
+  one-named x (I.Plain g) all h = given-named x.index g all h.0
+  one-named x (I.InPart i) all h = (h.lowers im a sc all helps).names
+
 -- all indices of a path, one by one
-module _ (L : Leaf → Type 0) (Made Wanted : Indexing → Given → Type 0)
-    (makes : (x : Indexing) (g : Given) → (meaning x.index).misfits ≡ 0 → Each L (leaves x.index) → Made x g → Wanted x g) (number : ℕ) (t : SvType) where
+module _ (L : Leaf → Type 0) (Made Wanted : Indexing → PathIndex → Type 0)
+    (makes : (x : Indexing) (p : PathIndex) → (meaning x.index).misfits ≡ 0 → Each L (leaves x.index) → Made x p → Wanted x p) (number : ℕ) (t : SvType) where
   misfits-at : (e : Expr) (m : S.Meaning) → meaning e ≡ m → (meaning e).misfits ≡ 0 → m.misfits ≡ 0
   misfits-at e m same typed = ap (λ (x : S.Meaning). x.misfits) (sym same) ∙ typed
 
-  all-made : (e : Expr) (xs : List Indexing) (part : Bool) (gs : List Given) → IsTypedPath number t e xs part → (meaning e).misfits ≡ 0 → Each L (index_leaves xs) → Pairwise Made xs gs → Pairwise Wanted xs gs
+  all-made : (e : Expr) (xs : List Indexing) (part : Bool) (ps : List PathIndex) → IsTypedPath number t e xs part → (meaning e).misfits ≡ 0 → Each L (index_leaves xs) → Pairwise Made xs ps → Pairwise Wanted xs ps
   all-made e xs part [] (of_signal y n is it of) typed all made = tt
-  all-made e xs part (g ∷ gs) (of_signal y n is it of) typed all made = absurd made
+  all-made e xs part (p ∷ ps) (of_signal y n is it of) typed all made = absurd made
   all-made e xs part [] (of_local y n is it of) typed all made = tt
-  all-made e xs part (g ∷ gs) (of_local y n is it of) typed all made = absurd made
-  all-made e xs part gs (of_member y from k ys is path) typed all made =
+  all-made e xs part (p ∷ ps) (of_local y n is it of) typed all made = absurd made
+  all-made e xs part ps (of_member y from k ys is path) typed all made =
       let below = (member-typed (layout y.of) y.spot.at (meaning from) k (misfits-at y _ (same-Member y from k is) typed)).step.typed_from in
-      all-made from ys false gs path below all made
+      all-made from ys false ps path below all made
   all-made e xs part [] (of_index y from i ys b is has path) typed all made = absurd made
-  all-made e xs part (g ∷ gs) (of_index y from i ys b is has path) typed all made =
+  all-made e xs part (p ∷ ps) (of_index y from i ys b is has path) typed all made =
       let own = index-typed (layout y.of) y.spot.at (meaning from) (meaning i) (misfits-at y _ (same-Index y from i is) typed) in
-      (makes (record { index = i; in_part = b }) g own.1 (each-right L (index_leaves ys) (leaves i) all) made.0, all-made from ys b gs path own.0.typed_from (each-left L (index_leaves ys) (leaves i) all) made.1)
-  all-made e xs part gs (of_part y from left right ys b is has bounds path) typed all made =
+      (makes (record { index = i; in_part = b }) p own.1 (each-right L (index_leaves ys) (leaves i) all) made.0, all-made from ys b ps path own.0.typed_from (each-left L (index_leaves ys) (leaves i) all) made.1)
+  all-made e xs part ps (of_part y from left right ys b is has bounds path) typed all made =
       let below = (part-marks (layout y.of) y.spot.at (meaning from) left right (misfits-at y _ (same-Part y from left right is) typed)).typed in
-      all-made from ys b gs path below all made
+      all-made from ys b ps path below all made
   all-made e xs part [] (of_slide y from i n up ys b is has bounds path) typed all made = absurd made
-  all-made e xs part (g ∷ gs) (of_slide y from i n up ys b is has bounds path) typed all made =
+  all-made e xs part (p ∷ ps) (of_slide y from i n up ys b is has bounds path) typed all made =
       let own = sliding-typed (layout y.of) y.spot.at (meaning from) (meaning i) n up (misfits-at y _ (same-Slide y from i n up is) typed) in
-      (makes (record { index = i; in_part = b }) g own.1 (each-right L (index_leaves ys) (leaves i) all) made.0, all-made from ys b gs path own.0.typed_from (each-left L (index_leaves ys) (leaves i) all) made.1)
+      (makes (record { index = i; in_part = b }) p own.1 (each-right L (index_leaves ys) (leaves i) all) made.0, all-made from ys b ps path own.0.typed_from (each-left L (index_leaves ys) (leaves i) all) made.1)
 
 module _ (names : NameMap) (fs : List Function) (hs : List Helper) (im : Images) (a : Around) (sc : Scope) (helps : EachHelps hs sc) (number : ℕ) (t : SvType) (e : Expr) (xs : List Indexing) (part : Bool)
-    (gs : List Given) (path : IsTypedPath number t e xs part) (typed : (meaning e).misfits ≡ 0) (all : Each (LeafStands names fs im a sc) (index_leaves xs)) (made : AreMade names fs hs xs gs) where
-  -- they have their numbers
-  pub made-given : (now v : Valuation) → Agree im now v → AreGivenFor xs gs (record a { now = now }) sc v
-  made-given now v agree =
-      all-made (LeafStands names fs im a sc) (IsMade names fs hs) (λ x g. IsGivenFor x g (record a { now = now }) sc v)
-      (λ x g fits own h. record { number = given-number names fs hs im a sc helps x.index g fits own h.stands now v agree; known_in = h.known_in })
-      number t e xs part gs path typed all made
+    (ps : List PathIndex) (path : IsTypedPath number t e xs part) (typed : (meaning e).misfits ≡ 0) (all : Each (LeafStands names fs im a sc) (index_leaves xs)) (made : AreMade names fs hs xs ps) where
+  -- they stand for the path's indices
+  pub made-stand : (now v : Valuation) → Agree im now v → AllStandFor xs ps (record a { now = now }) sc v
+  made-stand now v agree =
+      all-made (LeafStands names fs im a sc) (IsMade names fs hs) (StandsFor (record a { now = now }) sc v) (one-stands names fs hs im a sc helps now v agree)
+      number t e xs part ps path typed all made
 
   -- and name what they name
-  pub made-named : AllNameAs im.number xs gs sc
+  pub made-named : AllNameAs im.number xs ps sc
   made-named =
-      all-made (LeafStands names fs im a sc) (IsMade names fs hs) (λ x g. NamesAs im.number x g sc)
-      (λ x g fits own h. given-named names fs hs im a sc helps x.index g own h.stands) number t e xs part gs path typed all made
+      all-made (LeafStands names fs im a sc) (IsMade names fs hs) (NamesAs im.number sc) (λ x p fits own h. one-named names fs hs im a sc helps x p own h)
+      number t e xs part ps path typed all made
+
+-- a lowered index has the bits of the path's one
+one-wide : (names : NameMap) (fs : List Function) (hs : List Helper) (x : Indexing) (p : PathIndex) → IsMade names fs hs x p → HasWidth x p
+one-wide names fs hs x (I.Plain g) h = tt
+one-wide names fs hs x (I.InPart i) h = h.width
+
+pairs-more : (P Q : Indexing → PathIndex → Type 0) → ((x : Indexing) (p : PathIndex) → P x p → Q x p) → (xs : List Indexing) (ps : List PathIndex) → Pairwise P xs ps → Pairwise Q xs ps
+pairs-more P Q more [] [] h = tt
+pairs-more P Q more [] (p ∷ ps) h = absurd h
+pairs-more P Q more (x ∷ xs) [] h = absurd h
+pairs-more P Q more (x ∷ xs) (p ∷ ps) h = (more x p h.0, pairs-more P Q more xs ps h.1)
+
+pub made-shaped : (names : NameMap) (fs : List Function) (hs : List Helper) (e : Expr) (ps : List PathIndex) → IsTyped e → PutsIndices names fs hs e [] ps → IsShaped e ps
+made-shaped names fs hs e ps typed puts = record {
+  number = typed.number;
+  of = typed.of;
+  indices = typed.indices;
+  part = typed.part;
+  path = typed.path;
+  widths = subst (Pairwise HasWidth typed.indices) (sym puts.is)
+      (pairs-more (IsMade names fs hs) HasWidth (one-wide names fs hs) typed.indices puts.indices (puts.made typed.number typed.of typed.indices typed.part typed.path));
+}
+
+pub made-short : (names : NameMap) (fs : List Function) (hs : List Helper) (e : Expr) (ps : List PathIndex) → PutsIndices names fs hs e [] ps → AllShort ps
+made-short names fs hs e ps puts = subst AllShort (sym puts.is) puts.short

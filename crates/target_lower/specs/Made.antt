@@ -1,64 +1,52 @@
 -- What is made of the indices of a select path that is written.
-use Rattle.std.specs.Prelude.{◌≡◌, ◌⊎◌, ℕ, pos, Bool, true, false, List, [], ◌∷◌, ◌++◌, Option, Some, None}
+use Rattle.std.specs.Prelude.{◌≡◌, ℕ, pos, Bool, cond, List, [], ◌∷◌, ◌++◌}
 use Rattle.sv_types.specs.declared.expression.Expr.{Expr}
 use Rattle.sv_types.specs.declared.statement.Function.{Function}
 use Rattle.sv_types.specs.declared.types.SvType.{SvType}
 use Rattle.v_tree.specs.declared.names.Helper.{Helper}
 use Rattle.v_tree.specs.declared.names.NameMap.{NameMap}
 use Rattle.expr_lower.specs.Paths.{Indexes}
-use Rattle.target_lower.specs.Given.{Pairwise}
 use Rattle.typed_paths.specs.Typed.{Indexing, IsTypedPath}
 use Rattle.path_steps.specs.Known.{IsKnown}
 use Rattle.target_walk.specs.declared.given.Given.{Given}
 use Rattle.target_walk.specs.declared.given.Given.TheVariants as G
-use Rattle.target_walk.specs.Giving.{IsSmall, AllSmall}
+use Rattle.target_walk.specs.Giving.{IsSmall}
 use Rattle.target_walk.specs.Rooms.{IsKnownIn}
+use Rattle.case_targets.specs.declared.indices.PathIndex.{PathIndex}
+use Rattle.case_targets.specs.declared.indices.PathIndex.TheVariants as I
+use Rattle.case_targets.specs.Spreading.{Pairwise, IsShort, AllShort}
 
 -- an index by its number, or as it is lowered alone
 abbrev pub StandsForIndex : NameMap → List Function → List Helper → Expr → Given → Type 0
 StandsForIndex names fs hs i (G.Known k) = IsKnown i k
 StandsForIndex names fs hs i (G.Lowered x d) = Indexes names fs hs i x × (d ≡ pos 0)
 
--- so it is for an index of a path; one that selects from a part-select is known
-pub record IsMade (names : NameMap) (fs : List Function) (hs : List Helper) (x : Indexing) (g : Given) : Type 0 where
-  pub stands : StandsForIndex names fs hs x.index g
-  pub known_in : IsKnownIn x.in_part g
+abbrev pub GivenFor : NameMap → List Function → List Helper → Expr → Given → Type 0
+GivenFor names fs hs i g = StandsForIndex names fs hs i g × IsSmall g
 
-abbrev pub AreMade : NameMap → List Function → List Helper → List Indexing → List Given → Type 0
-AreMade names fs hs xs gs = Pairwise (IsMade names fs hs) xs gs
+-- as one of a path, of which one that is lowered stands for itself where it selects from a part-select
+abbrev pub path_index : Bool → Given → PathIndex
+path_index in_part (G.Known k) = I.Plain (G.Known k)
+path_index in_part (G.Lowered x d) = cond in_part (I.InPart x) (I.Plain (G.Lowered x d))
 
--- one that selects from a part-select or not; nothing is made of one that does only
-abbrev pub MadeFor : NameMap → List Function → List Helper → Expr → Bool → Given → Type 0
-MadeFor names fs hs i in_part g = IsMade names fs hs (record { index = i; in_part = in_part }) g × IsSmall g
+-- so it is for an index of a path; one that selects from a part-select is known, or stands for itself
+abbrev pub IsMade : NameMap → List Function → List Helper → Indexing → PathIndex → Type 0
+IsMade names fs hs x (I.Plain g) = StandsForIndex names fs hs x.index g × IsKnownIn x.in_part g
+IsMade names fs hs x (I.InPart i) = Indexes names fs hs x.index i
 
-abbrev pub MadeIf : NameMap → List Function → List Helper → Expr → Bool → Option Given → Type 0
-MadeIf names fs hs i in_part None = in_part ≡ true
-MadeIf names fs hs i in_part (Some g) = MadeFor names fs hs i in_part g
+abbrev pub AreMade : NameMap → List Function → List Helper → List Indexing → List PathIndex → Type 0
+AreMade names fs hs xs ps = Pairwise (IsMade names fs hs) xs ps
 
 -- it is put behind others
-pub record PutsIndex (names : NameMap) (fs : List Function) (hs : List Helper) (i : Expr) (in_part : Bool) (old new : List Given) : Type 0 where
-  pub given : Given
-  pub is : new ≡ old ++ given ∷ []
-  pub made : MadeFor names fs hs i in_part given
+pub record PutsIndex (names : NameMap) (fs : List Function) (hs : List Helper) (i : Expr) (in_part : Bool) (old new : List PathIndex) : Type 0 where
+  pub index : PathIndex
+  pub is : new ≡ old ++ index ∷ []
+  pub made : IsMade names fs hs (record { index = i; in_part = in_part }) index
+  pub short : IsShort index
 
-abbrev pub PutsIndexIf : NameMap → List Function → List Helper → Expr → Bool → List Given → List Given → Bool → Type 0
-PutsIndexIf names fs hs i in_part old new true = PutsIndex names fs hs i in_part old new
-PutsIndexIf names fs hs i in_part old new false = in_part ≡ true
-
--- those of a typed path are, or one of them selects from a part-select
-pub record PutsIndices (names : NameMap) (fs : List Function) (hs : List Helper) (e : Expr) (old new : List Given) : Type 0 where
-  pub given : List Given
-  pub is : new ≡ old ++ given
-  pub made : (number : ℕ) (t : SvType) (xs : List Indexing) (part : Bool) → IsTypedPath number t e xs part → AreMade names fs hs xs given
-  pub small : AllSmall given
-
-abbrev pub SomeInPart : List Indexing → Type 0
-SomeInPart [] = ⊥
-SomeInPart (x ∷ xs) = (x.in_part ≡ true) ⊎ SomeInPart xs
-
-abbrev pub SelectsInPart : Expr → Type 0
-SelectsInPart e = (number : ℕ) (t : SvType) (xs : List Indexing) (part : Bool) → IsTypedPath number t e xs part → SomeInPart xs
-
-abbrev pub PutsIf : NameMap → List Function → List Helper → Expr → List Given → List Given → Bool → Type 0
-PutsIf names fs hs e old new true = PutsIndices names fs hs e old new
-PutsIf names fs hs e old new false = SelectsInPart e
+-- and so are those of a typed path
+pub record PutsIndices (names : NameMap) (fs : List Function) (hs : List Helper) (e : Expr) (old new : List PathIndex) : Type 0 where
+  pub indices : List PathIndex
+  pub is : new ≡ old ++ indices
+  pub made : (number : ℕ) (t : SvType) (xs : List Indexing) (part : Bool) → IsTypedPath number t e xs part → AreMade names fs hs xs indices
+  pub short : AllShort indices

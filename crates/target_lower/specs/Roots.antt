@@ -1,26 +1,18 @@
 -- What a select path that is written stands on, and its image.
-use Rattle.std.specs.Prelude.{◌≡◌, ◌⊎◌, ℕ, ◌≤◌, ◌<◌, ◌^◌, Bool, false, List, [], ◌∷◌, ◌++◌}
+use Rattle.std.specs.Prelude.{◌≡◌, ◌⊎◌, ℕ, Bool, List, [], ◌∷◌, ◌++◌}
 use Rattle.sv_types.specs.declared.expression.Expr.{Expr}
-use Rattle.sv_types.specs.declared.statement.Function.{Function}
 use Rattle.sv_types.specs.declared.types.SvType.{SvType}
 use Rattle.sv_types.specs.Layouts.{Layout, layout, width_of}
-use Rattle.sv_types.specs.Surroundings.{Around, local_number}
+use Rattle.sv_types.specs.Surroundings.{local_number}
 use Rattle.v_tree.specs.Names.{Name}
 use Rattle.v_tree.specs.declared.names.NameMap.{NameMap}
-use Rattle.v_meaning.specs.Scopes.{Scope}
-use Rattle.lowering_laws.specs.Agreeing.{Images}
 use Rattle.expr_lower.specs.Leaves.{Leaf, Signals, Elements, Inside, Locals, leaves}
-use Rattle.expr_lower.specs.Lowering.{IsShown, LeafStands}
-use Rattle.expr_lower.specs.Named.{is_memory}
+use Rattle.expr_lower.specs.Named.{signal_name, local_name}
 use Rattle.typed_paths.specs.Typed.{Indexing, IsTypedPath}
-use Rattle.target_flatten.specs.declared.writes.Image.{Image}
-use Rattle.target_walk.specs.declared.given.Given.{Given}
-use Rattle.target_walk.specs.declared.never.Targets.{Targets}
-use Rattle.target_walk.specs.Changing.{ChangesAs}
-use Rattle.target_walk.specs.Naming.{FlattensTo}
 use Rattle.target_flatten.specs.Owning.{AllOwn}
-use Rattle.target_walk.specs.Owning.{BareOf}
-use Rattle.target_walk.specs.Rooms.{MakesRoom}
+use Rattle.target_walk.specs.declared.never.Targets.{Targets}
+use Rattle.case_targets.specs.declared.indices.PathIndex.{PathIndex}
+use Rattle.case_targets.specs.Naming.{SpreadsTo, BareOf}
 use Rattle.target_lower.specs.declared.roots.Held.{Held}
 use Rattle.target_lower.specs.declared.roots.Held.TheVariants as H
 use Rattle.target_lower.specs.declared.roots.Root.{Root}
@@ -53,23 +45,16 @@ pub record StandsOn (r : Root) (e : Expr) (number : ℕ) (t : SvType) (xs : List
 abbrev pub IsRootOf : Root → Expr → Type 0
 IsRootOf r e = (number : ℕ) (t : SvType) (xs : List Indexing) (part : Bool) → IsTypedPath number t e xs part → StandsOn r e number t xs
 
--- a name stands for it where the text has what the leaf needs, and it is no memory there
-abbrev pub IsNameOf : NameMap → Name → Held → Type 0
-IsNameOf names name held = (fs : List Function) (im : Images) (a : Around) (sc : Scope) (number : ℕ) (of : Layout) (leaf : Leaf) → IsUnder held number → IsRootLeaf of held leaf
-    → is_memory names.signals number ≡ false → LeafStands names fs im a sc leaf → IsShown name im sc number of
+-- the name under which it stands in the text
+abbrev pub name_under : NameMap → Held → Name
+name_under names H.Nothing = []
+name_under names (H.Signal n) = signal_name names.signals n
+name_under names (H.Local n) = local_name names.locals n
 
 -- targets for a path with these indices, in the image of what it stands on
-pub record IsInImage (names : NameMap) (e : Expr) (gs : List Given) (x : Targets) : Type 0 where
-  pub image : Image
+pub record IsInImage (names : NameMap) (e : Expr) (ps : List PathIndex) (x : Targets) : Type 0 where
   pub root : Root
   pub root_is : IsRootOf root e
-  pub named : IsNameOf names image.name root.held
-  pub bits : image.bits ≡ root.bits
-  pub narrow : image.bits ≤ 4194304
-  pub room : MakesRoom e gs image.room
-  pub enough : image.bits < 2 ^ image.room
-  pub some : 1 ≤ image.room
-  pub flattens : FlattensTo image e gs x
-  pub changes : ChangesAs image e gs x.writes
-  pub own : AllOwn image.name image.bits x.writes
-  pub bare : BareOf image gs x
+  pub spreads : SpreadsTo root.bits e ps x
+  pub own : AllOwn (name_under names root.held) root.bits x.writes
+  pub bare : BareOf (name_under names root.held) ps x

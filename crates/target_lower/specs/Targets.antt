@@ -1,5 +1,5 @@
 -- What the targets of a select path promise (IEEE 1800-2017 clauses 9.4.2.2, 10.4 and 11.5.1).
-use Rattle.std.specs.Prelude.{◌≡◌, ⊤, ℕ, false, List, [], Option, Some, None}
+use Rattle.std.specs.Prelude.{◌≡◌, ⊤, ℕ, false, List, [], ◌∷◌, Some}
 use Rattle.row_machine.specs.Valuation.{Valuation}
 use Rattle.sv_types.specs.declared.expression.Expr.{Expr}
 use Rattle.sv_types.specs.declared.statement.Function.{Function}
@@ -14,17 +14,18 @@ use Rattle.lowering_laws.specs.NamedImages.{AreImages}
 use Rattle.lowering_laws.specs.Reached.{IsWritten}
 use Rattle.lowering_laws.proofs.Changes.{HasPieces}
 use Rattle.path_flatten.specs.Helping.{EachHelps}
-use Rattle.target_flatten.specs.declared.writes.Image.{Image}
-use Rattle.target_flatten.specs.Owning.{AllWrite}
+use Rattle.target_flatten.specs.Owning.{AllOwn, AllWrite}
 use Rattle.target_flatten.specs.Writing.{pieces}
-use Rattle.target_walk.specs.declared.given.Given.{Given}
-use Rattle.target_walk.specs.Owning.{BareOf}
 use Rattle.target_walk.specs.declared.never.Targets.{Targets}
 use Rattle.target_walk.specs.Naming.{target_names}
-use Rattle.expr_lower.specs.Leaves.{leaves, Each}
+use Rattle.case_targets.specs.declared.indices.PathIndex.{PathIndex}
+use Rattle.case_targets.specs.Naming.{BareOf}
+use Rattle.expr_lower.specs.Leaves.{Leaf, Signals, Elements, Inside, Locals, Calls, Valued, Joined, Unlowered, leaves, Each}
 use Rattle.expr_lower.specs.Lowering.{LeafStands}
 use Rattle.expr_lower.specs.Named.{is_memory}
-use Rattle.target_lower.specs.Made.{PutsIndices, SelectsInPart}
+use Rattle.target_lower.specs.declared.roots.Root.{Root}
+use Rattle.target_lower.specs.Made.{PutsIndices}
+use Rattle.target_lower.specs.Roots.{IsRootOf, name_under}
 
 -- On all valuations that agree, targets write to the image of what a path stands on each bit that a write through the path does,
 -- with its bit of the value, and no other bit; so images change as signals and locals do by an assignment to the path. They, and an
@@ -36,28 +37,33 @@ pub record StandsAsTarget (im : Images) (a : Around) (sc : Scope) (e : S.Meaning
   pub names : AreImages im.number e.index_names (target_names x sc)
   pub own : (r : ℕ) → e.root ≡ Some r → AllWrite (im.number r) (pieces x.writes) sc
 
--- what a path stands on is no memory in the text
-abbrev pub StandsOnVector : NameMap → S.Meaning → Type 0
-StandsOnVector names e = (r : ℕ) → e.root ≡ Some r → is_memory names.signals r ≡ false
+-- a path doesn't stand on an element of a memory of the text
+abbrev pub IsInVector : NameMap → Leaf → Type 0
+IsInVector names (Signals n of) = ⊤
+IsInVector names (Elements n of) = is_memory names.signals n ≡ false
+IsInVector names (Inside n of) = ⊤
+IsInVector names (Locals n of) = ⊤
+IsInVector names (Calls f of n) = ⊤
+IsInVector names Valued = ⊤
+IsInVector names Joined = ⊤
+IsInVector names Unlowered = ⊤
+
+abbrev pub StandsOnVector : NameMap → List Leaf → Type 0
+StandsOnVector names [] = ⊤
+StandsOnVector names (l ∷ ls) = IsInVector names l
 
 -- so they do wherever that is so, the text has what the path's leaves need and these helpers, and no two things have one image
 abbrev pub LowersTarget : NameMap → List Function → List Helper → Expr → Targets → Type 0
-LowersTarget names fs hs e x = (im : Images) (a : Around) (sc : Scope) → AreDistinct im → StandsOnVector names (meaning e) → Each (LeafStands names fs im a sc) (leaves e) → EachHelps hs sc
+LowersTarget names fs hs e x = (im : Images) (a : Around) (sc : Scope) → AreDistinct im → StandsOnVector names (leaves e) → Each (LeafStands names fs im a sc) (leaves e) → EachHelps hs sc
     → StandsAsTarget im a sc (meaning e) x
 
--- The targets are those for some indices, which are put together for the path. Where all of these are known, each target is a name with decimal
--- selects, without a guard, and nothing is named apart.
-pub record IsBareIfKnown (names : NameMap) (fs : List Function) (hs : List Helper) (e : Expr) (x : Targets) : Type 0 where
-  pub given : List Given
-  pub puts : PutsIndices names fs hs e [] given
-  pub image : Image
-  pub bare : BareOf image given x
-
-abbrev pub BareIf : NameMap → List Function → List Helper → Expr → Option Targets → Type 0
-BareIf names fs hs e None = ⊤
-BareIf names fs hs e (Some x) = IsBareIfKnown names fs hs e x
-
--- and nothing is given only where an index selects from a part-select
-abbrev pub LowersIf : NameMap → List Function → List Helper → Expr → Option Targets → Type 0
-LowersIf names fs hs e None = SelectsInPart e
-LowersIf names fs hs e (Some x) = LowersTarget names fs hs e x
+-- Each target is the name of what the path stands on with a select at most, and with none where that has one bit. They are made with
+-- some indices that are put together for the path. Where all of these are known, no target has a guard, its select is decimal, and
+-- nothing is named apart.
+pub record HasShape (names : NameMap) (fs : List Function) (hs : List Helper) (e : Expr) (x : Targets) : Type 0 where
+  pub root : Root
+  pub root_is : IsRootOf root e
+  pub own : AllOwn (name_under names root.held) root.bits x.writes
+  pub indices : List PathIndex
+  pub puts : PutsIndices names fs hs e [] indices
+  pub bare : BareOf (name_under names root.held) indices x

@@ -3,7 +3,7 @@
 ghost use Rattle.std.specs.Prelude.{◌≡◌, ◌≤◌, IfOk};
 ghost use Rattle.sv_types.specs.Expressions.{meaning};
 ghost use Rattle.expr_lower.specs.Named.{signal_name, local_name};
-ghost use Rattle.target_lower.specs.Roots.{IsRootOf, IsNameOf};
+ghost use Rattle.target_lower.specs.Roots.{IsRootOf, name_under};
 
 use eval_parts::{Step, step_of};
 use std::alloc::{AllocError, Global};
@@ -83,7 +83,7 @@ fn local_text(alloc: Global, names: &[LocalName], n: u32) -> Result<Text, AllocE
 
 /// The name under which a signal or local stands in the text.
 pub(crate) fn name_of(alloc: Global, names: &NameMap, held: Held) -> Result<Text, AllocError>
-    ensures { IfOk result (λ t. IsNameOf names.now t held) }
+    ensures { IfOk result (λ t. t ≡ name_under names.now held) }
 {
     match held {
         Held::Nothing => Ok(Text::new(alloc)),

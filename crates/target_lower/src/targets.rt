@@ -5,19 +5,19 @@ ghost use Rattle.sv_types.specs.Expressions.{meaning};
 ghost use Rattle.eval_parts.specs.Limits.{FitsAlone};
 ghost use Rattle.eval_forms.specs.Callees.{formals_in, AllFunctionsFit};
 ghost use Rattle.path_flatten.specs.Helping.{Grows};
-ghost use Rattle.target_walk.specs.Giving.{AllSmall};
 ghost use Rattle.expr_lower.specs.Leaves.{leaves, Each, IsLowered};
 ghost use Rattle.typed_paths.specs.Typed.{IsTyped};
+ghost use Rattle.case_targets.specs.Spreading.{AllShort, IsShaped};
 ghost use Rattle.target_lower.specs.Roots.{IsInImage};
-ghost use Rattle.target_lower.specs.Targets.{BareIf, LowersIf};
+ghost use Rattle.target_lower.specs.Targets.{HasShape, LowersTarget};
 
 use crate::indices::{Indices, put_indices};
 use crate::roots::{name_of, root_of};
+use case_targets::{PathIndex, spread_target};
 use path_flatten::Helpers;
 use std::alloc::{AllocError, Global};
 use sv_types::{Expr, Function};
-use target_flatten::Image;
-use target_walk::{Given, Targets, flatten_target, room_of};
+use target_walk::Targets;
 use v_tree::NameMap;
 
 /// Targets for a path with these indices, in the image of what it stands on.
@@ -25,24 +25,20 @@ fn targets(
     alloc: Global,
     names: &NameMap,
     e: &Expr,
-    indices: &[Given],
+    indices: &[PathIndex],
 ) -> Result<Targets, AllocError>
     requires narrow { (meaning e.now).widest ≤ 4194304 }
-    requires small { AllSmall indices.now }
+    requires shaped { IsShaped e.now indices.now }
+    requires short { AllShort indices.now }
     ensures { IfOk result (IsInImage names.now e.now indices.now) }
 {
     let root = root_of(e);
     let name = name_of(alloc, names, root.held)?;
-    let image = Image {
-        name,
-        bits: root.bits,
-        room: room_of(e, indices, root.bits),
-    };
-    flatten_target(alloc, &image, e, indices)
+    spread_target(alloc, &name, root.bits, e, indices)
 }
 
 /// Targets for a select path that is written, all of whose guards and indices are valued before the first one is written, by calls
-/// of some helpers more; or nothing, which comes only where an index selects from a part-select, and its number isn't known. Or want
+/// of some helpers more. Each is the name of what the path stands on with a select at most, and none where that has one bit. Or want
 /// of memory.
 pub fn lower_target(
     alloc: Global,
@@ -50,19 +46,16 @@ pub fn lower_target(
     functions: &[Function],
     e: &Expr,
     helpers: &mut Helpers,
-) -> Result<Option<Targets>, AllocError>
+) -> Result<Targets, AllocError>
     requires functions { AllFunctionsFit functions.now }
     requires built { Each IsLowered (leaves e.now) }
     requires fits { FitsAlone (meaning e.now) (formals_in functions.now) }
     requires typed { IsTyped e.now }
     ensures grows { OnOk result (Grows helpers.old helpers.new) }
-    ensures lowers { IfOk result (LowersIf names.now functions.now helpers.new e.now) }
-    ensures bare { IfOk result (BareIf names.now functions.now helpers.new e.now) }
+    ensures lowers { IfOk result (LowersTarget names.now functions.now helpers.new e.now) }
+    ensures shape { IfOk result (HasShape names.now functions.now helpers.new e.now) }
 {
     let mut indices = Indices::new(alloc);
-    if !put_indices(alloc, names, functions, e, helpers, &mut indices)? {
-        return Ok(None);
-    }
-    let made = targets(alloc, names, e, indices.as_slice())?;
-    Ok(Some(made))
+    put_indices(alloc, names, functions, e, helpers, &mut indices)?;
+    targets(alloc, names, e, indices.as_slice())
 }

@@ -11,48 +11,49 @@ use Rattle.sv_types.specs.Meanings.{written_at}
 use Rattle.sv_types.specs.Paths as P
 use Rattle.sv_types.specs.Expressions.{meaning}
 use Rattle.eval_parts.proofs.Selecting.{same-Signal, same-Local, same-Member, same-Index, same-Part, same-Slide}
-use Rattle.v_meaning.specs.Scopes.{Scope}
-use Rattle.lowering_laws.specs.Agreeing.{SameChanges}
-use Rattle.lowering_laws.specs.Reached.{pieces_put, IsWritten}
-use Rattle.lowering_laws.proofs.Changes.{path-changes}
+use Rattle.v_meaning.specs.Scopes.{Scope, named}
+use Rattle.lowering_laws.specs.Agreeing.{Images, SameChanges}
+use Rattle.lowering_laws.specs.Reached.{Piece, pieces_put, IsWritten}
+use Rattle.lowering_laws.proofs.Changes.{HasPieces, path-changes}
+use Rattle.lowering_laws.proofs.WriteAt.{IsTight}
 use Rattle.target_flatten.specs.declared.writes.Image.{Image}
 use Rattle.target_walk.specs.declared.never.Targets.{Targets}
 use Rattle.target_flatten.specs.Writing.{pieces}
 use Rattle.target_walk.specs.declared.given.Given.{Given}
-use Rattle.target_walk.specs.Changing.{ChangesAs}
+use Rattle.target_walk.specs.Changing.{IsShownBy, ChangesAs}
 use Rattle.target_walk.specs.Naming.{FlattensTo}
 use Rattle.target_walk.specs.Walking.{Indexed, of_signal, of_local, of_member, of_index, of_part, of_slide}
 use Rattle.target_walk.proofs.Taking.{steady}
 
 -- a write through a path changes what it stands on
-abbrev Puts : S.Meaning → Type 0
+abbrev pub Puts : S.Meaning → Type 0
 Puts m = (a : Around) (bits : List Bit4) → m.puts a bits ≡ written_at m.root (m.window a) (stored m.of.two_state bits)
 
-signal-puts : (of : Layout) (at n : ℕ) → Puts (P.signal of at n)
+pub signal-puts : (of : Layout) (at n : ℕ) → Puts (P.signal of at n)
 unfolding P.signal
 signal-puts of at n a bits = refl
 
-local-puts : (of : Layout) (at n : ℕ) → Puts (P.local of at n)
+pub local-puts : (of : Layout) (at n : ℕ) → Puts (P.local of at n)
 unfolding P.local
 local-puts of at n a bits = refl
 
-member-puts : (of : Layout) (at : ℕ) (from : S.Meaning) (k : ℕ) → Puts (P.member of at from k)
+pub member-puts : (of : Layout) (at : ℕ) (from : S.Meaning) (k : ℕ) → Puts (P.member of at from k)
 unfolding P.member
 member-puts of at from k a bits = refl
 
-index-puts : (of : Layout) (at : ℕ) (from i : S.Meaning) → Puts (P.index of at from i)
+pub index-puts : (of : Layout) (at : ℕ) (from i : S.Meaning) → Puts (P.index of at from i)
 unfolding P.index
 index-puts of at from i a bits = refl
 
-part-puts : (of : Layout) (at : ℕ) (from : S.Meaning) (left right : ℤ) → Puts (P.part_select of at from left right)
+pub part-puts : (of : Layout) (at : ℕ) (from : S.Meaning) (left right : ℤ) → Puts (P.part_select of at from left right)
 unfolding P.part_select
 part-puts of at from left right a bits = refl
 
-slide-puts : (of : Layout) (at : ℕ) (from i : S.Meaning) (n : ℕ) (up : Bool) → Puts (P.sliding of at from i n up)
+pub slide-puts : (of : Layout) (at : ℕ) (from i : S.Meaning) (n : ℕ) (up : Bool) → Puts (P.sliding of at from i n up)
 unfolding P.sliding
 slide-puts of at from i n up a bits = refl
 
-puts-by : (e : Expr) (m : S.Meaning) → meaning e ≡ m → Puts m → Puts (meaning e)
+pub puts-by : (e : Expr) (m : S.Meaning) → meaning e ≡ m → Puts m → Puts (meaning e)
 puts-by e m is h = subst Puts (sym is) h
 
 path-puts : (w bits : ℕ) (a : Around) (sc : Scope) (v : Valuation) (e : Expr) (gs : List Given) (part : Bool) → Indexed w bits a sc v e gs part → Puts (meaning e)
@@ -63,21 +64,24 @@ path-puts w bits a sc v e gs part (of_index x from i g hs b is number fits rest)
 path-puts w bits a sc v e gs part (of_part x from l r hs b is typed rest) = puts-by x _ (same-Part x from l r is) (part-puts _ _ (meaning from) l r)
 path-puts w bits a sc v e gs part (of_slide x from i n up g hs b is number typed fits rest) = puts-by x _ (same-Slide x from i n up is) (slide-puts _ _ (meaning from) (meaning i) n up)
 
--- so targets that write the path change its image
-pub changes-as : (im : Image) (e : Expr) (gs : List Given) (x : Targets) → FlattensTo im e gs x → ChangesAs im e gs x.writes
-changes-as im e gs x flattens ims r a sc v part shown vector small bits one room typed path =
-    let h = (flattens a sc v part vector small bits one room typed path).path in
-    let own = steady im.room im.bits a sc v e gs part path typed in
-    let m = meaning e in
-    let image = subst (λ n. IsWritten ((meaning e).window a) (S.wide (meaning e)) n (pieces x.writes) sc v) (sym shown.number) h in
+-- so what writes the path changes its image
+pub changes-by : (im : Image) (ims : Images) (r : ℕ) (e : Expr) (a : Around) (sc : Scope) (v : Valuation) (ps : List Piece) → IsShownBy im ims r e a sc → Puts (meaning e)
+    → IsTight ((meaning e).window a) (S.wide (meaning e)) → IsWritten ((meaning e).window a) (S.wide (meaning e)) (named sc.names im.name).number ps sc v → HasPieces ims (meaning e) ps a sc v
+changes-by im ims r e a sc v ps shown puts tight h =
+    let image = subst (λ n. IsWritten ((meaning e).window a) (S.wide (meaning e)) n ps sc v) (sym shown.number) h in
     record {
       wide = h.wide;
       below = h.below;
       changes = λ bs long.
-          subst (λ c. SameChanges ims c (pieces_put (pieces x.writes) sc v (stored (meaning e).of.two_state bs)))
-          (sym (path-puts im.room im.bits a sc v e gs part path a bs ∙ ap (λ o. written_at o ((meaning e).window a) (stored (meaning e).of.two_state bs)) shown.root))
-          (path-changes ims shown.distinct (meaning e) a r shown.some shown.in_order (pieces x.writes) sc v own.tight shown.converted image bs long);
+          subst (λ c. SameChanges ims c (pieces_put ps sc v (stored (meaning e).of.two_state bs)))
+          (sym (puts a bs ∙ ap (λ o. written_at o ((meaning e).window a) (stored (meaning e).of.two_state bs)) shown.root))
+          (path-changes ims shown.distinct (meaning e) a r shown.some shown.in_order ps sc v tight shown.converted image bs long);
     }
+
+pub changes-as : (im : Image) (e : Expr) (gs : List Given) (x : Targets) → FlattensTo im e gs x → ChangesAs im e gs x.writes
+changes-as im e gs x flattens ims r a sc v part shown vector small bits one room typed path =
+    changes-by im ims r e a sc v (pieces x.writes) shown (path-puts im.room im.bits a sc v e gs part path) (steady im.room im.bits a sc v e gs part path typed).tight
+    (flattens a sc v part vector small bits one room typed path).path
 
 pub changes-all : (im : Image) (e : Expr) (gs : List Given) (q : Result Targets AllocError) → IfOk q (FlattensTo im e gs) → IfOk q (λ x. ChangesAs im e gs x.writes)
 changes-all im e gs (Ok x) h = changes-as im e gs x h

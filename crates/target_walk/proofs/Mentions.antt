@@ -122,7 +122,7 @@ apart-named gs None sc none = same-by (all_names gs sc) [] (none-lowered gs sc n
 apart-named gs (Some m) sc never = never.names sc
 
 -- targets and what stands apart name what the indices do
-targets-named : (gs : List Given) (xs : List Write) (r : Targets) (sc : Scope) → EachNames (all_names gs sc) (pieces xs) sc → r.writes ≡ xs → NamedApart gs xs r.named
+pub targets-named : (gs : List Given) (xs : List Write) (r : Targets) (sc : Scope) → EachNames (all_names gs sc) (pieces xs) sc → r.writes ≡ xs → NamedApart gs xs r.named
     → SameNumbers (all_names gs sc) (target_names r sc)
 targets-named gs (y ∷ ys) r sc each all apart =
     let ns = all_piece_names (pieces (y ∷ ys)) sc in
@@ -152,6 +152,7 @@ flattened-in im e gs (Ok xs) r writes names vec a sc v p vector small one room t
     record {
       path = subst (λ (zs : List Write). WritesPath vec (meaning e) a (pieces_in vec zs) sc v) (sym names.0) h.path;
       names = targets-named gs xs r sc h.names names.0 names.1;
+      each = subst (λ (zs : List Write). EachNames (all_names gs sc) (pieces zs) sc) (sym names.0) h.names;
     }
 
 -- and from what may want memory

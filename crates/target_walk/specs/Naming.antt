@@ -15,7 +15,7 @@ use Rattle.target_laws.specs.Standing.{IsVectorOf}
 use Rattle.target_laws.specs.Vectors.{IsVector}
 use Rattle.target_flatten.specs.declared.writes.Image.{Image}
 use Rattle.target_flatten.specs.declared.writes.Write.{Write}
-use Rattle.target_flatten.specs.Naming.{piece_names}
+use Rattle.target_flatten.specs.Naming.{piece_names, EachNames}
 use Rattle.target_flatten.specs.Writing.{pieces, pieces_in, WritesPath}
 use Rattle.target_walk.specs.declared.given.Given.{Given}
 use Rattle.target_walk.specs.declared.given.Given.TheVariants as G
@@ -75,10 +75,12 @@ abbrev pub FlattensTo : Image → Expr → List Given → Targets → Type 0
 FlattensTo im e gs r = (a : Around) (sc : Scope) (v : Valuation) (part : Bool) → IsVectorOf im.name im.bits sc → im.bits < 2 ^ 32 → 1 ≤ im.bits → 1 ≤ im.room → im.bits < 2 ^ im.room
     → (meaning e).misfits ≡ 0 → Indexed im.room im.bits a sc v e gs part → Flattened im e gs r a sc v
 
--- The selects of targets write a path in a vector, whatever the name, and they and an expression apart name what its indices do.
+-- The selects of targets write a path in a vector, whatever the name, and they and an expression apart name what its indices do, each
+-- target all of it.
 pub record FlattenedIn (vec : Named) (e : Expr) (gs : List Given) (r : Targets) (a : Around) (sc : Scope) (v : Valuation) : Type 0 where
   pub path : WritesPath vec (meaning e) a (pieces_in vec r.writes) sc v
   pub names : SameNumbers (all_names gs sc) (target_names r sc)
+  pub each : EachNames (all_names gs sc) (pieces r.writes) sc
 
 -- so they do in each vector of the image's bits, as a word of a memory is one
 abbrev pub FlattensIn : Image → Expr → List Given → Targets → Type 0

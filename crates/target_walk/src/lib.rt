@@ -9,6 +9,6 @@ mod room;
 mod standing;
 
 pub use given::{Given, are_small};
-pub use never::Targets;
+pub use never::{Targets, with_names};
 pub use paths::flatten_target;
 pub use room::room_of;

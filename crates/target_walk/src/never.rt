@@ -83,8 +83,9 @@ pub struct Targets {
     pub named: Option<VExpr>,
 }
 
-/// What is written, and what names the indices where nothing is.
-pub(crate) fn with_names(
+/// Targets of what is written of a path with these indices: an expression names what lowered ones do where nothing is written. Or want
+/// of memory.
+pub fn with_names(
     alloc: Global,
     indices: &[Given],
     writes: Result<Writes, AllocError>,

@@ -3,8 +3,8 @@ use Rattle.eval_parts.specs.Steps.{IsStep}
 use Rattle.eval_forms.specs.Callees.{formals_in}
 use Rattle.target_lower.proofs.Parting as W
 use Rattle.path_flatten.specs.Helping.{Grows}
-use Rattle.target_lower.specs.Made.{PutsIndexIf, PutsIf}
-use Rattle.target_lower.proofs.Stepping.{ok-grown, puts-Signal, puts-Local, puts-Index, puts-Slide}
+use Rattle.target_lower.specs.Made.{PutsIndices}
+use Rattle.target_lower.proofs.Stepping.{on-grown, puts-plain, puts-Signal, puts-Local, puts-Member, puts-Part, puts-Index, puts-Slide}
 use Rattle.target_lower.proofs.indices.+put_indices.Goals as goal
 
 pub put_indices-requires : goal.put_indices-requires
@@ -61,18 +61,46 @@ put_indices-requires-in-Some-Slide t c =
     let from = W.from-Slide c.args.e.now c.in-Some-Slide.from.now _ _ _ (formals_in c.args.functions.now) h c.requires.built c.requires.fits in
     (omega (arith, c.decreases, from.fewer), (c.requires.functions, (from.built, from.fits)))
 
+pub returns-in-None-clause-puts : goal.returns-in-None-clause-puts
+returns-in-None-clause-puts t c = puts-plain c.args.names.now c.args.functions.now c.args.helpers.now c.args.e.now c.args.indices.now c.in-None.ensures.plain
+
 pub returns-in-Some-Signal-clause-puts : goal.returns-in-Some-Signal-clause-puts
 returns-in-Some-Signal-clause-puts t c =
     let h = rw c.in-Some-Signal.field-0-is at c.in-Some-Signal.ensures.step in
-    puts-Signal c.args.names.now c.args.functions.now c.args.helpers.now c.args.e.now _ c.args.given.now h
+    puts-Signal c.args.names.now c.args.functions.now c.args.helpers.now c.args.e.now _ c.args.indices.now h
 
 pub returns-in-Some-Local-clause-puts : goal.returns-in-Some-Local-clause-puts
 returns-in-Some-Local-clause-puts t c =
     let h = rw c.in-Some-Local.field-0-is at c.in-Some-Local.ensures.step in
-    puts-Local c.args.names.now c.args.functions.now c.args.helpers.now c.args.e.now _ c.args.given.now h
+    puts-Local c.args.names.now c.args.functions.now c.args.helpers.now c.args.e.now _ c.args.indices.now h
 
-pub returns-else-not-branch-clause-puts : goal.returns-else-not-branch-clause-puts
-returns-else-not-branch-clause-puts t c =
+pub returns-in-Some-Member-clause-puts : goal.returns-in-Some-Member-clause-puts
+returns-in-Some-Member-clause-puts t c =
+    let names = c.args.names.now in
+    let functions = c.args.functions.now in
+    let e = c.args.e.now in
+    let from = c.in-Some-Member.from.now in
+    let hs = c.put_indices.new.helpers in
+    let old = c.args.indices.now in
+    let new = c.put_indices.new.indices in
+    let is = subst (λ st. IsStep st c.args.e.now) c.in-Some-Member.field-0-is c.in-Some-Member.ensures.step in
+    on-one (PutsIndices names functions hs from old new) (PutsIndices names functions hs e old new) c.put_indices.result c.put_indices.ensures.puts (λ h. puts-Member names functions hs e from _ old new is h)
+
+pub returns-in-Some-Part-clause-puts : goal.returns-in-Some-Part-clause-puts
+returns-in-Some-Part-clause-puts t c =
+    let names = c.args.names.now in
+    let functions = c.args.functions.now in
+    let e = c.args.e.now in
+    let from = c.in-Some-Part.from.now in
+    let hs = c.put_indices-in-Some-Part.new.helpers in
+    let old = c.args.indices.now in
+    let new = c.put_indices-in-Some-Part.new.indices in
+    let is = subst (λ st. IsStep st c.args.e.now) c.in-Some-Part.field-0-is c.in-Some-Part.ensures.step in
+    on-one (PutsIndices names functions hs from old new) (PutsIndices names functions hs e old new) c.put_indices-in-Some-Part.result c.put_indices-in-Some-Part.ensures.puts
+    (λ h. puts-Part names functions hs e from _ _ old new is h)
+
+pub returns-in_ok-put_index-in-Some-Index-clause-puts : goal.returns-in_ok-put_index-in-Some-Index-clause-puts
+returns-in_ok-put_index-in-Some-Index-clause-puts t c =
     let names = c.args.names.now in
     let functions = c.args.functions.now in
     let e = c.args.e.now in
@@ -81,16 +109,16 @@ returns-else-not-branch-clause-puts t c =
     let b = c.ends_in_part-in_part.result in
     let mid = c.put_index.new.helpers in
     let hs = c.put_indices-in-Some-Index.new.helpers in
-    let old = c.args.given.now in
-    let between = c.put_index.new.given in
-    let new = c.put_indices-in-Some-Index.new.given in
+    let old = c.args.indices.now in
+    let between = c.put_index.new.indices in
+    let new = c.put_indices-in-Some-Index.new.indices in
     let is = subst (λ st. IsStep st c.args.e.now) c.in-Some-Index.field-0-is c.in-Some-Index.ensures.step in
-    let first = subst (PutsIndexIf names functions mid i b old between) c.if-not-branch.false c.in_ok-put_index-in-Some-Index.ensures.puts in
-    ok-grown (Grows mid hs) (PutsIf names functions hs from between new) (PutsIf names functions hs e old new) c.put_indices-in-Some-Index.result c.put_indices-in-Some-Index.ensures.grows
-    c.put_indices-in-Some-Index.ensures.puts (λ x grows rest. puts-Index names functions hs mid grows e from i b old between new c.ends_in_part-in_part.ensures first is x rest)
+    on-grown (Grows mid hs) (PutsIndices names functions hs from between new) (PutsIndices names functions hs e old new) c.put_indices-in-Some-Index.result c.put_indices-in-Some-Index.ensures.grows
+    c.put_indices-in-Some-Index.ensures.puts
+    (λ grows rest. puts-Index names functions hs mid grows e from i b old between new c.ends_in_part-in_part.ensures c.in_ok-put_index-in-Some-Index.ensures.puts rest is)
 
-pub returns-else-not-branch-2-clause-puts : goal.returns-else-not-branch-2-clause-puts
-returns-else-not-branch-2-clause-puts t c =
+pub returns-in_ok-put_index-in-Some-Slide-clause-puts : goal.returns-in_ok-put_index-in-Some-Slide-clause-puts
+returns-in_ok-put_index-in-Some-Slide-clause-puts t c =
     let names = c.args.names.now in
     let functions = c.args.functions.now in
     let e = c.args.e.now in
@@ -99,10 +127,10 @@ returns-else-not-branch-2-clause-puts t c =
     let b = c.ends_in_part-in_part-in-Some-Slide.result in
     let mid = c.put_index-in-Some-Slide.new.helpers in
     let hs = c.put_indices-in-Some-Slide.new.helpers in
-    let old = c.args.given.now in
-    let between = c.put_index-in-Some-Slide.new.given in
-    let new = c.put_indices-in-Some-Slide.new.given in
+    let old = c.args.indices.now in
+    let between = c.put_index-in-Some-Slide.new.indices in
+    let new = c.put_indices-in-Some-Slide.new.indices in
     let is = subst (λ st. IsStep st c.args.e.now) c.in-Some-Slide.field-0-is c.in-Some-Slide.ensures.step in
-    let first = subst (PutsIndexIf names functions mid i b old between) c.if-not-branch-2.false c.in_ok-put_index-in-Some-Slide.ensures.puts in
-    ok-grown (Grows mid hs) (PutsIf names functions hs from between new) (PutsIf names functions hs e old new) c.put_indices-in-Some-Slide.result c.put_indices-in-Some-Slide.ensures.grows
-    c.put_indices-in-Some-Slide.ensures.puts (λ x grows rest. puts-Slide names functions hs mid grows e from i b old between new c.ends_in_part-in_part-in-Some-Slide.ensures first _ _ is x rest)
+    on-grown (Grows mid hs) (PutsIndices names functions hs from between new) (PutsIndices names functions hs e old new) c.put_indices-in-Some-Slide.result c.put_indices-in-Some-Slide.ensures.grows
+    c.put_indices-in-Some-Slide.ensures.puts
+    (λ grows rest. puts-Slide names functions hs mid grows e from i b old between new c.ends_in_part-in_part-in-Some-Slide.ensures c.in_ok-put_index-in-Some-Slide.ensures.puts rest _ _ is)

@@ -1,4 +1,4 @@
-use Rattle.std.proofs.Common.{◌≤◌, ◌^◌, IfSome, refl, arith, sym, subst}
+use Rattle.std.proofs.Common.{◌≤◌, ◌^◌, IfSome, refl, arith, subst}
 use Rattle.std.specs.Prelude.{unsigned_abs}
 use Rattle.sv_types.specs.Meanings.{wide}
 use Rattle.sv_types.specs.Expressions.{meaning}
@@ -6,13 +6,12 @@ use Rattle.v_meaning.specs.Values as T
 use Rattle.expr_lower.specs.Lowering.{Lowers}
 use Rattle.path_steps.specs.declared.known.KnownIndex.{KnownIndex}
 use Rattle.path_steps.specs.Known.{IsKnown}
-use Rattle.target_walk.specs.Rooms.{IsWhole}
 use Rattle.target_lower.proofs.Stepping.{small-known}
 use Rattle.target_lower.proofs.indices.index_given.Goals as goal
 
 pub returns-in-Some-clause-made : goal.returns-in-Some-clause-made
 returns-in-Some-clause-made c = (
-  record { stands = subst (λ o. IfSome o (λ (k : KnownIndex). IsKnown c.args.i.now k.number)) c.in-Some.is c.in_ok-known.ensures.known; known_in = tt },
+  subst (λ o. IfSome o (λ (k : KnownIndex). IsKnown c.args.i.now k.number)) c.in-Some.is c.in_ok-known.ensures.known,
   small-known c.in-Some.known.number (subst (λ o. IfSome o (λ (k : KnownIndex). IfSome k.number (λ n. unsigned_abs n ≤ 2 ^ 64))) c.in-Some.is c.in_ok-known.ensures.small),
 )
 
@@ -23,16 +22,13 @@ returns-clause-made c =
     let functions = c.args.functions.now in
     let hs = c.lower.new.helpers in
     let m = T.meaning c.in_ok-expr.expr in (
-      record {
-        stands = (
-          record {
-            width = c.own_width-width.ensures;
-            sign = c.own_sign-signed.ensures;
-            lowers = subst (λ s. Lowers names functions hs i (wide (meaning i)) s m) c.own_sign-signed.ensures (subst (λ k. Lowers names functions hs i k c.own_sign-signed.result m) c.own_width-width.ensures c.in_ok-expr.ensures.lowers);
-          },
-          refl,
-        );
-        known_in = subst IsWhole (sym c.if-in_part.false) tt;
-      },
+      (
+        record {
+          width = c.own_width-width.ensures;
+          sign = c.own_sign-signed.ensures;
+          lowers = subst (λ s. Lowers names functions hs i (wide (meaning i)) s m) c.own_sign-signed.ensures (subst (λ k. Lowers names functions hs i k c.own_sign-signed.result m) c.own_width-width.ensures c.in_ok-expr.ensures.lowers);
+        },
+        refl,
+      ),
       (omega (arith, c.own_width-width.ensures, c.requires.short), omega arith),
     )

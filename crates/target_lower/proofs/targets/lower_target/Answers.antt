@@ -1,32 +1,54 @@
 use Rattle.std.proofs.Common.{sym, subst}
-use Rattle.target_lower.specs.Made.{PutsIf, PutsIndices}
-use Rattle.target_lower.proofs.Standing.{lowers-target}
+use Rattle.target_lower.specs.Made.{PutsIndices}
+use Rattle.target_lower.specs.Roots.{IsInImage}
+use Rattle.target_lower.specs.Targets.{LowersTarget, HasShape}
+use Rattle.target_lower.proofs.Making.{made-shaped, made-short}
+use Rattle.target_lower.proofs.Standing.{lowers-target, has-shape}
+use Rattle.target_lower.proofs.Stepping.{ok-one}
 use Rattle.target_lower.proofs.targets.lower_target.Goals as goal
 
-pub returns-clause-lowers : goal.returns-clause-lowers
-returns-clause-lowers c im a sc distinct no_memory all helps =
+pub targets-requires-clause-shaped : goal.targets-requires-clause-shaped
+targets-requires-clause-shaped c =
     let names = c.args.names.now in
     let functions = c.args.functions.now in
     let hs = c.put_indices.new.helpers in
     let e = c.args.e.now in
-    let gs = c.as_slice.result.now in
+    let ps = c.as_slice.result.now in
     let first = c.new-indices.result in
-    let puts = subst (PutsIf names functions hs e first c.put_indices.new.given) c.if-not-branch.false c.in_ok-put_indices.ensures.puts in
-    let given = subst (λ l. PutsIndices names functions hs e l gs) c.new-indices.ensures (subst (PutsIndices names functions hs e first) (sym c.as_slice.ensures) puts) in
-    lowers-target names functions hs e gs c.in_ok-made.made c.in_ok-made.ensures c.requires.typed c.requires.fits.typed given im a sc distinct no_memory all helps
+    let puts = subst (PutsIndices names functions hs e first) (sym c.as_slice.ensures) c.in_ok-put_indices.ensures.puts in
+    made-shaped names functions hs e ps c.requires.typed (subst (λ l. PutsIndices names functions hs e l ps) c.new-indices.ensures puts)
 
-pub returns-clause-bare : goal.returns-clause-bare
-returns-clause-bare c =
+pub targets-requires-clause-short : goal.targets-requires-clause-short
+targets-requires-clause-short c =
     let names = c.args.names.now in
     let functions = c.args.functions.now in
     let hs = c.put_indices.new.helpers in
     let e = c.args.e.now in
-    let gs = c.as_slice.result.now in
+    let ps = c.as_slice.result.now in
     let first = c.new-indices.result in
-    let puts = subst (PutsIf names functions hs e first c.put_indices.new.given) c.if-not-branch.false c.in_ok-put_indices.ensures.puts in
-    record {
-      given = gs;
-      puts = subst (λ l. PutsIndices names functions hs e l gs) c.new-indices.ensures (subst (PutsIndices names functions hs e first) (sym c.as_slice.ensures) puts);
-      image = c.in_ok-made.ensures.image;
-      bare = c.in_ok-made.ensures.bare;
-    }
+    let puts = subst (PutsIndices names functions hs e first) (sym c.as_slice.ensures) c.in_ok-put_indices.ensures.puts in
+    made-short names functions hs e ps (subst (λ l. PutsIndices names functions hs e l ps) c.new-indices.ensures puts)
+
+pub returns-clause-lowers : goal.returns-clause-lowers
+returns-clause-lowers c =
+    let names = c.args.names.now in
+    let functions = c.args.functions.now in
+    let hs = c.put_indices.new.helpers in
+    let e = c.args.e.now in
+    let ps = c.as_slice.result.now in
+    let first = c.new-indices.result in
+    let puts = subst (PutsIndices names functions hs e first) (sym c.as_slice.ensures) c.in_ok-put_indices.ensures.puts in
+    let own = subst (λ l. PutsIndices names functions hs e l ps) c.new-indices.ensures puts in
+    ok-one (IsInImage names e ps) (LowersTarget names functions hs e) c.targets.result c.targets.ensures (λ x h. lowers-target names functions hs e ps x h c.requires.typed c.requires.fits.typed own)
+
+pub returns-clause-shape : goal.returns-clause-shape
+returns-clause-shape c =
+    let names = c.args.names.now in
+    let functions = c.args.functions.now in
+    let hs = c.put_indices.new.helpers in
+    let e = c.args.e.now in
+    let ps = c.as_slice.result.now in
+    let first = c.new-indices.result in
+    let puts = subst (PutsIndices names functions hs e first) (sym c.as_slice.ensures) c.in_ok-put_indices.ensures.puts in
+    let own = subst (λ l. PutsIndices names functions hs e l ps) c.new-indices.ensures puts in
+    ok-one (IsInImage names e ps) (HasShape names functions hs e) c.targets.result c.targets.ensures (λ x h. has-shape names functions hs e ps x h own)

@@ -1,0 +1,72 @@
+//! Targets for select paths on vectors and memories of the text.
+
+ghost use Rattle.std.specs.Prelude.{◌≡◌, IfOk, OnOk};
+ghost use Rattle.sv_types.specs.Expressions.{meaning};
+ghost use Rattle.eval_parts.specs.Limits.{FitsAlone};
+ghost use Rattle.eval_forms.specs.Callees.{formals_in, AllFunctionsFit};
+ghost use Rattle.path_flatten.specs.Helping.{Grows};
+ghost use Rattle.expr_lower.specs.Leaves.{leaves, Each, IsLowered};
+ghost use Rattle.expr_lower.specs.Named.{is_memory};
+ghost use Rattle.typed_paths.specs.Typed.{IsTyped};
+ghost use Rattle.memory_lower.specs.Written.{FindsInMemory, LowersWritten};
+
+use crate::targets::lower_in_memory;
+use element_paths::{Element, element_under};
+use path_flatten::Helpers;
+use std::alloc::{AllocError, Global};
+use sv_types::{Expr, Function};
+use target_lower::lower_target;
+use target_walk::Targets;
+use v_tree::{NameMap, SignalName};
+
+/// Whether a signal is a memory.
+fn is_memory(names: &[SignalName], n: u32) -> bool
+    ensures { result ≡ is_memory names.now n }
+{
+    for name in names {
+        if name.signal == n {
+            return name.memory;
+        }
+    }
+    false
+}
+
+/// The element of a signal from which a path goes on, if the signal is a memory in the text.
+fn element_in_memory<'a>(names: &NameMap, e: &'a Expr) -> Option<Element<'a>>
+    requires typed { IsTyped e.now }
+    ensures { FindsInMemory names.now e.now result }
+{
+    match element_under(e) {
+        None => None,
+        Some(element) => {
+            if is_memory(names.signals.as_slice(), element.signal) {
+                Some(element)
+            } else {
+                None
+            }
+        }
+    }
+}
+
+/// Targets for a select path that is written, in the words of a memory where it goes on from an element of a signal that is one in
+/// the text, else in a vector. All of their guards and indices are valued before the first one is written, by calls of some helpers
+/// more. Or want of memory.
+pub fn lower_written(
+    alloc: Global,
+    names: &NameMap,
+    functions: &[Function],
+    e: &Expr,
+    helpers: &mut Helpers,
+) -> Result<Targets, AllocError>
+    requires functions { AllFunctionsFit functions.now }
+    requires built { Each IsLowered (leaves e.now) }
+    requires fits { FitsAlone (meaning e.now) (formals_in functions.now) }
+    requires typed { IsTyped e.now }
+    ensures grows { OnOk result (Grows helpers.old helpers.new) }
+    ensures lowers { IfOk result (LowersWritten names.now functions.now helpers.new e.now) }
+{
+    match element_in_memory(names, e) {
+        None => lower_target(alloc, names, functions, e, helpers),
+        Some(element) => lower_in_memory(alloc, names, functions, element, e, helpers),
+    }
+}
