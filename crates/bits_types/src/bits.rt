@@ -73,7 +73,7 @@ pub fn bits_of_type(
     bits_number(alloc, text, name, low)
 }
 
-/// `$bits` at its name, of a value of at most 65,536 bits. Or want of memory.
+/// `$bits` at its name, of a value of at most 2^22 bits. Or want of memory.
 pub fn bits_of_value(
     alloc: Global,
     text: Source<'_>,

@@ -5,7 +5,7 @@ ghost use Rattle.expr_type.specs.Answers.{Gives, source};
 ghost use Rattle.expr_type.specs.Forms as form;
 ghost use Rattle.expr_type.specs.Operands as rule;
 ghost use Rattle.expr_type.specs.Operators.{all_bits};
-ghost use Rattle.operand_types.specs.Allowed.{AllNarrow, IsNarrow, IsWithin};
+ghost use Rattle.operand_types.specs.Allowed.{AllNarrow, IsShort, IsWithin};
 
 use expr_type::{Halt, Source, Valued};
 use operand_types::by_itself;
@@ -57,7 +57,7 @@ fn few_bits(parts: &[Expr]) -> Option<u32>
     Some(bits)
 }
 
-/// A stream at its `{`, of parts of at most 65,536 bits each, in slices of so many bits, which stand in reverse order behind `<<`.
+/// A stream at its `{`, of parts of at most 2^22 bits each, in slices of so many bits, which stand in reverse order behind `<<`.
 /// It breaks E701 where the parts have more than 65,536 bits together.
 pub fn stream_of(
     alloc: Global,
@@ -69,7 +69,7 @@ pub fn stream_of(
 ) -> Result<Valued, Halt>
     requires { AllNarrow parts }
     ensures value { Gives result (form.stream_of (source text.entry) opening reversed slice parts) }
-    ensures narrow { IfOk result IsNarrow }
+    ensures narrow { IfOk result IsShort }
 {
     match few_bits(parts.as_slice()) {
         None => Err(Halt::Breaks {

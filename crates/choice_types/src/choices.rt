@@ -19,7 +19,7 @@ fn chosen_type(alloc: Global, arms: &Operands) -> Result<SvType, AllocError>
     requires left { IsNarrow arms.now.left }
     requires right { IsNarrow arms.now.right }
     ensures value { IfOk result (λ t. t ≡ operator.chosen_type arms.now.left arms.now.right) }
-    ensures narrow { IfOk result (λ t. width_of t ≤ 65536) }
+    ensures narrow { IfOk result (λ t. width_of t ≤ 4194304) }
 {
     if is_same_enum(&arms.left.expr.of, &arms.right.expr.of) {
         copy_type(alloc, &arms.left.expr.of)
@@ -39,7 +39,7 @@ fn typed_arms(alloc: Global, arms: Operands) -> Result<TypedArms, AllocError>
     requires left { IsNarrow arms.left }
     requires right { IsNarrow arms.right }
     ensures of { IfOk result (λ t. t.of ≡ operator.chosen_type arms.left arms.right) }
-    ensures narrow { IfOk result (λ t. width_of t.of ≤ 65536) }
+    ensures narrow { IfOk result (λ t. width_of t.of ≤ 4194304) }
     ensures left { IfOk result (λ t. t.arms.left ≡ arms.left.expr) }
     ensures right { IfOk result (λ t. t.arms.right ≡ arms.right.expr) }
     ensures operators { IfOk result (λ t. t.arms.arithmetic ≡ arms.left.arithmetic ++ arms.right.arithmetic) }
@@ -118,7 +118,7 @@ fn choice_by_rules(
     }
 }
 
-/// `?:` at a token over a condition and two arms of at most 65,536 bits. It breaks E504 where an arm is unpacked, E508 where the
+/// `?:` at a token over a condition and two arms of at most 2^22 bits. It breaks E504 where an arm is unpacked, E508 where the
 /// condition is, and E502, at the first operator in the order of the text, where one does arithmetic at more than 128 bits.
 pub fn choice_of(
     alloc: Global,

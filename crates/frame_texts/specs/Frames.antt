@@ -70,23 +70,24 @@ module _ (tree : SourceTree) (t : Table) where
   is_net_kind (W.NamedPort of net) = net
   is_net_kind _ = false
 
-  -- The interface of an instance or a port, by its scope. A port with a modport in the header (InterfacePort) doesn't say here which
-  -- interface it is of, so its members aren't known to be nets.
+  -- The interface of an instance or a port, by its scope. A port with a modport in the header is `bus.side port` there (clause 25.5), so
+  -- the name of its interface stands three tokens before its own.
   abbrev pub scope_of : Option Declaration → Option ℕ
   scope_of None = None
   scope_of (Some d) = Some d.inner
 
-  abbrev pub interface_of : Declared → Option ℕ
-  interface_of (W.NamedPort of net) = scope_of (declaration_at tree.tokens t of)
-  interface_of (W.Instance of) = scope_of (declaration_at tree.tokens t of)
-  interface_of _ = None
+  abbrev pub interface_of : ℕ → Declared → Option ℕ
+  interface_of at W.InterfacePort = scope_of (declaration_at tree.tokens t (at - 3))
+  interface_of at (W.NamedPort of net) = scope_of (declaration_at tree.tokens t of)
+  interface_of at (W.Instance of) = scope_of (declaration_at tree.tokens t of)
+  interface_of at _ = None
 
   abbrev pub is_net_in : Option ℕ → List ℕ → Bool
   is_net_in None name = false
   is_net_in (Some s) name = elim (own t s name (length tree.tokens)) [ None ↦ false | Some m ↦ how is_net_kind m ]
 
   abbrev pub net_member : ℕ → List ℕ → Bool
-  net_member n name = elim (slice_get t.declared n) [ None ↦ false | Some d ↦ is_net_in (interface_of d.how) name ]
+  net_member n name = elim (slice_get t.declared n) [ None ↦ false | Some d ↦ is_net_in (interface_of d.at d.how) name ]
 
   -- The block in whose text something is declared. Each generate scope has one more word in its path, behind a full stop.
   abbrev pub is_generate : ScopeKind → Bool

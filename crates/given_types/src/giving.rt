@@ -5,7 +5,7 @@ ghost use Rattle.expr_type.specs.Answers.{Gives, source};
 ghost use Rattle.expr_type.specs.Operands as rule;
 ghost use Rattle.given_types.specs.Admitting.{Admits};
 ghost use Rattle.given_types.specs.Wide.{first_wide};
-ghost use Rattle.operand_types.specs.Allowed.{IsNarrow};
+ghost use Rattle.operand_types.specs.Allowed.{IsShort};
 ghost use Rattle.sv_types.specs.Layouts.{width_of};
 
 use crate::matching::is_assignable;
@@ -91,7 +91,7 @@ pub fn is_given(text: Source<'_>, t: &SvType, v: Valued) -> Result<Expr, Halt>
 // That a stream may be given to a type.
 #[tactic(auto, using(crate::proofs::Streams::streaming))]
 fn may_stream(text: Source<'_>, t: &SvType, v: &Valued) -> Result<(), Halt>
-    requires { IsNarrow v.now }
+    requires { IsShort v.now }
     ensures { Admits result v.now.expr (rule.is_streamed (source text.entry) t.now v.now) }
 {
     if is_above(65_536, t) {
@@ -109,9 +109,10 @@ fn may_stream(text: Source<'_>, t: &SvType, v: &Valued) -> Result<(), Halt>
     Ok(())
 }
 
-/// A stream that is given to a target of a type, which is as long at least (E501) and has at most 65,536 bits (E701).
+/// A stream of at most 65,536 bits that is given to a target of a type, which is as long at least (E501) and has at most 65,536 bits
+/// (E701).
 pub fn is_streamed(text: Source<'_>, t: &SvType, v: Valued) -> Result<Expr, Halt>
-    requires { IsNarrow v }
+    requires { IsShort v }
     ensures { Gives result (rule.is_streamed (source text.entry) t.now v) }
 {
     may_stream(text, t, &v)?;

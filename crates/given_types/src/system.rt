@@ -19,7 +19,7 @@ use type_kinds::vector;
 // The type `integer`.
 fn integer(alloc: Global) -> Result<SvType, AllocError>
     ensures value { IfOk result (λ t. t ≡ shape.integer) }
-    ensures narrow { IfOk result (λ t. width_of t ≤ 65536) }
+    ensures narrow { IfOk result (λ t. width_of t ≤ 4194304) }
 {
     vector(alloc, 32, true)
 }

@@ -63,7 +63,7 @@ fn wider(v: &Valued, u: &Valued) -> u32
     requires left { IsNarrow v.now }
     requires right { IsNarrow u.now }
     ensures value { result ≡ max (width v.now) (width u.now) }
-    ensures narrow { result ≤ 65536 }
+    ensures narrow { result ≤ 4194304 }
 {
     width(&v.expr.of).max(width(&u.expr.of))
 }
@@ -73,7 +73,7 @@ fn compared(v: &Valued, item: &Alternative) -> u32
     requires left { IsNarrow v.now }
     requires item { IsNarrowIn item.now }
     ensures value { result ≡ operator.compared v.now (alternative item.now) }
-    ensures narrow { result ≤ 65536 }
+    ensures narrow { result ≤ 4194304 }
 {
     match item {
         Alternative::Only(u) => wider(v, u),
@@ -86,7 +86,7 @@ fn ordered(v: &Valued, item: &Alternative) -> u32
     requires left { IsNarrow v.now }
     requires item { IsNarrowIn item.now }
     ensures value { result ≡ operator.ordered v.now (alternative item.now) }
-    ensures narrow { result ≤ 65536 }
+    ensures narrow { result ≤ 4194304 }
 {
     match item {
         Alternative::Only(_) => 0,

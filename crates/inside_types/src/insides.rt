@@ -95,7 +95,7 @@ fn inside_by_rules(
     }
 }
 
-/// `inside` at its word, of a value and of items of at most 65,536 bits each. It breaks E508 where one of them is unpacked, and E502,
+/// `inside` at its word, of a value and of items of at most 2^22 bits each. It breaks E508 where one of them is unpacked, and E502,
 /// at the first operator in the order of the text, where one does arithmetic, or `inside` compares by order, at more than 128 bits.
 pub fn inside_of(
     alloc: Global,

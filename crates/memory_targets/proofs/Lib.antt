@@ -2,3 +2,4 @@ pub mod Naming
 pub mod Pieces
 pub mod Named
 pub mod Selecting
+pub mod Owning

@@ -21,7 +21,7 @@ use Rattle.memory_targets.specs.declared.words.Word.{Word}
 use Rattle.memory_targets.specs.Words.{word_sel, word_guard}
 use Rattle.memory_targets.specs.Pieces.{selects_in, InWord, AllInWord}
 use Rattle.memory_targets.specs.Names.{word_names, pieces_names}
-use Rattle.memory_targets.proofs.Naming.{selects-are, target-is}
+use Rattle.memory_targets.proofs.Naming.{selects-are, target-is, piece-in}
 
 name-names : (name : Name) (ss : List SelMeaning) (sc : Scope) → (name_target name ss).names sc ≡ sel_names ss sc
 unfolding name_target
@@ -38,7 +38,7 @@ one-named w x y name sels sc is h =
     let new : (name_target name (word_sel w ∷ selects_in x.to)).names sc ≡ s ++ t =
     name-names name (word_sel w ∷ selects_in x.to) sc ∙ ap (λ ss. s ++ sel_names ss sc) (ap selects_in is ∙ selects-are name sels) in
     subst (λ ns. SameNumbers ((g ++ s) ++ (k ++ ns)) (piece_names (piece y) sc)) (sym old)
-    (subst (λ (p : Piece). SameNumbers ((g ++ s) ++ (k ++ t)) (piece_names p sc)) (sym (h name sels is))
+    (subst (λ (p : Piece). SameNumbers ((g ++ s) ++ (k ++ t)) (piece_names p sc)) (sym (piece-in w x y name sels is h))
     (subst (λ ns. SameNumbers ((g ++ s) ++ (k ++ t)) (guard_names (and_guard (word_guard w) (guard_meaning x.guard)) sc ++ ns)) (sym new)
     (same-then ((g ++ s) ++ (k ++ t)) ((g ++ k) ++ (s ++ t)) (guard_names (and_guard (word_guard w) (guard_meaning x.guard)) sc ++ (s ++ t)) (same-middle g s k t)
     (same-joined (g ++ k) (guard_names (and_guard (word_guard w) (guard_meaning x.guard)) sc) (s ++ t) (s ++ t) (both-guards (word_guard w) (guard_meaning x.guard) sc) (same-itself (s ++ t))))))

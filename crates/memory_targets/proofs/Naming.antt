@@ -14,10 +14,11 @@ use Rattle.lowering_laws.specs.Terms.{and_guard}
 use Rattle.path_flatten.specs.Guards.{guard_meaning}
 use Rattle.target_laws.specs.Vectors.{vector_target}
 use Rattle.target_flatten.specs.declared.writes.Write.{Write}
-use Rattle.target_flatten.specs.Writing.{in_vector}
+use Rattle.memory_laws.specs.InWords.{word_piece}
+use Rattle.target_flatten.specs.Writing.{in_vector, piece}
 use Rattle.memory_targets.specs.declared.words.Word.{Word}
 use Rattle.memory_targets.specs.Words.{word_sel, word_guard}
-use Rattle.memory_targets.specs.Pieces.{selects_in, TargetInWord, InWord, AllInWord}
+use Rattle.memory_targets.specs.Pieces.{selects_in, inner_of, IsBehindWord, TargetInWord, InWord, AllInWord}
 
 pub out-Name : (name : Name) (sels : List VSel) → out-VLval (L.Name name sels) ≡ VLval-F.Name name sels
 out-Name name sels = ap out-VLval (sym (L.rolls-Name name sels)) ∙ out-roll-VLval (VLval-F.Name name sels)
@@ -45,11 +46,17 @@ is-name name other sels others is =
     subst (IsName name sels) (sym (ap out-VLval is ∙ out-Name name sels) ∙ sym (sym (out-Name other others)))
     (record { name_is = refl; sels_are = refl })
 
+-- selects behind that of the word
+pub behind-by : (w : Word) (sel : VSel) (made rest sels news : List VSel) → sel_meaning sel ≡ word_sel w → made ≡ sel ∷ [] → rest ≡ sels → news ≡ made ++ rest → IsBehindWord w sels news
+behind-by w sel made rest sels news means one copies all = record { sel = sel; word = means; is = all ∙ ap (λ ss. ss ++ rest) one ∙ ap (λ ss. sel ∷ ss) copies }
+
+pub ruleset behind = (behind-by)
+
 -- a target in a word
-pub name-in : (w : Word) (name : Name) (sels news : List VSel) → map sel_meaning news ≡ word_sel w ∷ map sel_meaning sels → TargetInWord w (L.Name name sels) (L.Name name news)
-name-in w name sels news means other others is =
+pub name-in : (w : Word) (name : Name) (sels news : List VSel) → IsBehindWord w sels news → TargetInWord w (L.Name name sels) (L.Name name news)
+name-in w name sels news behind other others is =
     let same = is-name other name others sels is in
-    (news, ap (λ n. L.Name n news) same.name_is, means ∙ ap (λ ss. word_sel w ∷ map sel_meaning ss) same.sels_are)
+    record { news = news; is = ap (λ n. L.Name n news) same.name_is; behind = subst (λ ss. IsBehindWord w ss news) same.sels_are behind }
 
 abbrev IsConcat : VLval-F VLval → Type 0
 IsConcat (VLval-F.Name n ss) = ⊥
@@ -66,11 +73,16 @@ concat-in w to new parts concat name sels is = absurd (not-name to parts concat 
 
 pub write-in : (w : Word) (x : Write) (guard : Option VExpr) (to : VLval) → guard_meaning guard ≡ and_guard (word_guard w) (guard_meaning x.guard) → TargetInWord w x.to to
     → InWord w x (record { guard = guard; to = to; low = x.low; width = x.width })
-write-in w x guard to g t name sels is =
-    let r = t name sels is in
-    let there : target to ≡ name_target name (word_sel w ∷ selects_in x.to) =
-    ap target r.1 ∙ target-is name r.0 ∙ ap (name_target name) (r.2 ∙ ap (λ ss. word_sel w ∷ ss) (sym (ap selects_in is ∙ selects-are name sels))) in
-    λ d. record { guard = g d; to = there d; low = x.low; width = x.width }
+write-in w x guard to g t = record { to = t; guard = g; low = refl; width = refl }
+
+-- what it writes
+pub piece-in : (w : Word) (x y : Write) (name : Name) (sels : List VSel) → x.to ≡ L.Name name sels → InWord w x y → piece y ≡ word_piece name (word_guard w) (word_sel w) (inner_of x)
+piece-in w x y name sels is h =
+    let r = h.to name sels is in
+    let there : target y.to ≡ name_target name (word_sel w ∷ selects_in x.to) =
+    ap target r.is ∙ target-is name r.news ∙ ap (λ ss. name_target name (map sel_meaning ss)) r.behind.is
+    ∙ ap (λ s. name_target name (s ∷ map sel_meaning sels)) r.behind.word ∙ ap (λ ss. name_target name (word_sel w ∷ ss)) (sym (ap selects_in is ∙ selects-are name sels)) in
+    λ d. record { guard = h.guard d; to = there d; low = h.low d; width = h.width d }
 
 -- targets, one by one
 pub all-in : (w : Word) (xs ys : List Write) (x y : Write) → AllInWord w xs ys → InWord w x y → AllInWord w (xs ++ x ∷ []) (ys ++ y ∷ [])

@@ -32,7 +32,7 @@ use Rattle.target_flatten.specs.Writing.{pieces, in_vector, pieces_in, WritesPat
 use Rattle.memory_targets.specs.declared.words.Word.{Word}
 use Rattle.memory_targets.specs.Words.{word_sel, word_guard}
 use Rattle.memory_targets.specs.Pieces.{selects_in, inners, AllInWord}
-use Rattle.memory_targets.proofs.Naming.{selects-are, vector-are}
+use Rattle.memory_targets.proofs.Naming.{selects-are, vector-are, piece-in}
 
 -- in the word alone
 module _ (w : ℕ) (name : Name) (bits : ℕ) (sc : Scope) (v : Valuation) where
@@ -62,7 +62,7 @@ pub words-are : (w : Word) (name : Name) (bits : ℕ) (xs ys : List Write) → A
 words-are w name bits [] [] own h = refl
 words-are w name bits [] (y ∷ ys) own h = absurd h
 words-are w name bits (x ∷ xs) [] own h = absurd h
-words-are w name bits (x ∷ xs) (y ∷ ys) own h = λ d. h.0 name own.0.sels own.0.is d ∷ words-are w name bits xs ys own.1 h.1 d
+words-are w name bits (x ∷ xs) (y ∷ ys) own h = λ d. piece-in w x y name own.0.sels own.0.is h.0 d ∷ words-are w name bits xs ys own.1 h.1 d
 
 -- Targets of the path in the element, whose selects write it in a word alone, write the path on the element to the memory's words.
 module _ (n : ℕ) (t : SvType) (i e inner : Expr) (in_element : IsInner n t i e inner) (typed : (meaning e).misfits ≡ 0) (xs : List Indexing) (part : Bool) (path : IsTypedPath n t e xs part)

@@ -1,3 +1,4 @@
 pub mod Words
 pub mod Pieces
 pub mod Names
+pub mod Owning

@@ -5,7 +5,9 @@ ghost use Rattle.lowering_laws.specs.Terms.{and_guard};
 ghost use Rattle.v_meaning.specs.Values.{sel_meaning};
 ghost use Rattle.path_flatten.specs.Guards.{guard_meaning};
 ghost use Rattle.memory_targets.specs.Words.{word_sel, word_guard};
-ghost use Rattle.memory_targets.specs.Pieces.{InWord, TargetInWord, AllInWord};
+ghost use Rattle.memory_targets.specs.Names.{NamedInWord};
+ghost use Rattle.memory_targets.specs.Owning.{OwnInWord};
+ghost use Rattle.memory_targets.specs.Pieces.{IsBehindWord, InWord, TargetInWord, AllInWord};
 
 use crate::words::{Word, guard_copy, guard_of, joined_guard, word_select};
 use pairs::both;
@@ -56,8 +58,9 @@ fn one_select(alloc: Global, first: VSel) -> Result<VSels, AllocError>
 }
 
 /// Selects behind that of a word.
+#[tactic(auto, using(crate::proofs::Naming::behind))]
 fn behind_word(alloc: Global, word: &Word, sels: &[VSel]) -> Result<VSels, AllocError>
-    ensures { IfOk result (λ made. map sel_meaning made ≡ word_sel word.now ∷ map sel_meaning sels.now) }
+    ensures { IfOk result (IsBehindWord word.now sels.now) }
 {
     let first = word_select(alloc, word)?;
     let first = one_select(alloc, first);
@@ -106,9 +109,8 @@ fn write_in(alloc: Global, word: &Word, write: &Write) -> Result<Write, AllocErr
     })
 }
 
-/// Targets of a path in a word alone, as targets in the word of a memory of the same name: behind its select and under its guard. Or
-/// want of memory.
-pub fn in_words(alloc: Global, word: &Word, writes: &[Write]) -> Result<Writes, AllocError>
+/// Targets for some bits of a value in the word, one by one.
+fn each_in_word(alloc: Global, word: &Word, writes: &[Write]) -> Result<Writes, AllocError>
     ensures { IfOk result (AllInWord word.now writes.now) }
 {
     let mut made: Writes = Items::new(alloc);
@@ -116,4 +118,16 @@ pub fn in_words(alloc: Global, word: &Word, writes: &[Write]) -> Result<Writes, 
         made.push(write_in(alloc, word, write)?)?;
     }
     Ok(made)
+}
+
+/// Targets of a path in a word alone, as targets in the word of a memory of the same name: behind its select and under its guard.
+/// Those of a name with at most one select have at most one behind the word's, and none where a word has one bit; they name what those
+/// in the word alone do, and what the word does. Or want of memory.
+#[tactic(auto, using(crate::proofs::Owning::owning))]
+pub fn in_words(alloc: Global, word: &Word, writes: &[Write]) -> Result<Writes, AllocError>
+    ensures all { IfOk result (AllInWord word.now writes.now) }
+    ensures own { IfOk result (OwnInWord word.now writes.now) }
+    ensures names { IfOk result (NamedInWord word.now writes.now) }
+{
+    each_in_word(alloc, word, writes)
 }

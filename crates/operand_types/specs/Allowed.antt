@@ -7,12 +7,16 @@ use Rattle.expr_type.specs.Breaks.{Breaks}
 use Rattle.sv_types.specs.declared.expression.Expr.{Expr}
 use Rattle.sv_types.specs.Layouts.{width_of}
 
--- an operand of at most 65,536 bits, as E701 wants it
+-- an operand of at most 2^22 bits, which a signal that is an unpacked array may have
 abbrev pub IsNarrow : Valued → Type 0
-IsNarrow v = width_of v.expr.of ≤ 65536
+IsNarrow v = width_of v.expr.of ≤ 4194304
+
+-- one of at most 65,536 bits, as E701 leaves a stream
+abbrev pub IsShort : Valued → Type 0
+IsShort v = width_of v.expr.of ≤ 65536
 
 abbrev pub IsNarrowExpr : Expr → Type 0
-IsNarrowExpr e = width_of e.of ≤ 65536
+IsNarrowExpr e = width_of e.of ≤ 4194304
 
 abbrev pub AllNarrow : List Expr → Type 0
 AllNarrow [] = ⊤

@@ -316,7 +316,7 @@ fn operated(
     by_kind(alloc, text, binary_kind(op), at, parts)
 }
 
-/// An operator at a token between two operands of at most 65,536 bits (IEEE 1800-2017 table 11-21). It breaks E508 where an
+/// An operator at a token between two operands of at most 2^22 bits (IEEE 1800-2017 table 11-21). It breaks E508 where an
 /// operand is unpacked, and E502, at the first operator in the order of the text, where one does arithmetic or compares by order
 /// at more than 128 bits.
 pub fn binary_of(

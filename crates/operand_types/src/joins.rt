@@ -75,7 +75,7 @@ fn few_bits_times(count: u32, parts: &[Expr]) -> Option<u32>
     Some(bits as u32)
 }
 
-/// A concatenation at its `{`, of parts of at most 65,536 bits each. It breaks E701 where they have more than that together.
+/// A concatenation at its `{`, of parts of at most 2^22 bits each. It breaks E701 where they have more than 65,536 together.
 pub fn concat_of(
     alloc: Global,
     text: Source<'_>,
@@ -98,8 +98,8 @@ pub fn concat_of(
     }
 }
 
-/// A concatenation that is repeated so often, at its outer `{`, of parts of at most 65,536 bits each. It breaks E701 where the
-/// whole has more than that.
+/// A concatenation that is repeated so often, at its outer `{`, of parts of at most 2^22 bits each. It breaks E701 where the
+/// whole has more than 65,536.
 pub fn repeat_of(
     alloc: Global,
     text: Source<'_>,

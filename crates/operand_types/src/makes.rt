@@ -83,7 +83,7 @@ pub fn by_itself(
 /// An expression whose operands take the context: in one of its own width no arithmetic may be too wide (E502).
 #[tactic(auto, using(crate::proofs::Allowing::allowed))]
 pub fn in_context(alloc: Global, text: Source<'_>, first: u32, parts: Parts) -> Result<Valued, Halt>
-    requires { width_of parts.of ≤ 65536 }
+    requires { width_of parts.of ≤ 4194304 }
     ensures value { Gives result (operator.in_context (source text.entry) first parts.of parts.form parts.arithmetic) }
     ensures of { IfOk result (λ v. v.expr.of ≡ parts.of) }
 {

@@ -35,7 +35,7 @@ pub struct Operands {
 pub fn width_of_operand(v: &Valued) -> u32
     requires { IsNarrow v.now }
     ensures value { result ≡ rule.width v.now }
-    ensures narrow { result ≤ 65536 }
+    ensures narrow { result ≤ 4194304 }
 {
     width(&v.expr.of)
 }
@@ -45,7 +45,7 @@ pub fn both_wide(parts: &Operands) -> u32
     requires left { IsNarrow parts.now.left }
     requires right { IsNarrow parts.now.right }
     ensures value { result ≡ operator.both_wide parts.now.left parts.now.right }
-    ensures narrow { result ≤ 65536 }
+    ensures narrow { result ≤ 4194304 }
 {
     width_of_operand(&parts.left).max(width_of_operand(&parts.right))
 }
@@ -55,7 +55,7 @@ pub fn both_type(alloc: Global, parts: &Operands) -> Result<SvType, AllocError>
     requires left { IsNarrow parts.now.left }
     requires right { IsNarrow parts.now.right }
     ensures value { IfOk result (λ t. t ≡ operator.both_type parts.now.left parts.now.right) }
-    ensures narrow { IfOk result (λ t. width_of t ≤ 65536) }
+    ensures narrow { IfOk result (λ t. width_of t ≤ 4194304) }
 {
     let signed = is_signed(&parts.left.expr.of) && is_signed(&parts.right.expr.of);
     vector(alloc, both_wide(parts), signed)
@@ -63,9 +63,9 @@ pub fn both_type(alloc: Global, parts: &Operands) -> Result<SvType, AllocError>
 
 /// The vector of an expression's width and sign.
 pub fn same_type(alloc: Global, e: &Expr) -> Result<SvType, AllocError>
-    requires { width_of e.now.of ≤ 65536 }
+    requires { width_of e.now.of ≤ 4194304 }
     ensures value { IfOk result (λ t. t ≡ vector (width_of e.now.of) (sign_of e.now.of)) }
-    ensures narrow { IfOk result (λ t. width_of t ≤ 65536) }
+    ensures narrow { IfOk result (λ t. width_of t ≤ 4194304) }
 {
     vector(alloc, width(&e.of), is_signed(&e.of))
 }

@@ -95,7 +95,7 @@ fn operated(
     e: Expr,
     arithmetic: Items<u32>,
 ) -> Result<Valued, Halt>
-    requires { width_of e.of ≤ 65536 }
+    requires { width_of e.of ≤ 4194304 }
     ensures value { Gives result (operator.in_context (source text.entry) at (vector (width_of e.of) (sign_of e.of)) (Form.Unary op e) arithmetic) }
     ensures narrow { IfOk result IsNarrow }
 {
@@ -168,7 +168,7 @@ fn by_kind(
     }
 }
 
-/// An operator at a token before an operand of at most 65,536 bits (IEEE 1800-2017 table 11-21). It breaks E508 where the operand
+/// An operator at a token before an operand of at most 2^22 bits (IEEE 1800-2017 table 11-21). It breaks E508 where the operand
 /// is unpacked, and E502, at the first operator in the order of the text, where one does arithmetic at more than 128 bits.
 pub fn unary_of(
     alloc: Global,

@@ -13,7 +13,7 @@ use operand_types::{
 use std::alloc::Global;
 use sv_source::Boxed;
 use sv_tree::{BinaryOperator, UnaryOperator};
-use sv_types::{EnumNames, Expr, Exprs, Form, SvType, is_narrow, width};
+use sv_types::{EnumNames, Expr, Exprs, Form, SvType, is_narrow};
 use type_kinds::{one_bit, vector};
 
 fn enumeration(alloc: Global, id: u32) -> Result<SvType, Halt> {
@@ -32,7 +32,16 @@ fn list(alloc: Global) -> Result<SvType, Halt> {
     })
 }
 
-// `u8`, `s8` and the like are vectors, `e` and `f` enums of two bits, and `l` an unpacked list.
+// 65,537 elements of a byte
+fn memory(alloc: Global) -> Result<SvType, Halt> {
+    Ok(SvType::UnpackedArray {
+        left: 0,
+        right: 65536,
+        item: Boxed::new(alloc, vector(alloc, 8, false)?)?,
+    })
+}
+
+// `u8`, `s8` and the like are vectors, `e` and `f` enums of two bits, `l` an unpacked list, and `m` one of over 65,536 bits.
 fn type_of(alloc: Global, word: &str) -> Result<SvType, Halt> {
     match word {
         "bit" => Ok(one_bit()),
@@ -44,6 +53,7 @@ fn type_of(alloc: Global, word: &str) -> Result<SvType, Halt> {
         "e" => enumeration(alloc, 1),
         "f" => enumeration(alloc, 2),
         "l" => list(alloc),
+        "m" => memory(alloc),
         _ => Err(Halt::Quiet),
     }
 }
@@ -72,10 +82,10 @@ fn unary(word: &str) -> Option<UnaryOperator> {
     }
 }
 
-fn is_short(v: &Valued) -> bool
+fn has_narrow_type(v: &Valued) -> bool
     ensures { IsTrue result → IsNarrow v.now }
 {
-    is_narrow(&v.expr.of) && width(&v.expr.of) <= 65536
+    is_narrow(&v.expr.of)
 }
 
 fn popped(stack: &mut Vec<Valued>) -> Result<Valued, Halt> {
@@ -93,7 +103,7 @@ fn two(stack: &mut Vec<Valued>) -> Result<Operands, Halt> {
 fn short_two(parts: Operands) -> Result<Operands, Halt>
     ensures { IfOk result (λ parts. IsNarrow parts.left × IsNarrow parts.right) }
 {
-    if is_short(&parts.left) && is_short(&parts.right) {
+    if has_narrow_type(&parts.left) && has_narrow_type(&parts.right) {
         Ok(parts)
     } else {
         Err(Halt::Quiet)
@@ -118,7 +128,7 @@ fn prefixed(
     at: u32,
     v: Valued,
 ) -> Result<Valued, Halt> {
-    if is_short(&v) {
+    if has_narrow_type(&v) {
         unary_of(alloc, text, op, at, v)
     } else {
         Err(Halt::Quiet)
@@ -145,7 +155,7 @@ fn part(text: Source<'_>, v: Valued) -> Result<Expr, Halt>
     ensures { IfOk result IsNarrowExpr }
 {
     let v = is_part(text, v)?;
-    if is_short(&v) {
+    if has_narrow_type(&v) {
         Ok(v.expr)
     } else {
         Err(Halt::Quiet)
@@ -218,7 +228,7 @@ fn compared(
 fn inside(alloc: Global, text: Source<'_>, at: u32, parts: Membership) -> Result<Valued, Halt>
     requires { AllNarrowIn parts.items }
 {
-    if is_short(&parts.value) {
+    if has_narrow_type(&parts.value) {
         let Membership { value, items } = parts;
         inside_of(alloc, text, at, value, items)
     } else {
@@ -240,7 +250,7 @@ fn only(v: Option<Valued>) -> Result<Alternative, Halt>
     ensures { IfOk result IsNarrowIn }
 {
     let v = v.ok_or(Halt::Quiet)?;
-    if is_short(&v) {
+    if has_narrow_type(&v) {
         Ok(Alternative::Only(v))
     } else {
         Err(Halt::Quiet)

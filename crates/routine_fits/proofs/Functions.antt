@@ -1,14 +1,14 @@
 -- Functions whose bodies are sound can be run.
-use Rattle.std.proofs.Common.{ℕ, ◌≤◌, List, [], ◌∷◌, ◌++◌, arith}
+use Rattle.std.proofs.Common.{ℕ, List, [], ◌∷◌, ◌++◌, arith}
 use Rattle.sv_types.specs.declared.statement.Formal.{Formal}
 use Rattle.sv_types.specs.declared.statement.Function.{Function}
 use Rattle.sv_types.specs.declared.statement.Stmt.{Stmt}
-use Rattle.sv_types.specs.Layouts.{width_of}
 use Rattle.sv_types.specs.Surroundings.{Parameter}
 use Rattle.eval_parts.specs.Targets.{AllNarrow}
 use Rattle.eval_forms.specs.Callees.{formals_in}
 use Rattle.eval_runs.specs.Functions.{EachCanRun, AllCanRun}
-use Rattle.typing_fits.specs.Sound.{Knows, Extends}
+use Rattle.typing_fits.specs.Sound.{Knows, Extends, IsNarrowType}
+use Rattle.typing_fits.specs.Operands.{AllFormalsFull}
 use Rattle.typing_fits.proofs.Given.{knows-itself, knows-fewer, extends-more}
 use Rattle.routine_fits.specs.Sound.{SoundStmt, SoundFunction, EachSound, AllSoundFunctions, WritesNoSignal, AllFormalsNarrow}
 
@@ -16,10 +16,12 @@ formals : (fs : List Formal) → AllFormalsNarrow fs → AllNarrow fs
 formals [] n = tt
 formals (f ∷ fs) n = (omega (arith, n.0), formals fs n.1)
 
-pub function-sound : (f : Function) (gs : List Function) → AllFormalsNarrow f.formals → width_of f.of ≤ 65536 → SoundStmt f.body gs → WritesNoSignal f gs → SoundFunction f gs
-function-sound f gs narrow short s w = record {
+pub function-sound : (f : Function) (gs : List Function) → AllFormalsNarrow f.formals → AllFormalsFull f.formals → IsNarrowType f.of → SoundStmt f.body gs → WritesNoSignal f gs → SoundFunction f gs
+function-sound f gs narrow full of s w = record {
+  result = of;
+  formals = full;
   runs = λ fs k. record {
-    types = record { formals = formals f.formals narrow; result = omega (arith, short) };
+    types = record { formals = formals f.formals narrow; result = omega (arith, of.narrow) };
     body = let b = s.fits fs k in record { keeps = b.keeps; places = b.places; held = w.locals fs k };
   };
 }
@@ -29,7 +31,7 @@ pub statement-later : (s : Stmt) (gs hs : List Function) → Extends gs hs → S
 statement-later s gs hs e x = record { fits = λ fs k. x.fits fs (knows-fewer gs hs fs e k) }
 
 pub function-later : (f : Function) (gs hs : List Function) → Extends gs hs → SoundFunction f gs → SoundFunction f hs
-function-later f gs hs e x = record { runs = λ fs k. x.runs fs (knows-fewer gs hs fs e k) }
+function-later f gs hs e x = record { result = x.result; formals = x.formals; runs = λ fs k. x.runs fs (knows-fewer gs hs fs e k) }
 
 each-later : (fs gs hs : List Function) → Extends gs hs → EachSound fs gs → EachSound fs hs
 each-later [] gs hs e s = tt

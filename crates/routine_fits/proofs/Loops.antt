@@ -58,7 +58,7 @@ same-sign : (b : Bool) → (b && b) ≡ b
 same-sign true = refl
 same-sign false = refl
 
-wider : (k : Source) (at w : ℕ) (e : Expr) (gs : List Function) → width_of e.of < w → w ≤ 65536 → IsNarrowType e.of → LimitedAt (meaning e) w gs
+wider : (k : Source) (at w : ℕ) (e : Expr) (gs : List Function) → width_of e.of < w → w ≤ 4194304 → IsNarrowType e.of → LimitedAt (meaning e) w gs
     → LimitedAt (meaning (expr_at k at (vector w (sign_of e.of)) (F.Choose (expr_at k at one_bit (F.Literal (One ∷ []) false)) e (expr_at k at (vector w (sign_of e.of)) (F.Literal (vec w (pos 0)) false)))))
     (wide (meaning (expr_at k at (vector w (sign_of e.of)) (F.Choose (expr_at k at one_bit (F.Literal (One ∷ []) false)) e (expr_at k at (vector w (sign_of e.of)) (F.Literal (vec w (pos 0)) false)))))) gs
 wider k at w e gs less short of l =
@@ -79,7 +79,7 @@ wider k at w e gs less short of l =
     (choose-at (layout t) at (meaning on) (meaning e) (meaning zero) w gs (result-as (layout t) w (O.both_wide (meaning e) (meaning zero)) s (O.both_signed (meaning e) (meaning zero)) (vector-of w s some short).result both sign)
     (at-width (meaning on) [] gs (wide (meaning on)) a.limits refl) l (at-width (meaning zero) [] gs w z.limits refl)))
 
-widened-by : (k : Context) (at w : ℕ) (e : Expr) (gs : List Function) (b : Bool) → nat_lt (width_of e.of) w ≡ b → w ≤ 65536 → IsNarrowType e.of → LimitedAt (meaning e) (max w (width_of e.of)) gs
+widened-by : (k : Context) (at w : ℕ) (e : Expr) (gs : List Function) (b : Bool) → nat_lt (width_of e.of) w ≡ b → w ≤ 4194304 → IsNarrowType e.of → LimitedAt (meaning e) (max w (width_of e.of)) gs
     → LimitedAt (meaning (cond b (expr_at k.source at (vector w (sign_of e.of)) (F.Choose (always k at) e (expr_at k.source at (vector w (sign_of e.of)) (F.Literal (vec w (pos 0)) false)))) e))
     (wide (meaning (cond b (expr_at k.source at (vector w (sign_of e.of)) (F.Choose (always k at) e (expr_at k.source at (vector w (sign_of e.of)) (F.Literal (vec w (pos 0)) false)))) e))) gs
 widened-by k at w e gs true is short of l =

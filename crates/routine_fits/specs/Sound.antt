@@ -16,6 +16,7 @@ use Rattle.eval_stmts.specs.Environments.{AllHeld}
 use Rattle.eval_stmts.specs.Limits.{StmtFits}
 use Rattle.eval_stmts.specs.Targets.{values_of}
 use Rattle.eval_runs.specs.Functions.{CanRun}
+use Rattle.typing_fits.specs.Operands.{AllFormalsFull}
 use Rattle.typing_fits.specs.Sound.{Knows, IsNarrowType, LimitedAt, SoundAlone, AllSoundAlone, SoundFor}
 
 -- A statement, where these functions are known: it keeps the limits of statements, whichever signals are held.
@@ -47,7 +48,7 @@ AllSoundLocals (l ∷ ls) gs = SoundLocal l gs × AllSoundLocals ls gs
 -- what an assignment writes, and its value at the larger width of both
 pub record SoundAssign (to : List Expr) (e : Expr) (gs : List Function) : Type 0 where
   pub targets : AllSoundAlone to gs
-  pub width : width_of_all (map meaning to) ≤ 65536
+  pub width : width_of_all (map meaning to) ≤ 4194304
   pub of : IsNarrowType e.of
   pub value : LimitedAt (meaning e) (max (width_of_all (map meaning to)) (width_of e.of)) gs
 
@@ -75,8 +76,10 @@ abbrev pub AllSoundBodies : List CaseItem → List Function → Type 0
 AllSoundBodies [] gs = ⊤
 AllSoundBodies (i ∷ is) gs = SoundStmt i.body gs × AllSoundBodies is gs
 
--- a function that can be run where these functions are known
+-- a function that can be run where these functions are known, with full types
 pub record SoundFunction (f : Function) (gs : List Function) : Type 0 where
+  pub result : IsNarrowType f.of
+  pub formals : AllFormalsFull f.formals
   pub runs : (fs : ℕ → List Parameter) → Knows gs fs → CanRun f fs
 
 abbrev pub EachSound : List Function → List Function → Type 0
@@ -93,4 +96,4 @@ pub record WritesNoSignal (f : Function) (gs : List Function) : Type 0 where
 
 abbrev pub AllFormalsNarrow : List Formal → Type 0
 AllFormalsNarrow [] = ⊤
-AllFormalsNarrow (f ∷ fs) = (width_of f.local.of ≤ 65536) × AllFormalsNarrow fs
+AllFormalsNarrow (f ∷ fs) = (width_of f.local.of ≤ 4194304) × AllFormalsNarrow fs

@@ -10,7 +10,7 @@ longer-not w h = let g : 65536 < w = omega arith in grind (arith, nat_tests, g)
 
 pub ruleset longer = (longer-not, nat_tests)
 
-pub short : (w : ℕ) → nat_lt 65536 w ≡ false → w ≤ 65536
+pub short : (w : ℕ) → nat_lt 65536 w ≡ false → w ≤ 4194304
 short w h = grind (arith, nat_tests)
 
 pub ruleset lengths = (short)

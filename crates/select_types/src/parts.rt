@@ -40,7 +40,7 @@ fn falls(left: i64, right: i64) -> bool
 
 // Whether bounds go the other way than those of what is selected from.
 fn goes_wrong(t: &SvType, left: i64, right: i64) -> bool
-    requires { width_of t.now ≤ 65536 }
+    requires { width_of t.now ≤ 4194304 }
     ensures { result ≡ select.goes_wrong t.now left right }
 {
     let bounds = bounds_of(t);
@@ -70,7 +70,7 @@ fn parted(
     selected(alloc, text, opening, first, of, form)
 }
 
-/// A part of a value of at most 65,536 bits between two constant bounds, at its `[`. It breaks E508 where the value is unpacked,
+/// A part of a value of at most 2^22 bits between two constant bounds, at its `[`. It breaks E508 where the value is unpacked,
 /// E411, at the left bound, where the bounds go in the wrong direction, and E701 where the part has more than 65,536 bits.
 pub fn part(
     alloc: Global,

@@ -51,7 +51,7 @@ pub fn selected(
     Ok(v)
 }
 
-/// What a step makes of a value of at most 65,536 bits. It breaks E405 where a member isn't there, E508 where an unpacked value is
+/// What a step makes of a value of at most 2^22 bits. It breaks E405 where a member isn't there, E508 where an unpacked value is
 /// sliced, E411 where bounds go in the wrong direction, and E701 where what is selected has more than 65,536 bits.
 pub fn stepped(alloc: Global, text: Source<'_>, v: Valued, step: Step) -> Result<Valued, Halt>
     requires narrow { IsNarrow v }

@@ -21,6 +21,8 @@ const STEPS: &[(&str, &str, u32, char)] = &[
     ("matrix", "[i]", 8, 's'),
     ("matrix", "[i+:4]", 32, 'u'),
     ("list", "[i]", 8, 's'),
+    ("memory", "[i]", 8, 's'),
+    ("memory", "[5:2]", 508, '5'),
 ];
 
 const OTHERS: &[(&str, &str, u32, char)] = &[

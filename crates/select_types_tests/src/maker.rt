@@ -9,7 +9,7 @@ use operand_types::by_itself;
 use select_types::{is_index, stepped};
 use std::alloc::{AllocError, Global};
 use sv_source::{Boxed, Kind, Place, Text, Token, Tokens};
-use sv_types::{EnumNames, Form, Member, Members, SvType, is_narrow, width};
+use sv_types::{EnumNames, Form, Member, Members, SvType, is_narrow};
 use type_kinds::{one_bit, vector};
 
 fn token(alloc: Global, bytes: &[u8]) -> Result<Token, AllocError> {
@@ -73,18 +73,23 @@ fn two_state() -> SvType {
     }
 }
 
-// A vector that falls or rises, a vector of vectors, a list of vectors, a packed and an unpacked struct, an enum and an integer of two
-// states.
+fn list(alloc: Global, last: i64) -> Result<SvType, AllocError> {
+    Ok(SvType::UnpackedArray {
+        left: 0,
+        right: last,
+        item: Boxed::new(alloc, vector(alloc, 8, true)?)?,
+    })
+}
+
+// A vector that falls or rises, a vector of vectors, a list of vectors, one of over 65,536 bits, a packed and an unpacked struct, an
+// enum and an integer of two states.
 fn type_of(alloc: Global, word: &str) -> Result<SvType, Halt> {
     match word {
         "falling" => Ok(vector(alloc, 8, true)?),
         "rising" => Ok(packed(alloc, 0, 7, one_bit())?),
         "matrix" => Ok(packed(alloc, 1, 0, vector(alloc, 8, true)?)?),
-        "list" => Ok(SvType::UnpackedArray {
-            left: 0,
-            right: 3,
-            item: Boxed::new(alloc, vector(alloc, 8, true)?)?,
-        }),
+        "list" => Ok(list(alloc, 3)?),
+        "memory" => Ok(list(alloc, 65535)?),
         "packed" => Ok(structure(alloc, true)?),
         "plain" => Ok(structure(alloc, false)?),
         "enum" => Ok(SvType::Enum {
@@ -147,10 +152,10 @@ fn fits(step: &Step) -> bool
     }
 }
 
-fn is_short(v: &Valued) -> bool
+fn has_narrow_type(v: &Valued) -> bool
     ensures { IsTrue result → IsNarrow v.now }
 {
-    is_narrow(&v.expr.of) && width(&v.expr.of) <= 65536
+    is_narrow(&v.expr.of)
 }
 
 #[derive(Drop)]
@@ -167,7 +172,7 @@ fn with_step(from: Valued, step: Result<Step, Halt>) -> Result<Selection, Halt> 
 }
 
 fn one_step(alloc: Global, text: Source<'_>, parts: Selection) -> Result<Valued, Halt> {
-    if is_short(&parts.from) && fits(&parts.step) {
+    if has_narrow_type(&parts.from) && fits(&parts.step) {
         let Selection { from, step } = parts;
         stepped(alloc, text, from, step)
     } else {
@@ -198,7 +203,7 @@ pub fn index(alloc: Global, bits: u32) -> Result<Valued, Halt> {
     };
     let of = vector(alloc, bits, false)?;
     let v = value(alloc, text, 6, of)?;
-    if is_short(&v) {
+    if has_narrow_type(&v) {
         is_index(text, v)
     } else {
         Err(Halt::Quiet)

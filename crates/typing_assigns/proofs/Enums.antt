@@ -86,7 +86,7 @@ given-whole k t e o first made r is f g = given-plain k t e (operand_of k o) fir
 
 -- a stream is narrow among narrow operands
 abbrev narrow_by : O.Operand-F O.Operand J.Item → Type 0
-narrow_by (O.Operand-F.Plain v) = width_of v.expr.of ≤ 65536
+narrow_by (O.Operand-F.Plain v) = width_of v.expr.of ≤ 4194304
 narrow_by (O.Operand-F.Pattern tick times items) = Unit {0}
 narrow_by (O.Operand-F.Stream v) = width_of v.expr.of ≤ 65536
 

@@ -32,7 +32,7 @@ abbrev pub GivesTarget : Result Target Halt → Checked D.Target → Type 0
 GivesTarget (Ok c) m = GivesOne c m
 GivesTarget (Err h) m = HaltsBy h (reason m)
 
--- parts of at most 65,536 bits each
+-- parts of at most 2^22 bits each
 abbrev pub AllNarrowParts : List TargetPart → Type 0
 AllNarrowParts [] = ⊤
 AllNarrowParts (p ∷ ps) = IsNarrow p.of × AllNarrowParts ps

@@ -82,8 +82,8 @@ fn assign<S: Names>(
     })
 }
 
-// What an assignment gives to its target.
-fn assigned_by<S: Names>(
+/// What an assignment gives to its target.
+pub fn assigned_by<S: Names>(
     alloc: Global,
     names: &S,
     at: u32,

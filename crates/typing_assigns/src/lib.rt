@@ -8,7 +8,7 @@ mod giving;
 mod parts;
 mod target;
 
-pub use assigning::assignment;
+pub use assigning::{assigned_by, assignment};
 pub use combining::combined;
 pub use giving::assigned;
 pub use parts::{joined_target, stream_target, target_part, whole_of};

@@ -72,7 +72,7 @@ fn taken_apart(alloc: Global, parts: Vec<TargetPart>) -> Result<(Exprs, bool), A
     Ok((made, has_enum))
 }
 
-/// A concatenation of targets at its `{`, of at most 65,536 bits each. It breaks E701 where they have more than that together.
+/// A concatenation of targets at its `{`, of at most 2^22 bits each. It breaks E701 where they have more than 65,536 together.
 #[tactic(auto, using(crate::proofs::Joining::targets))]
 pub fn joined_target<S: Names>(
     alloc: Global,
@@ -136,7 +136,7 @@ fn is_cut(reversed: bool, slice: u32, parts: &[Expr]) -> bool
     reversed && left_over(slice, parts) != 0
 }
 
-/// A stream of targets of at most 65,536 bits each, at its outer `{`, in slices of so many bits. Where these stand in reverse order they
+/// A stream of targets of at most 2^22 bits each, at its outer `{`, in slices of so many bits. Where these stand in reverse order they
 /// are whole (E511), and it has at most 65,536 bits (E701).
 #[tactic(auto, using(crate::proofs::Joining::targets))]
 pub fn stream_target<S: Names>(

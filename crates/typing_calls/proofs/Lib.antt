@@ -2,4 +2,3 @@ pub mod InTurn
 pub mod Each
 pub mod Zipping
 pub mod Calling
-pub mod Growing

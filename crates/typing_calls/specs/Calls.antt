@@ -16,8 +16,6 @@ use Rattle.expr_type.specs.Names.{Called, Context, Source}
 use Rattle.expr_type.specs.Operands.{Operand}
 use Rattle.expr_type.specs.Typings.{Checked, Typing, all, all_of}
 use Rattle.typing_values.specs.Values.{unstreamed_of}
-use Rattle.typing_fits.specs.Sound.{Extends}
-use Rattle.routine_fits.specs.Sound.{AllSoundFunctions}
 
 -- the function that a name finds, which is to have so many formals
 abbrev pub needed_of : Context → QualifiedName → ℕ → Typing Called
@@ -38,7 +36,3 @@ actuals_of k es = all (map (unstreamed_of k) es)
 
 abbrev pub call_of_name : Context → QualifiedName → List E.Expr → Typing Valued
 call_of_name k of es = call k of (actuals k (map meaning es))
-
--- Functions keep their places where actuals are typed.
-pub record ActualsExtend (k : Context) (es : List E.Expr) : Type 0 where
-  pub keeps : (gs : List Function) → AllSoundFunctions gs → Extends gs (actuals_of k es gs).functions

@@ -1,5 +1,6 @@
 //! Actuals as they are typed.
 
+ghost use Rattle.typing_fits.specs.Sound.{Extends};
 ghost use Rattle.typing_steps.specs.Steps.{TypesTo};
 ghost use Rattle.pattern_types.specs.Meaning.{operand_of};
 ghost use Rattle.typing_parts.specs.Typists.{AllCanType, IsReady};
@@ -27,6 +28,7 @@ pub fn actuals<S: Names, F: Fn(&Expr, &mut Known) -> Result<Operand, Halt>>(
     requires ready { IsReady known.old }
     ensures value { TypesTo (all_meant (operand_of (S.context names.now).source) result) (actuals_of (S.context names.now) es.now known.old.functions) known.new.functions }
     ensures ready { IsReady known.new }
+    ensures keeps { Extends known.old.functions known.new.functions }
 {
     let mut made: Result<Vec<Operand>, Halt> = Ok(Vec::new(alloc));
     for e in es {

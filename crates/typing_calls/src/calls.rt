@@ -1,8 +1,9 @@
 //! Calls.
 
+ghost use Rattle.typing_fits.specs.Sound.{Extends};
 ghost use Rattle.typing_steps.specs.Steps.{TypesTo};
 ghost use Rattle.typing_parts.specs.Typists.{AllCanType, IsReady, MakesKnown};
-ghost use Rattle.typing_calls.specs.Calls.{ActualsExtend, call_of_name};
+ghost use Rattle.typing_calls.specs.Calls.{call_of_name};
 
 use crate::arguments::actuals;
 use crate::needing::needed;
@@ -31,10 +32,10 @@ pub fn call<
 ) -> Result<Valued, Halt>
     requires needs { MakesKnown _ (C.IsAlwaysCallable needs.now) (λ k. k.now) (C.post needs.now) (S.context names.now) }
     requires can { AllCanType _ _ (λ e. e.now) (λ k. k.now) (F.pre typed.now) (F.post typed.now) (S.context names.now) arguments.now }
-    requires extend { ActualsExtend (S.context names.now) arguments.now }
     requires ready { IsReady known.old }
     ensures value { TypesTo result (call_of_name (S.context names.now) of arguments.now known.old.functions) known.new.functions }
     ensures ready { IsReady known.new }
+    ensures keeps { Extends known.old.functions known.new.functions }
 {
     match needed(names, needs, of, arguments.len(), known) {
         Ok(place) => {

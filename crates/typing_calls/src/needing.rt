@@ -2,6 +2,7 @@
 
 ghost use Rattle.std.specs.Prelude.{◌≡◌};
 ghost use Rattle.expr_type.specs.Forms as form;
+ghost use Rattle.typing_fits.specs.Sound.{Extends};
 ghost use Rattle.typing_parts.specs.Typists.{CalledTo, IsReady, MakesKnown};
 ghost use Rattle.typing_calls.specs.Calls.{needed_of};
 
@@ -32,6 +33,7 @@ pub fn needed<S: Names, C: Fn(u32, &mut Known) -> Result<u32, Halt>>(
     requires ready { IsReady known.old }
     ensures value { CalledTo result (needed_of (S.context names.now) of count known.old.functions) known.new.functions }
     ensures ready { IsReady known.new }
+    ensures keeps { Extends known.old.functions known.new.functions }
 {
     match names.found(of) {
         None => Err(Halt::Quiet),

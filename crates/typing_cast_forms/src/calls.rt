@@ -3,6 +3,7 @@
 ghost use Rattle.std.specs.Prelude.{◌≡◌};
 ghost use Rattle.routine_fits.specs.Sound.{AllSoundFunctions};
 ghost use Rattle.typing_walks.specs.Keeps.{Surrounded};
+ghost use Rattle.typing_fits.specs.Sound.{Extends};
 ghost use Rattle.typing_steps.specs.Steps.{TypesTo};
 ghost use Rattle.typing_parts.specs.Operands.{as_operand};
 ghost use Rattle.typing_parts.specs.Typists.{AllCanType, IsReady, MakesKnown};
@@ -20,6 +21,7 @@ use typing_casts::by_size;
 use typing_parts::{Known, Names};
 
 /// A call of a function, or a cast to the size that it gives.
+#[tactic(auto, using(typing_parts::proofs::Keeping::keepings))]
 pub fn called<
     S: Names,
     F: Fn(&Expr, &mut Known) -> Result<Operand, Halt>,
@@ -42,6 +44,7 @@ pub fn called<
     requires ready { IsReady known.old }
     ensures value { TypesTo (as_operand (S.context names.now).source result) (called_of (S.context names.now) of arguments.now cast.now known.old.functions) known.new.functions }
     ensures ready { IsReady known.new }
+    ensures keeps { Extends known.old.functions known.new.functions }
 {
     let made = as_plain(call(alloc, names, needs, typed, of, arguments, known));
     match cast {

@@ -8,6 +8,7 @@ ghost use Rattle.expr_type.specs.Typings.{Typing};
 ghost use Rattle.expr_type.specs.declared.operand.Valued as values;
 ghost use Rattle.sv_types.specs.declared.statement.Function.{Function};
 ghost use Rattle.typing_fits.specs.Operands.{SoundContext};
+ghost use Rattle.typing_fits.specs.Sound.{Extends};
 ghost use Rattle.typing_steps.specs.Steps.{TypesTo};
 ghost use Rattle.typing_parts.specs.Operands.{as_operand};
 ghost use Rattle.typing_parts.specs.Typists.{AllCanType, CanType, FitsIfOk, IsReady};
@@ -48,11 +49,13 @@ fn operand<S: Names, F: Fn(&Expr, &mut Known) -> Result<Operand, Halt>>(
     ensures value { TypesTo (as_operand (S.context names.now).source result) ((meaning e.now).typed (S.context names.now) known.old.functions) known.new.functions }
     ensures fits { FitsIfOk result known.new.functions }
     ensures ready { IsReady known.new }
+    ensures keeps { Extends known.old.functions known.new.functions }
 {
     typed(e, known)
 }
 
 /// `(value)`, which begins at its `(`, or a cast to the size that it gives.
+#[tactic(auto, using(typing_parts::proofs::Keeping::keepings))]
 pub fn parenthesized<S: Names, F: Fn(&Expr, &mut Known) -> Result<Operand, Halt>>(
     alloc: Global,
     names: &S,
@@ -68,6 +71,7 @@ pub fn parenthesized<S: Names, F: Fn(&Expr, &mut Known) -> Result<Operand, Halt>
     requires ready { IsReady known.old }
     ensures value { TypesTo (as_operand (S.context names.now).source result) (parenthesized_of (S.context names.now) opening value.now cast.now known.old.functions) known.new.functions }
     ensures ready { IsReady known.new }
+    ensures keeps { Extends known.old.functions known.new.functions }
 {
     let inner = operand(names, typed, value, known);
     match cast {

@@ -7,6 +7,7 @@ ghost use Rattle.operand_types.specs.Allowed.{IsNarrow};
 ghost use Rattle.typing_casts.specs.Insides.{as_bits, as_inside, bits_of, inside_bits, inside_of, operand_bits};
 ghost use Rattle.pattern_types.specs.Meaning.{operand_of};
 ghost use Rattle.typing_fits.specs.Operands.{SoundContext};
+ghost use Rattle.typing_fits.specs.Sound.{Extends};
 ghost use Rattle.typing_parts.specs.Typists.{AllCanType, CanType, IsNarrowOperand, IsReady, NarrowIfOk};
 ghost use Rattle.typing_parts.specs.Operands.{as_operand};
 ghost use Rattle.typing_rows.specs.Rows.{mapped};
@@ -54,6 +55,7 @@ fn operand<S: Names, F: Fn(&Expr, &mut Known) -> Result<Operand, Halt>>(
     ensures value { TypesTo (as_operand (S.context names.now).source result) ((meaning e.now).typed (S.context names.now) known.old.functions) known.new.functions }
     ensures narrow { NarrowIfOk result }
     ensures ready { IsReady known.new }
+    ensures keeps { Extends known.old.functions known.new.functions }
 {
     typed(e, known)
 }
@@ -72,6 +74,7 @@ pub fn behind_tick<S: Names, F: Fn(&Expr, &mut Known) -> Result<Operand, Halt>>(
     ensures value { TypesTo (mapped (as_inside (S.context names.now).source) result) (inside_of (S.context names.now) cast.now known.old.functions) known.new.functions }
     ensures narrow { IfOk result (λ i. IsNarrowOperand i.of) }
     ensures ready { IsReady known.new }
+    ensures keeps { Extends known.old.functions known.new.functions }
 {
     match cast {
         Cast::Value { tick, value, .. } => {
@@ -148,6 +151,7 @@ pub fn bits_inside<S: Names, F: Fn(&Expr, &mut Known) -> Result<Operand, Halt>>(
     ensures value { TypesTo (mapped as_bits result) (bits_of (S.context names.now) cast.now known.old.functions) known.new.functions }
     ensures narrow { IfOk result (λ b. IsNarrow b.of) }
     ensures ready { IsReady known.new }
+    ensures keeps { Extends known.old.functions known.new.functions }
 {
     let inside = behind_tick(alloc, names, typed, cast, known)?;
     bits_of_inside(names.text(), inside)

@@ -4,6 +4,7 @@ ghost use Rattle.std.specs.Prelude.{◌≡◌};
 ghost use Rattle.sv_tree.specs.Extents.{signing_token};
 ghost use Rattle.expr_type.specs.Forms.{is_signed_by};
 ghost use Rattle.typing_fits.specs.Operands.{SoundContext};
+ghost use Rattle.typing_fits.specs.Sound.{Extends};
 ghost use Rattle.typing_parts.specs.Typists.{AllCanType, IsReady};
 ghost use Rattle.typing_steps.specs.Steps.{TypesTo};
 ghost use Rattle.typing_values.specs.Children.{in_cast};
@@ -52,6 +53,7 @@ pub fn by_sign<S: Names, F: Fn(&Expr, &mut Known) -> Result<Operand, Halt>>(
     requires ready { IsReady known.old }
     ensures value { TypesTo result (part.by_sign (S.context names.now) signing cast.now known.old.functions) known.new.functions }
     ensures ready { IsReady known.new }
+    ensures keeps { Extends known.old.functions known.new.functions }
 {
     let Bits { of, .. } = bits_inside(alloc, names, typed, cast, known)?;
     let first = word_of(signing);

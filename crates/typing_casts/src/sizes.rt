@@ -6,6 +6,7 @@ ghost use Rattle.expr_type.specs.Typings.{Typing};
 ghost use Rattle.sv_types.specs.declared.statement.Function.{Function};
 ghost use Rattle.typing_casts.specs.Sized.{size_of, sized};
 ghost use Rattle.typing_fits.specs.Operands.{SoundContext};
+ghost use Rattle.typing_fits.specs.Sound.{Extends};
 ghost use Rattle.typing_parts.specs.Operands.{as_operand};
 ghost use Rattle.typing_parts.specs.Typists.{AllCanType, FitsIfOk, IsReady};
 ghost use Rattle.typing_steps.specs.Steps.{TypesTo};
@@ -47,7 +48,7 @@ fn size_by<S: Names>(
 }
 
 // A cast to a size, which may be missing.
-#[tactic(auto, using(crate::proofs::Putting::both))]
+#[tactic(auto, using(crate::proofs::Putting::both, typing_parts::proofs::Keeping::keepings))]
 fn sized<S: Names, F: Fn(&Expr, &mut Known) -> Result<Operand, Halt>>(
     alloc: Global,
     names: &S,
@@ -62,6 +63,7 @@ fn sized<S: Names, F: Fn(&Expr, &mut Known) -> Result<Operand, Halt>>(
     requires ready { IsReady known.old }
     ensures value { (x : Typing ℕ) (fs : List Function) → TypesTo size (x fs) known.old.functions → TypesTo result (sized (S.context names.now) first x cast.now fs) known.new.functions }
     ensures ready { IsReady known.new }
+    ensures keeps { Extends known.old.functions known.new.functions }
 {
     match size {
         Ok(bits) => {
@@ -79,6 +81,7 @@ fn sized<S: Names, F: Fn(&Expr, &mut Known) -> Result<Operand, Halt>>(
 
 /// A cast to a size that an operand gives, which is typed already: a constant from 1 to 2^32 - 1 (E411). The whole begins with the
 /// token `first`. A size of more than 65,536 bits breaks E701 at the tick.
+#[tactic(auto, using(typing_parts::proofs::Keeping::keepings))]
 pub fn by_size<S: Names, F: Fn(&Expr, &mut Known) -> Result<Operand, Halt>>(
     alloc: Global,
     names: &S,
@@ -94,6 +97,7 @@ pub fn by_size<S: Names, F: Fn(&Expr, &mut Known) -> Result<Operand, Halt>>(
     requires ready { IsReady known.old }
     ensures value { (x : Typing rule.Operand) (fs : List Function) → TypesTo (as_operand (S.context names.now).source size) (x fs) known.old.functions → TypesTo result (part.by_size (S.context names.now) first x cast.now fs) known.new.functions }
     ensures ready { IsReady known.new }
+    ensures keeps { Extends known.old.functions known.new.functions }
 {
     let bits = size_by(alloc, names, size, known);
     sized(alloc, names, typed, first, bits, cast, known)
@@ -113,6 +117,7 @@ pub fn by_written_size<S: Names, F: Fn(&Expr, &mut Known) -> Result<Operand, Hal
     requires ready { IsReady known.old }
     ensures value { TypesTo result (part.by_written_size (S.context names.now) size cast.now known.old.functions) known.new.functions }
     ensures ready { IsReady known.new }
+    ensures keeps { Extends known.old.functions known.new.functions }
 {
     let bits = written_size(alloc, names.text(), size);
     sized(alloc, names, typed, size, bits, cast, known)

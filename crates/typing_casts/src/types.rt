@@ -12,6 +12,7 @@ ghost use Rattle.sv_types.specs.declared.types.SvType as types;
 ghost use Rattle.typing_casts.specs.Insides.{as_inside};
 ghost use Rattle.typing_casts.specs.Sized.{typed_by, whole_by, whole_of};
 ghost use Rattle.typing_fits.specs.Operands.{SoundContext};
+ghost use Rattle.typing_fits.specs.Sound.{Extends};
 ghost use Rattle.typing_parts.specs.Typists.{AllCanType, IsReady};
 ghost use Rattle.typing_steps.specs.Steps.{TypesTo};
 ghost use Rattle.typing_values.specs.Children.{in_cast};
@@ -156,7 +157,7 @@ fn cast_to(
 /// A cast to a type, which is typed already: a value is converted as an assignment does it, but an enum takes any value that has bits
 /// (E501), and a pattern is given to the type (E505 and what its items break). The whole begins with the token `first`. A type of more
 /// than 65,536 bits breaks E701 at the tick.
-#[tactic(auto, using(crate::proofs::Putting::both))]
+#[tactic(auto, using(crate::proofs::Putting::both, typing_parts::proofs::Keeping::keepings))]
 pub fn by_type<S: Names, F: Fn(&Expr, &mut Known) -> Result<Operand, Halt>>(
     alloc: Global,
     names: &S,
@@ -171,6 +172,7 @@ pub fn by_type<S: Names, F: Fn(&Expr, &mut Known) -> Result<Operand, Halt>>(
     requires ready { IsReady known.old }
     ensures value { (x : Typing types.SvType) (fs : List Function) → TypesTo t (x fs) known.old.functions → TypesTo result (typed_by (S.context names.now) first x cast.now fs) known.new.functions }
     ensures ready { IsReady known.new }
+    ensures keeps { Extends known.old.functions known.new.functions }
 {
     match t {
         Ok(t) => {

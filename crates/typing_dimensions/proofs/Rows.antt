@@ -22,6 +22,11 @@ pub more : {A B : Type 0} (f : B → A) (ds : List B) (i : ℕ) (d : B) → i < 
     → map f (take i ds) ++ f d ∷ [] ≡ map f (take (i + 1) ds)
 more {A = A} {B = B} f ds i d l e = ap (λ (x : B). map f (take i ds) ++ f x ∷ []) e ∙ sym (map_more f ds i d l)
 
+-- one more part in a row is looked at
+pub next-turn : {A B : Type 0} (f : B → Typing A) (ds : List B) (i : ℕ) (d : B) (r : Result (List A) Halt) (fs gs : List Function) → i < length ds → d ≡ get_or ds i d
+    → TypesTo r (all (map f (take i ds) ++ f d ∷ []) fs) gs → TypesTo r (all (map f (take (i + 1) ds)) fs) gs
+next-turn {A = A} f ds i d r fs gs l e h = subst (λ (xs : List (Typing A)). TypesTo r (all xs fs) gs) (more f ds i d l e) h
+
 -- a row of what is read of a row
 pub map-of-map : {A B C : Type 0} (f : B → C) (g : A → B) (xs : List A) → map (λ (x : A). f (g x)) xs ≡ map f (map g xs)
 map-of-map f g [] = refl

@@ -1,6 +1,7 @@
 //! Two bounds, and dimensions between them (IEEE 1800-2017 clauses 7.4 and 11.5.1).
 
 ghost use Rattle.std.specs.Prelude.{◌≡◌};
+ghost use Rattle.typing_fits.specs.Sound.{Extends};
 ghost use Rattle.typing_steps.specs.Steps.{TypesTo};
 ghost use Rattle.typing_parts.specs.Typists.{CanType, IsReady};
 ghost use Rattle.typing_dimensions.specs.Dimensions.{bounds_of, range_of};
@@ -29,6 +30,7 @@ pub fn bounds<S: Names, F: Fn(&Expr, &mut Known) -> Result<Operand, Halt>>(
     requires ready { IsReady known.old }
     ensures value { TypesTo result (bounds_of (S.context names.now) left.now right.now known.old.functions) known.new.functions }
     ensures ready { IsReady known.new }
+    ensures keeps { Extends known.old.functions known.new.functions }
 {
     match bound(alloc, names, typed, left, known) {
         Ok(first) => {
@@ -68,6 +70,7 @@ pub fn range<S: Names, F: Fn(&Expr, &mut Known) -> Result<Operand, Halt>>(
     requires ready { IsReady known.old }
     ensures value { TypesTo result (range_of (S.context names.now) opening left.now right.now known.old.functions) known.new.functions }
     ensures ready { IsReady known.new }
+    ensures keeps { Extends known.old.functions known.new.functions }
 {
     match bounds(alloc, names, typed, left, right, known) {
         Ok((left, right)) => Ok(between(opening, left, right)),

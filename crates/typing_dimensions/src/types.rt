@@ -3,6 +3,7 @@
 ghost use Rattle.std.specs.Prelude.{◌≡◌, option_copied};
 ghost use Rattle.expr_type.specs.Forms as form;
 ghost use Rattle.expr_type.specs.Names.{thing};
+ghost use Rattle.typing_fits.specs.Sound.{Extends};
 ghost use Rattle.typing_steps.specs.Steps.{TypesTo};
 ghost use Rattle.typing_parts.specs.Typists.{AllCanType, IsReady};
 ghost use Rattle.typing_values.specs.Children.{in_dimensions, in_selects};
@@ -32,6 +33,7 @@ pub fn type_of_word<S: Names, F: Fn(&Expr, &mut Known) -> Result<Operand, Halt>>
     requires ready { IsReady known.old }
     ensures value { TypesTo result (part.type_of_word (S.context names.now) of packed.now known.old.functions) known.new.functions }
     ensures ready { IsReady known.new }
+    ensures keeps { Extends known.old.functions known.new.functions }
 {
     let dims = dimensions(alloc, names, typed, packed, known)?;
     Ok(keyword_type(alloc, of, dims.as_slice())?)
@@ -66,6 +68,7 @@ pub fn dimensioned<S: Names, F: Fn(&Expr, &mut Known) -> Result<Operand, Halt>>(
     requires ready { IsReady known.old }
     ensures value { TypesTo result (part.dimensioned (S.context names.now) t.now selects.now known.old.functions) known.new.functions }
     ensures ready { IsReady known.new }
+    ensures keeps { Extends known.old.functions known.new.functions }
 {
     let dims = select_dimensions(alloc, names, typed, selects, known)?;
     let t = copy_type(alloc, t)?;

@@ -4,6 +4,7 @@ ghost use Rattle.std.specs.Prelude.{◌≡◌, List, ◌∷◌, [], ◌++◌};
 ghost use Rattle.sv_types.specs.declared.statement.Function.{Function};
 ghost use Rattle.expr_type.specs.KeywordTypes as written;
 ghost use Rattle.expr_type.specs.Typings.{Typing, all};
+ghost use Rattle.typing_fits.specs.Sound.{Extends};
 ghost use Rattle.typing_steps.specs.Steps.{TypesTo};
 ghost use Rattle.typing_parts.specs.Typists.{AllCanType, CanType, IsReady};
 ghost use Rattle.typing_values.specs.Children.{in_dimension, in_dimensions, in_select, in_selects};
@@ -37,6 +38,7 @@ fn sized<S: Names, F: Fn(&Expr, &mut Known) -> Result<Operand, Halt>>(
     requires ready { IsReady known.old }
     ensures value { TypesTo result (size_of (S.context names.now) opening size.now known.old.functions) known.new.functions }
     ensures ready { IsReady known.new }
+    ensures keeps { Extends known.old.functions known.new.functions }
 {
     let count = number(alloc, names, typed, 1, i64::MAX, size, known)?;
     Ok(Dim {
@@ -58,6 +60,7 @@ fn dimension<S: Names, F: Fn(&Expr, &mut Known) -> Result<Operand, Halt>>(
     requires ready { IsReady known.old }
     ensures value { TypesTo result (dimension_of (S.context names.now) d.now known.old.functions) known.new.functions }
     ensures ready { IsReady known.new }
+    ensures keeps { Extends known.old.functions known.new.functions }
 {
     match d {
         Dimension::Size { opening, size, .. } => {
@@ -99,6 +102,7 @@ fn next_dimension<S: Names, F: Fn(&Expr, &mut Known) -> Result<Operand, Halt>>(
     requires ready { IsReady known.old }
     ensures value { (xs : List (Typing written.Dim)) (fs : List Function) → TypesTo dims (all xs fs) known.old.functions → TypesTo result (all (xs ++ dimension_of (S.context names.now) d.now ∷ []) fs) known.new.functions }
     ensures ready { IsReady known.new }
+    ensures keeps { Extends known.old.functions known.new.functions }
 {
     match dims {
         Ok(made) => with_last(made, dimension(alloc, names, typed, d, known)),
@@ -120,6 +124,7 @@ pub fn dimensions<S: Names, F: Fn(&Expr, &mut Known) -> Result<Operand, Halt>>(
     requires ready { IsReady known.old }
     ensures value { TypesTo result (part.dimensions_of (S.context names.now) ds.now known.old.functions) known.new.functions }
     ensures ready { IsReady known.new }
+    ensures keeps { Extends known.old.functions known.new.functions }
 {
     let mut dims = Ok(Dims::new(alloc));
     for d in ds {
@@ -140,6 +145,7 @@ fn select_dimension<S: Names, F: Fn(&Expr, &mut Known) -> Result<Operand, Halt>>
     requires ready { IsReady known.old }
     ensures value { TypesTo result (select_dimension_of (S.context names.now) select.now known.old.functions) known.new.functions }
     ensures ready { IsReady known.new }
+    ensures keeps { Extends known.old.functions known.new.functions }
 {
     match select {
         Select::Member { .. } => Err(Halt::Quiet),
@@ -172,6 +178,7 @@ fn next_select<S: Names, F: Fn(&Expr, &mut Known) -> Result<Operand, Halt>>(
     requires ready { IsReady known.old }
     ensures value { (xs : List (Typing written.Dim)) (fs : List Function) → TypesTo dims (all xs fs) known.old.functions → TypesTo result (all (xs ++ select_dimension_of (S.context names.now) select.now ∷ []) fs) known.new.functions }
     ensures ready { IsReady known.new }
+    ensures keeps { Extends known.old.functions known.new.functions }
 {
     match dims {
         Ok(made) => with_last(made, select_dimension(alloc, names, typed, select, known)),
@@ -193,6 +200,7 @@ pub fn select_dimensions<S: Names, F: Fn(&Expr, &mut Known) -> Result<Operand, H
     requires ready { IsReady known.old }
     ensures value { TypesTo result (select_dimensions_of (S.context names.now) selects.now known.old.functions) known.new.functions }
     ensures ready { IsReady known.new }
+    ensures keeps { Extends known.old.functions known.new.functions }
 {
     let mut dims = Ok(Dims::new(alloc));
     for select in selects {

@@ -5,6 +5,7 @@ ghost use Rattle.expr_type.specs.Expressions.{meaning};
 ghost use Rattle.routine_fits.specs.Sound.{AllSoundFunctions};
 ghost use Rattle.typing_walks.specs.Keeps.{Surrounded};
 ghost use Rattle.typing_walks.specs.Written.{is_written};
+ghost use Rattle.typing_fits.specs.Sound.{Extends};
 ghost use Rattle.typing_steps.specs.Steps.{TypesTo};
 ghost use Rattle.typing_parts.specs.Operands.{as_operand};
 ghost use Rattle.typing_parts.specs.Typists.{AllCanType, IsReady, MakesKnown};
@@ -46,6 +47,7 @@ pub fn form<
     requires ready { IsReady known.old }
     ensures value { TypesTo (as_operand (S.context names.now).source result) ((meaning e.now).typed (S.context names.now) known.old.functions) known.new.functions }
     ensures ready { IsReady known.new }
+    ensures keeps { Extends known.old.functions known.new.functions }
 {
     match e {
         Expr::Conditional {

@@ -3,6 +3,7 @@
 ghost use Rattle.std.specs.Prelude.{◌≡◌, map, true};
 ghost use Rattle.routine_fits.specs.Sound.{AllSoundFunctions};
 ghost use Rattle.typing_fits.specs.Operands.{SoundContext};
+ghost use Rattle.typing_fits.specs.Sound.{Extends};
 ghost use Rattle.typing_walks.specs.Keeps.{Surrounded};
 ghost use Rattle.typing_walks.specs.Written as written;
 ghost use Rattle.typing_steps.specs.Steps.{TypesTo};
@@ -37,6 +38,7 @@ pub(crate) fn word<S: Names, F: Fn(&Expr, &mut Known) -> Result<Operand, Halt>>(
     requires ready { IsReady known.old }
     ensures value { TypesTo (as_operand (S.context names.now).source result) (word_of (S.context names.now) of packed.now cast.now known.old.functions) known.new.functions }
     ensures ready { IsReady known.new }
+    ensures keeps { Extends known.old.functions known.new.functions }
 {
     match cast {
         None => Err(Halt::Quiet),
@@ -61,6 +63,7 @@ pub(crate) fn name<S: Names, F: Fn(&Expr, &mut Known) -> Result<Operand, Halt>>(
     requires ready { IsReady known.old }
     ensures value { TypesTo (as_operand (S.context names.now).source result) (name_of (S.context names.now) of selects.now cast.now known.old.functions) known.new.functions }
     ensures ready { IsReady known.new }
+    ensures keeps { Extends known.old.functions known.new.functions }
 {
     match cast {
         None => plain_operand(named_path(alloc, names, typed, of, selects, known)),

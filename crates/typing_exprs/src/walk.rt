@@ -9,6 +9,7 @@ ghost use Rattle.pattern_types.specs.Meaning.{operand_of};
 ghost use Rattle.routine_fits.specs.Sound.{AllSoundFunctions};
 ghost use Rattle.typing_walks.specs.Keeps.{Surrounded};
 ghost use Rattle.typing_walks.specs.Written.{is_written};
+ghost use Rattle.typing_fits.specs.Sound.{Extends};
 ghost use Rattle.typing_parts.specs.Operands.{as_operand};
 ghost use Rattle.typing_steps.specs.Steps.{TypesTo};
 ghost use Rattle.typing_parts.specs.Typists.{FitsIfOk, IsReady, MakesKnown, NarrowIfOk};
@@ -41,6 +42,7 @@ fn part<S: Names, C: Fn(u32, &mut Known) -> Result<u32, Halt>>(
     ensures narrow { NarrowIfOk result }
     ensures fits { FitsIfOk result known.new.functions }
     ensures ready { IsReady known.new }
+    ensures keeps { Extends known.old.functions known.new.functions }
 {
     operand(alloc, names, needs, e, known)
 }
@@ -64,6 +66,7 @@ pub fn operand<S: Names, C: Fn(u32, &mut Known) -> Result<u32, Halt>>(
     ensures narrow { NarrowIfOk result }
     ensures fits { FitsIfOk result known.new.functions }
     ensures ready { IsReady known.new }
+    ensures keeps { Extends known.old.functions known.new.functions }
 {
     let typed = |child: &Expr, k: &mut Known| -> Result<Operand, Halt>
         requires needs { MakesKnown _ (C.IsAlwaysCallable needs.now) (λ k. k.now) (C.post needs.now) (S.context names.now) }
@@ -75,6 +78,7 @@ pub fn operand<S: Names, C: Fn(u32, &mut Known) -> Result<u32, Halt>>(
         ensures narrow { NarrowIfOk result }
         ensures fits { FitsIfOk result k.new.functions }
         ensures ready { IsReady k.new }
+        ensures keeps { Extends k.old.functions k.new.functions }
     { part(alloc, names, needs, e, child, k) };
     form(alloc, names, needs, &typed, e, known)
 }
@@ -115,6 +119,7 @@ pub fn type_expr<S: Names, C: Fn(u32, &mut Known) -> Result<u32, Halt>>(
     requires ready { IsReady known.old }
     ensures value { TypesTo result (typed_expr (S.context names.now) e.now (option_copied want.entry) known.old.functions) known.new.functions }
     ensures ready { IsReady known.new }
+    ensures keeps { Extends known.old.functions known.new.functions }
 {
     let o = operand(alloc, names, needs, e, known)?;
     given_if(alloc, names.text(), want, o)

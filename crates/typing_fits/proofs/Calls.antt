@@ -75,7 +75,7 @@ passed-length k (f ∷ fs) (o ∷ os) es h =
 -- sums over actuals
 record Sums (fs : List Formal) (es : List Expr) (gs : List Function) : Type 0 where
   pub typed : total (map (λ (p : Operand). p.of.misfits) (map by_itself (map meaning es))) ≡ 0
-  pub narrow : most (map (λ (p : Operand). p.of.widest) (map by_itself (map meaning es))) ≤ 65536
+  pub narrow : most (map (λ (p : Operand). p.of.widest) (map by_itself (map meaning es))) ≤ 4194304
   pub indexing : most (map (λ (p : Operand). p.of.indexing) (map by_itself (map meaning es))) ≤ 64
   pub arithmetic : (ps : ℕ → List Parameter) → Knows gs ps → most (map (λ p. p.1.arithmetic ps (assigned_width p.0.two_state p.1)) (zip (map parameter fs) (map meaning es))) ≤ 128
 

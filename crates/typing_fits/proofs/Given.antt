@@ -20,7 +20,7 @@ use Rattle.expr_type.specs.Uses.{names_any}
 use Rattle.expr_type.specs.Operands.{Operand, Plain, Pattern, Stream, too_wide, width, is_value, parenthesized, sized, has_bits, is_plain, is_given, is_streamed, given, passed, no_stream, stops, calls_no_stream, is_constant, is_constant_value, constant_stream, constant_of, constant_alone}
 use Rattle.typing_fits.specs.Types.{is_full}
 use Rattle.typing_fits.specs.Sound.{Extends, Knows, Limited, LimitedAt, Sound, SoundAlone, SoundFor}
-use Rattle.typing_fits.specs.Operands.{SoundPattern, SoundFixed, SoundOperand}
+use Rattle.typing_fits.specs.Operands.{SoundPattern, SoundStream, SoundOperand}
 use Rattle.typing_fits.proofs.Contexts.{refused-then, none-there, unless-none, whole-part, lesser-both}
 use Rattle.typing_fits.proofs.Full.{full-bits}
 use Rattle.typing_fits.proofs.Limits.{at-width}
@@ -68,7 +68,7 @@ pattern-later x t gs hs e s = record { is = s.is; sound = record { of = s.sound.
 pub operand-later : (o : Operand) (gs hs : List Function) → Extends gs hs → SoundOperand o gs → SoundOperand o hs
 operand-later (Plain v) gs hs e s = sound-later v gs hs e s
 operand-later (Pattern tick of) gs hs e s = λ at t x full is. pattern-later x t gs hs e (s at t x full is)
-operand-later (Stream v) gs hs e s = record { none = s.none; sound = sound-later v gs hs e s.sound }
+operand-later (Stream v) gs hs e s = record { none = s.none; sound = sound-later v gs hs e s.sound; short = s.short }
 
 -- what valuing asks
 fits-at : (e : Expr) (w : ℕ) (gs : List Function) (fs : ℕ → List Parameter) → 0 < w → LimitedAt (meaning e) w gs → Knows gs fs → Fits (meaning e) fs w
@@ -149,7 +149,7 @@ plain-given k t v e gs h s =
 pub pattern-for : (e : Expr) (t : SvType) (gs : List Function) → SoundPattern e t gs → SoundFor e t gs
 pattern-for e t gs s = record { of = s.sound.of; limits = at-width (meaning e) [] gs (max (width_of t) (width_of e.of)) s.sound.limits refl }
 
-streamed-given : (k : Source) (t : SvType) (v : Valued) (e : Expr) (gs : List Function) → is_streamed k t v ≡ Ok e → SoundFixed v gs → SoundFor e t gs
+streamed-given : (k : Source) (t : SvType) (v : Valued) (e : Expr) (gs : List Function) → is_streamed k t v ≡ Ok e → SoundStream v gs → SoundFor e t gs
 streamed-given k t v e gs h s =
     let w = max (width_of t) (width v) in
     let one = refused-then (nat_lt (width_of t) (width v)) (position k v.first) 501 (refused (nat_lt 65536 (width_of t)) (position k v.first) 701 (Ok v.expr)) e h in

@@ -6,7 +6,7 @@ use Rattle.std.proofs.Math.Nat.{suc-mul}
 use Rattle.sv_types.specs.declared.expression.Expr.{Expr}
 use Rattle.sv_types.specs.declared.expression.Form.TheVariants as F
 use Rattle.sv_types.specs.declared.statement.Function.{Function}
-use Rattle.sv_types.specs.Layouts.{layout}
+use Rattle.sv_types.specs.Layouts.{layout, width_of}
 use Rattle.sv_types.specs.Meanings.{wide, most}
 use Rattle.sv_types.specs.Operators as O
 use Rattle.sv_types.specs.Expressions.{meaning}
@@ -22,13 +22,13 @@ use Rattle.expr_type.specs.Forms.{stream_of}
 use Rattle.typing_fits.specs.Sound.{IsNarrowType, Limited, LimitedAt, Sound, AllSound, SoundAlone, AllSoundAlone}
 use Rattle.typing_fits.specs.Alternatives.{AllSoundIn}
 use Rattle.typing_fits.proofs.Contexts.{allowed, allowed-left, allowed-right, none-left, none-right, refused-then, word}
-use Rattle.typing_fits.proofs.Vectors.{IsResult, vector-of, vector-as, one_bit-of, narrow-vector, narrow-one_bit, result-of, result-as}
+use Rattle.typing_fits.proofs.Vectors.{IsResult, vector-of, vector-as, one_bit-of, narrow-vector, narrow-one_bit, width-vector, result-of, result-as}
 use Rattle.typing_fits.proofs.Same.{alike-width, alike-sign}
 use Rattle.typing_fits.proofs.Limits as M
 use Rattle.typing_fits.proofs.Limits.{at-width}
 use Rattle.typing_fits.proofs.Lists as T
 use Rattle.typing_fits.proofs.Operators.{alone-of, compared-of, wide-both, signed-both, made-alone, in-context, unless-sound, as-is, ok-is, both-narrow, both-vector, over-none}
-use Rattle.typing_fits.proofs.Selects.{long-no, long-then}
+use Rattle.typing_fits.proofs.Selects.{short-no, long-no, long-then}
 
 -- `?:`
 same-sign : (a b : Bool) → a ≡ b → (a && b) ≡ a
@@ -104,6 +104,16 @@ stream-sound k opening reversed n e es v gs h s =
     (made-alone k opening (vector w false) (F.Stream reversed n (e ∷ es)) gs _ (L.form-Stream reversed n (e ∷ es)) (narrow-vector w false some short)
     (T.stream-limits (layout (vector w false)) opening reversed n (e ∷ es) gs
     (result-as (layout (vector w false)) w (O.width_of_all (map meaning (e ∷ es))) false false (vector-of w false some short).result r.widths refl) r))
+
+-- as many bits as E701 lets it have
+pub stream-short : (k : Source) (opening : ℕ) (reversed : Bool) (n : ℕ) (e : Expr) (es : List Expr) (v : Valued) (gs : List Function) → stream_of k opening reversed n (e ∷ es) ≡ Ok v → AllSoundAlone (e ∷ es) gs
+    → width_of v.expr.of ≤ 65536
+stream-short k opening reversed n e es v gs h s =
+    let w = all_bits (e ∷ es) in
+    let a = by_itself k opening (vector w false) (F.Stream reversed n (e ∷ es)) in
+    let made = ok-is a v (long-then k opening w (Ok a) v h) in
+    let wide = width-vector w false (T.some-bits e es gs s) in
+    subst (λ (x : Valued). width_of x.expr.of ≤ 65536) made (subst (λ m. m ≤ 65536) (sym wide) (short-no k opening w (Ok a) v h))
 
 -- `inside`
 abbrev pub meant : Alternative → O.Alternative

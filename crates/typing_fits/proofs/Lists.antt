@@ -17,7 +17,7 @@ use Rattle.typing_fits.proofs.Vectors.{IsResult, IsVector}
 -- parts that are each valued alone
 pub record Sums (es : List Expr) (gs : List Function) : Type 0 where
   pub typed : total (map (λ (p : Operand). p.of.misfits) (map by_itself (map meaning es))) ≡ 0
-  pub narrow : most (map (λ (p : Operand). p.of.widest) (map by_itself (map meaning es))) ≤ 65536
+  pub narrow : most (map (λ (p : Operand). p.of.widest) (map by_itself (map meaning es))) ≤ 4194304
   pub indexing : most (map (λ (p : Operand). p.of.indexing) (map by_itself (map meaning es))) ≤ 64
   pub arithmetic : (fs : ℕ → List Parameter) → Knows gs fs → (w : ℕ) → most (map (λ (p : Operand). p.of.arithmetic fs (p.at w)) (map by_itself (map meaning es))) ≤ 128
   pub widths : all_bits es ≡ width_of_all (map meaning es)
@@ -79,7 +79,7 @@ AllFit m gs (a ∷ as_) = AlternativeFits m gs a × AllFit m gs as_
 
 pub record Compared (m : Meaning) (as_ : List Alternative) (gs : List Function) : Type 0 where
   pub typed : total (map (λ (p : Operand). p.of.misfits) (flat_map (O.inside_operands m) as_)) ≡ 0
-  pub narrow : most (map (λ (p : Operand). p.of.widest) (flat_map (O.inside_operands m) as_)) ≤ 65536
+  pub narrow : most (map (λ (p : Operand). p.of.widest) (flat_map (O.inside_operands m) as_)) ≤ 4194304
   pub indexing : most (map (λ (p : Operand). p.of.indexing) (flat_map (O.inside_operands m) as_)) ≤ 64
   pub arithmetic : (fs : ℕ → List Parameter) → Knows gs fs → (w : ℕ) → most (map (λ (p : Operand). p.of.arithmetic fs (p.at w)) (flat_map (O.inside_operands m) as_)) ≤ 128
 

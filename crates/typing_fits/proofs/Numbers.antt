@@ -45,7 +45,7 @@ use Rattle.typing_fits.proofs.Operators.{bits-of, alone-of, made-alone, as-is, o
 use Rattle.typing_fits.proofs.Selects.{long-no, long-then}
 
 -- literals
-pub literal-sound : (k : Source) (first w : ℕ) (s : Bool) (v : List Bit4) (goes_on : Bool) (gs : List Function) → length v ≡ w → 0 < w → w ≤ 65536 → Sound (by_itself k first (vector w s) (F.Literal v goes_on)) gs
+pub literal-sound : (k : Source) (first w : ℕ) (s : Bool) (v : List Bit4) (goes_on : Bool) (gs : List Function) → length v ≡ w → 0 < w → w ≤ 4194304 → Sound (by_itself k first (vector w s) (F.Literal v goes_on)) gs
 literal-sound k first w s v goes_on gs long some short =
     let t = vector w s in
     let narrow = narrow-vector w s some short in

@@ -8,10 +8,10 @@ use Rattle.sv_types.specs.Paths as P
 use Rattle.sv_types.specs.Paths.{unlike, unlike_part, elements_marks}
 use Rattle.typing_fits.specs.Sound.{Limited, LimitedAt}
 
--- a type with a bit, of at most 65,536
+-- a type with a bit, of at most 2^22
 pub record HasBits (of : Layout) : Type 0 where
   pub some : without_bits of ≡ 0
-  pub narrow : length of.two_state ≤ 65536
+  pub narrow : length of.two_state ≤ 4194304
 
 pub signal-limits : (of : Layout) (at n : ℕ) (gs : List Function) → HasBits of → Limited (P.signal of at n) [] gs
 unfolding P.signal

@@ -154,7 +154,7 @@ covered = by-type CoveredType AnyMember covers
 -- sums over what is given to parts
 record Sums (ps : List Part) (es : List Expr) (gs : List Function) : Type 0 where
   pub typed : total (map (λ (p : Operand). p.of.misfits) (map (λ p. at_width (assigned_width p.0.two_state p.1) p.1) (zip ps (map meaning es)))) ≡ 0
-  pub narrow : most (map (λ (p : Operand). p.of.widest) (map (λ p. at_width (assigned_width p.0.two_state p.1) p.1) (zip ps (map meaning es)))) ≤ 65536
+  pub narrow : most (map (λ (p : Operand). p.of.widest) (map (λ p. at_width (assigned_width p.0.two_state p.1) p.1) (zip ps (map meaning es)))) ≤ 4194304
   pub indexing : most (map (λ (p : Operand). p.of.indexing) (map (λ p. at_width (assigned_width p.0.two_state p.1) p.1) (zip ps (map meaning es)))) ≤ 64
   pub arithmetic : (fs : ℕ → List Parameter) → Knows gs fs → (w : ℕ) → most (map (λ (p : Operand). p.of.arithmetic fs (p.at w)) (map (λ p. at_width (assigned_width p.0.two_state p.1) p.1) (zip ps (map meaning es)))) ≤ 128
 
@@ -243,7 +243,7 @@ for-is a e t gs h s = let is : a ≡ e = cc in subst (λ x. SoundFor x t gs) is 
 
 spread-by : (k : Source) (tick n : ℕ) (rest : Rest) (give : SvType → Checked Expr) (t : SvType) (e : Expr) (gs : List Function) (b : Bool)
     → cond b (give t) (where_whole (all_of (map (spread k tick n rest give) (types_in t))) (λ es. Ok (expr_at k tick t (F.Pattern es)))) ≡ Ok e
-    → ((u : SvType) (x : Expr) → is_full u ≡ true → width_of u ≤ 65536 → spread k tick n rest give u ≡ Ok x → SoundFor x u gs) → Gives give gs → is_full t ≡ true → width_of t ≤ 65536 → SoundFor e t gs
+    → ((u : SvType) (x : Expr) → is_full u ≡ true → width_of u ≤ 4194304 → spread k tick n rest give u ≡ Ok x → SoundFor x u gs) → Gives give gs → is_full t ≡ true → width_of t ≤ 4194304 → SoundFor e t gs
 spread-by k tick n rest give t e gs true h s g full short = g t e full h
 spread-by k tick n rest give t e gs false h s g full short =
     let f = spread k tick n rest give in
@@ -254,7 +254,7 @@ spread-by k tick n rest give t e gs false h s g full short =
     for-is (expr_at k tick t (F.Pattern p.part)) e t gs p.made
     (pattern-for (expr_at k tick t (F.Pattern p.part)) t gs (pattern-expr k tick t p.part gs (record { full = full; narrow = short }) (all-long f (types_in t) p.part p.is) all))
 
-pub spread-sound : (k : Source) (tick n : ℕ) (rest : Rest) (give : SvType → Checked Expr) (t : SvType) (e : Expr) (gs : List Function) → spread k tick n rest give t ≡ Ok e → Gives give gs → is_full t ≡ true → width_of t ≤ 65536 → SoundFor e t gs
+pub spread-sound : (k : Source) (tick n : ℕ) (rest : Rest) (give : SvType → Checked Expr) (t : SvType) (e : Expr) (gs : List Function) → spread k tick n rest give t ≡ Ok e → Gives give gs → is_full t ≡ true → width_of t ≤ 4194304 → SoundFor e t gs
 spread-sound k tick zero rest give t e gs h g full short = g t e full h
 spread-sound k tick (suc n) rest give t e gs h g full short =
     spread-by k tick n rest give t e gs (takes_itself rest t) h (λ u x uf us is. spread-sound k tick n rest give u x gs is g uf us) g full short
@@ -281,7 +281,7 @@ value-given : (o : Option Item) (k : Source) (gs : List Function) → ItemIf o g
 value-given None k gs s t e full h = absurd (cc)
 value-given (Some i) k gs s t e full h = passed-sound k t i.value e gs h full s
 
-made-sound : (k : Source) (tick : ℕ) (is : List Item) (x : PatternItem) (t : SvType) (e : Expr) (gs : List Function) → AllSoundItems is gs → is_full t ≡ true → width_of t ≤ 65536 → made k tick is (x, t) ≡ Ok e → SoundFor e t gs
+made-sound : (k : Source) (tick : ℕ) (is : List Item) (x : PatternItem) (t : SvType) (e : Expr) (gs : List Function) → AllSoundItems is gs → is_full t ≡ true → width_of t ≤ 4194304 → made k tick is (x, t) ≡ Ok e → SoundFor e t gs
 made-sound k tick is (I.Item m) t e gs s full short h =
     value-given (slice_get (keyed is) (m % length (keyed is))) k gs (item-at (keyed is) (m % length (keyed is)) gs (filtered (λ (i : Item). not (is_default i.key)) is gs s)) t e full h
 made-sound k tick is I.Default t e gs s full short h =
@@ -291,7 +291,7 @@ made-sound k tick is I.Spread t e gs s full short h =
     spread-sound k tick (levels t) (rest_of (defaults is)) (value_of (slice_get (defaults is) 0) k) t e gs h
     (value-given (slice_get (defaults is) 0) k gs (item-at (defaults is) 0 gs (filtered (λ (i : Item). is_default i.key) is gs s))) full short
 
-all-made : (k : Source) (tick w : ℕ) (is : List Item) (xs : List PatternItem) (ts : List SvType) (es : List Expr) (gs : List Function) → AllSoundItems is gs → w ≤ 65536 → Narrow w ts → all_of (map (made k tick is) (zip xs ts)) ≡ Ok es
+all-made : (k : Source) (tick w : ℕ) (is : List Item) (xs : List PatternItem) (ts : List SvType) (es : List Expr) (gs : List Function) → AllSoundItems is gs → w ≤ 4194304 → Narrow w ts → all_of (map (made k tick is) (zip xs ts)) ≡ Ok es
     → AllSoundFor es ts gs × (length es ≤ length ts)
 all-made k tick w is [] ts es gs s short n h = subst (λ ys. AllSoundFor ys ts gs × (length ys ≤ length ts)) (sym (none-all es h)) (tt, omega arith)
 all-made k tick w is (x ∷ xs) [] es gs s short n h = subst (λ ys. AllSoundFor ys [] gs × (length ys ≤ 0)) (sym (none-all es h)) (tt, omega arith)

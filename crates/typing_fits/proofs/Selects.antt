@@ -39,8 +39,11 @@ short-by : (n : ℕ) (b : Bool) → nat_lt 65536 n ≡ b → b ≡ false → n �
 short-by n true is h = absurd (cc)
 short-by n false is h = grind (arith, nat_tests, is)
 
-pub long-no : {A : Type 0} (k : Source) (at n : ℕ) (other : Checked A) (a : A) → not_too_long k at n other ≡ Ok a → n ≤ 65536
-long-no k at n other a h = short-by n (nat_lt 65536 n) refl (refused-no (nat_lt 65536 n) (position k at) 701 other a h)
+pub short-no : {A : Type 0} (k : Source) (at n : ℕ) (other : Checked A) (a : A) → not_too_long k at n other ≡ Ok a → n ≤ 65536
+short-no k at n other a h = short-by n (nat_lt 65536 n) refl (refused-no (nat_lt 65536 n) (position k at) 701 other a h)
+
+pub long-no : {A : Type 0} (k : Source) (at n : ℕ) (other : Checked A) (a : A) → not_too_long k at n other ≡ Ok a → n ≤ 4194304
+long-no k at n other a h = omega (arith, short-no k at n other a h)
 
 pub long-then : {A : Type 0} (k : Source) (at n : ℕ) (other : Checked A) (a : A) → not_too_long k at n other ≡ Ok a → other ≡ Ok a
 long-then k at n other a h = refused-then (nat_lt 65536 n) (position k at) 701 other a h

@@ -17,7 +17,7 @@ use Rattle.typing_fits.proofs.Full.{full-bits, full-Scalar, full-PackedArray}
 -- a type of a width and a sign
 pub record IsResult (of : Layout) (n : ℕ) (s : Bool) : Type 0 where
   pub some : without_bits of ≡ 0
-  pub narrow : length of.two_state ≤ 65536
+  pub narrow : length of.two_state ≤ 4194304
   pub same : misfit of n s ≡ 0
 
 -- without a two-state bit
@@ -83,7 +83,7 @@ width-vector w s h =
 pub sign-vector : (w : ℕ) (s : Bool) → (layout (vector w s)).signed ≡ s
 sign-vector w s = ap (λ (l : Layout). l.signed) (layout-PackedArray (pos w -ℤ pos 1) (pos 0) s (V.Scalar true false))
 
-pub narrow-vector : (w : ℕ) (s : Bool) → 0 < w → w ≤ 65536 → IsNarrowType (vector w s)
+pub narrow-vector : (w : ℕ) (s : Bool) → 0 < w → w ≤ 4194304 → IsNarrowType (vector w s)
 narrow-vector w s h n = record {
   full = full-PackedArray (pos w -ℤ pos 1) (pos 0) s (V.Scalar true false) ∙ full-Scalar true false;
   narrow = omega (arith, width-vector w s h);
@@ -103,7 +103,7 @@ four-vector w s =
     ap (λ (l : Layout). list_any (λ b. b) l.two_state) (layout-PackedArray (pos w -ℤ pos 1) (pos 0) s (V.Scalar true false))
     ∙ any-repeated (count_of (pos w -ℤ pos 1) (pos 0)) (layout one_bit).two_state four-one_bit
 
-pub vector-of : (w : ℕ) (s : Bool) → 0 < w → w ≤ 65536 → IsVector (layout (vector w s)) w s
+pub vector-of : (w : ℕ) (s : Bool) → 0 < w → w ≤ 4194304 → IsVector (layout (vector w s)) w s
 vector-of w s h n = record {
   result = result-of (vector w s) w s (narrow-vector w s h n) (width-vector w s h) (sign-vector w s);
   four = four-of (layout (vector w s)) (four-vector w s);

@@ -1,5 +1,5 @@
 -- What operands, formals and names keep.
-use Rattle.std.specs.Prelude.{◌≡◌, ⊤, ℕ, true, List, [], ◌∷◌, length, Some, Ok, slice_get}
+use Rattle.std.specs.Prelude.{◌≡◌, ◌≤◌, ⊤, ℕ, true, List, [], ◌∷◌, length, Some, Ok, slice_get}
 use Rattle.sv_types.specs.declared.expression.Expr.{Expr}
 use Rattle.sv_types.specs.declared.frame.ParamType.{ParamType}
 use Rattle.sv_types.specs.declared.frame.ParamValue.{ParamValue}
@@ -21,16 +21,22 @@ pub record SoundPattern (e : Expr) (t : SvType) (gs : List Function) : Type 0 wh
   pub is : e.of ≡ t
   pub sound : SoundExpr e [] gs
 
--- an expression whose operands don't take the context either, as a stream
+-- an expression whose operands don't take the context either
 pub record SoundFixed (v : Valued) (gs : List Function) : Type 0 where
   pub none : v.arithmetic ≡ []
   pub sound : Sound v gs
+
+-- a stream, which has at most 65,536 bits (E701)
+pub record SoundStream (v : Valued) (gs : List Function) : Type 0 where
+  pub none : v.arithmetic ≡ []
+  pub sound : Sound v gs
+  pub short : width_of v.expr.of ≤ 65536
 
 -- a value, a pattern that is given to any full type, or a stream
 abbrev pub SoundOperand : Operand → List Function → Type 0
 SoundOperand (Plain v) gs = Sound v gs
 SoundOperand (Pattern tick of) gs = (at : ℕ) (t : SvType) (e : Expr) → is_full t ≡ true → of at t ≡ Ok e → SoundPattern e t gs
-SoundOperand (Stream v) gs = SoundFixed v gs
+SoundOperand (Stream v) gs = SoundStream v gs
 
 abbrev pub AllSoundOperands : List Operand → List Function → Type 0
 AllSoundOperands [] gs = ⊤
@@ -84,7 +90,7 @@ abbrev pub AllLocalsNarrow : List LocalId → Type 0
 AllLocalsNarrow [] = ⊤
 AllLocalsNarrow (l ∷ ls) = IsNarrowType l.of × AllLocalsNarrow ls
 
--- a text in which signals, constants and locals have at most 65,536 bits, and each part of a type has one
+-- a text in which signals, constants and locals have at most 2^22 bits, and each part of a type has one
 pub record SoundContext (k : Context) : Type 0 where
   pub values : AllValuesSound k.values
   pub types : AllTypesFull k.types

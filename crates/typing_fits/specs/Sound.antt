@@ -20,25 +20,25 @@ pub record Extends (gs hs : List Function) : Type 0 where
 pub record Knows (gs : List Function) (fs : ℕ → List Parameter) : Type 0 where
   pub formals : (n : ℕ) (f : Function) → slice_get gs n ≡ Some f → fs n ≡ parameters f
 
--- It is typed as its parts say, no type in it has more than 65,536 bits, no index more than 64, and its arithmetic has at most 128
+-- It is typed as its parts say, no type in it has more than 2^22 bits, no index more than 64, and its arithmetic has at most 128
 -- in a context in which none of these operators is too wide.
 pub record Limited (m : Meaning) (operators : List ℕ) (gs : List Function) : Type 0 where
   pub typed : m.misfits ≡ 0
-  pub narrow : m.widest ≤ 65536
+  pub narrow : m.widest ≤ 4194304
   pub indexing : m.indexing ≤ 64
   pub arithmetic : (fs : ℕ → List Parameter) → Knows gs fs → (w : ℕ) → too_wide w operators ≡ [] → m.arithmetic fs w ≤ 128
 
 -- the same at one width
 pub record LimitedAt (m : Meaning) (w : ℕ) (gs : List Function) : Type 0 where
   pub typed : m.misfits ≡ 0
-  pub narrow : m.widest ≤ 65536
+  pub narrow : m.widest ≤ 4194304
   pub indexing : m.indexing ≤ 64
   pub arithmetic : (fs : ℕ → List Parameter) → Knows gs fs → m.arithmetic fs w ≤ 128
 
--- a type of at most 65,536 bits, of which each part has one
+-- a type of at most 2^22 bits, of which each part has one
 pub record IsNarrowType (t : SvType) : Type 0 where
   pub full : is_full t ≡ true
-  pub narrow : width_of t ≤ 65536
+  pub narrow : width_of t ≤ 4194304
 
 -- An expression with the operators in it that take the context, of which none is too wide in its own.
 pub record SoundExpr (e : Expr) (operators : List ℕ) (gs : List Function) : Type 0 where

@@ -1,4 +1,4 @@
-//! What the rules of typing give can be valued as a constant: its types are those of its parts, none has more than 65,536 bits, an
+//! What the rules of typing give can be valued as a constant: its types are those of its parts, none has more than 2^22 bits, an
 //! index has at most 64, and arithmetic at most 128. The functions are laws, and do nothing; their proofs, to be cited by crates
 //! above, are in `proofs/`.
 #![tactic(auto)]
@@ -17,7 +17,7 @@ pub fn selects_are_sound()
     ensures { SelectsAreSound }
 {}
 
-/// In a text in which signals, locals and constants have at most 65,536 bits, names of them are sound; and so are numbers (clause 5.7).
+/// In a text in which signals, locals and constants have at most 2^22 bits, names of them are sound; and so are numbers (clause 5.7).
 pub fn values_are_sound()
     ensures { ValuesAreSound }
 {}

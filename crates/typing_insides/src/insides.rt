@@ -4,6 +4,7 @@ ghost use Rattle.std.specs.Prelude.{◌≡◌, ◌≤◌, ◌∷◌, [], map, If
 ghost use Rattle.inside_types.specs.Alternatives.{AllNarrowIn, IsNarrowIn, alternative};
 ghost use Rattle.operand_types.specs.Allowed.{IsNarrow};
 ghost use Rattle.typing_insides.specs.Ranges.{range_of, ranges_of};
+ghost use Rattle.typing_fits.specs.Sound.{Extends};
 ghost use Rattle.typing_parts.specs.Typists.{AllCanType, CanType, IsReady};
 ghost use Rattle.typing_rows.specs.Rows.{Adds, mapped};
 ghost use Rattle.typing_steps.specs.Steps.{TypesTo};
@@ -32,6 +33,7 @@ fn alternative<S: Names, F: Fn(&Expr, &mut Known) -> Result<Operand, Halt>>(
     ensures value { TypesTo (mapped alternative result) (range_of (S.context names.now) range.now known.old.functions) known.new.functions }
     ensures narrow { IfOk result IsNarrowIn }
     ensures ready { IsReady known.new }
+    ensures keeps { Extends known.old.functions known.new.functions }
 {
     match range {
         ValueRange::Value(e) => {
@@ -76,6 +78,7 @@ fn alternatives<S: Names, F: Fn(&Expr, &mut Known) -> Result<Operand, Halt>>(
     ensures value { TypesTo (mapped (map alternative) result) (ranges_of (S.context names.now) ranges.now known.old.functions) known.new.functions }
     ensures narrow { IfOk result AllNarrowIn }
     ensures ready { IsReady known.new }
+    ensures keeps { Extends known.old.functions known.new.functions }
 {
     let mut made = Alternatives::new(alloc);
     let mut whole = true;
@@ -102,6 +105,7 @@ pub fn inside<S: Names, F: Fn(&Expr, &mut Known) -> Result<Operand, Halt>>(
     requires ready { IsReady known.old }
     ensures value { TypesTo result (part.inside (S.context names.now) keyword sought.now ranges.now known.old.functions) known.new.functions }
     ensures ready { IsReady known.new }
+    ensures keeps { Extends known.old.functions known.new.functions }
 {
     match value(names, typed, sought, known) {
         Ok(v) => {

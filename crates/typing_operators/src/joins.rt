@@ -1,9 +1,10 @@
 //! Concatenations, replications and streams (IEEE 1800-2017 clauses 11.4.12 and 11.4.14).
 
 ghost use Rattle.std.specs.Prelude.{◌≡◌, IfOk};
-ghost use Rattle.operand_types.specs.Allowed.{IsNarrow};
+ghost use Rattle.operand_types.specs.Allowed.{IsNarrow, IsShort};
 ghost use Rattle.expr_type.specs.Forms.{reverses};
 ghost use Rattle.typing_fits.specs.Operands.{SoundContext};
+ghost use Rattle.typing_fits.specs.Sound.{Extends};
 ghost use Rattle.typing_steps.specs.Steps.{TypesTo};
 ghost use Rattle.typing_parts.specs.Typists.{AllCanType, CanType, IsReady};
 ghost use Rattle.typing_values.specs.Children.{in_slice};
@@ -37,6 +38,7 @@ fn joined<S: Names, F: Fn(&Expr, &mut Known) -> Result<Operand, Halt>>(
     ensures value { TypesTo result (joined_of (S.context names.now) opening es.now known.old.functions) known.new.functions }
     ensures narrow { IfOk result IsNarrow }
     ensures ready { IsReady known.new }
+    ensures keeps { Extends known.old.functions known.new.functions }
 {
     let parts = parts(alloc, names, typed, es, known)?;
     concat_of(alloc, names.text(), opening, parts)
@@ -56,6 +58,7 @@ pub fn concatenation<S: Names, F: Fn(&Expr, &mut Known) -> Result<Operand, Halt>
     ensures value { TypesTo result (concatenation (S.context names.now) opening es.now known.old.functions) known.new.functions }
     ensures narrow { IfOk result IsNarrow }
     ensures ready { IsReady known.new }
+    ensures keeps { Extends known.old.functions known.new.functions }
 {
     joined(alloc, names, typed, opening, es, known)
 }
@@ -83,6 +86,7 @@ fn counted_parts<S: Names, F: Fn(&Expr, &mut Known) -> Result<Operand, Halt>>(
     ensures value { TypesTo (as_repeated result) (repeated_of (S.context names.now) times.now es.now known.old.functions) known.new.functions }
     ensures narrow { IfOk result ArePartsNarrow }
     ensures ready { IsReady known.new }
+    ensures keeps { Extends known.old.functions known.new.functions }
 {
     match count(alloc, names, typed, times, known) {
         Ok(number) => {
@@ -112,6 +116,7 @@ fn replicated<S: Names, F: Fn(&Expr, &mut Known) -> Result<Operand, Halt>>(
     ensures value { TypesTo result (replicated_of (S.context names.now) opening times.now es.now known.old.functions) known.new.functions }
     ensures narrow { IfOk result IsNarrow }
     ensures ready { IsReady known.new }
+    ensures keeps { Extends known.old.functions known.new.functions }
 {
     let Repeated { number, parts } = counted_parts(alloc, names, typed, times, es, known)?;
     repeat_of(alloc, names.text(), opening, number, parts)
@@ -133,12 +138,13 @@ pub fn replication<S: Names, F: Fn(&Expr, &mut Known) -> Result<Operand, Halt>>(
     ensures value { TypesTo result (replication (S.context names.now) opening times.now es.now known.old.functions) known.new.functions }
     ensures narrow { IfOk result IsNarrow }
     ensures ready { IsReady known.new }
+    ensures keeps { Extends known.old.functions known.new.functions }
 {
     replicated(alloc, names, typed, opening, times, es, known)
 }
 
-// Whether slices stand in reverse order: behind `<<`.
-fn reverses(operator: StreamOperator) -> bool
+/// Whether slices stand in reverse order: behind `<<`.
+pub fn reverses(operator: StreamOperator) -> bool
     ensures { result ≡ reverses operator }
 {
     match operator {
@@ -164,6 +170,7 @@ fn sliced<S: Names, F: Fn(&Expr, &mut Known) -> Result<Operand, Halt>>(
     ensures value { TypesTo (as_repeated result) (sliced_of (S.context names.now) size.now es.now known.old.functions) known.new.functions }
     ensures narrow { IfOk result ArePartsNarrow }
     ensures ready { IsReady known.new }
+    ensures keeps { Extends known.old.functions known.new.functions }
 {
     match slice(alloc, names, typed, size, known) {
         Ok(number) => {
@@ -193,8 +200,9 @@ fn streamed<S: Names, F: Fn(&Expr, &mut Known) -> Result<Operand, Halt>>(
     requires names { SoundContext (S.context names.now) }
     requires ready { IsReady known.old }
     ensures value { TypesTo result (stream_in (S.context names.now) opening operator size.now es.now known.old.functions) known.new.functions }
-    ensures narrow { IfOk result IsNarrow }
+    ensures narrow { IfOk result IsShort }
     ensures ready { IsReady known.new }
+    ensures keeps { Extends known.old.functions known.new.functions }
 {
     let Repeated { number, parts } = sliced(alloc, names, typed, size, es, known)?;
     let reversed = reverses(operator);
@@ -217,8 +225,9 @@ pub fn stream<S: Names, F: Fn(&Expr, &mut Known) -> Result<Operand, Halt>>(
     requires names { SoundContext (S.context names.now) }
     requires ready { IsReady known.old }
     ensures value { TypesTo result (stream (S.context names.now) opening operator size.now es.now known.old.functions) known.new.functions }
-    ensures narrow { IfOk result IsNarrow }
+    ensures narrow { IfOk result IsShort }
     ensures ready { IsReady known.new }
+    ensures keeps { Extends known.old.functions known.new.functions }
 {
     streamed(alloc, names, typed, opening, operator, size, es, known)
 }

@@ -7,5 +7,6 @@ mod lists;
 mod operators;
 mod slices;
 
-pub use joins::{concatenation, replication, stream};
+pub use joins::{concatenation, replication, reverses, stream};
 pub use operators::{binary, conditional, unary};
+pub use slices::written_size;

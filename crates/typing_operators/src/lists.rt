@@ -3,6 +3,7 @@
 
 ghost use Rattle.std.specs.Prelude.{◌≡◌, IfOk};
 ghost use Rattle.operand_types.specs.Allowed.{AllNarrow, IsNarrowExpr};
+ghost use Rattle.typing_fits.specs.Sound.{Extends};
 ghost use Rattle.typing_steps.specs.Steps.{TypesTo};
 ghost use Rattle.typing_parts.specs.Typists.{AllCanType, CanType, IsReady};
 ghost use Rattle.typing_operators.specs.Lists.{part_expr, parts_of, streamed_expr, streamed_parts_of};
@@ -29,6 +30,7 @@ fn part_expr<S: Names, F: Fn(&Expr, &mut Known) -> Result<Operand, Halt>>(
     ensures value { TypesTo result (part_expr (S.context names.now) e.now known.old.functions) known.new.functions }
     ensures narrow { IfOk result IsNarrowExpr }
     ensures ready { IsReady known.new }
+    ensures keeps { Extends known.old.functions known.new.functions }
 {
     let v = part(names, typed, e, known)?;
     Ok(v.expr)
@@ -47,6 +49,7 @@ fn streamed_expr<S: Names, F: Fn(&Expr, &mut Known) -> Result<Operand, Halt>>(
     ensures value { TypesTo result (streamed_expr (S.context names.now) e.now known.old.functions) known.new.functions }
     ensures narrow { IfOk result IsNarrowExpr }
     ensures ready { IsReady known.new }
+    ensures keeps { Extends known.old.functions known.new.functions }
 {
     let v = streamed(names, typed, e, known)?;
     Ok(v.expr)
@@ -65,6 +68,7 @@ pub(crate) fn parts<S: Names, F: Fn(&Expr, &mut Known) -> Result<Operand, Halt>>
     ensures value { TypesTo result (parts_of (S.context names.now) es.now known.old.functions) known.new.functions }
     ensures narrow { IfOk result AllNarrow }
     ensures ready { IsReady known.new }
+    ensures keeps { Extends known.old.functions known.new.functions }
 {
     let mut made = Exprs::new(alloc);
     let mut whole = true;
@@ -87,6 +91,7 @@ pub(crate) fn streamed_parts<S: Names, F: Fn(&Expr, &mut Known) -> Result<Operan
     ensures value { TypesTo result (streamed_parts_of (S.context names.now) es.now known.old.functions) known.new.functions }
     ensures narrow { IfOk result AllNarrow }
     ensures ready { IsReady known.new }
+    ensures keeps { Extends known.old.functions known.new.functions }
 {
     let mut made = Exprs::new(alloc);
     let mut whole = true;

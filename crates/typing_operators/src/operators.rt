@@ -2,6 +2,7 @@
 
 ghost use Rattle.std.specs.Prelude.{◌≡◌, IfOk};
 ghost use Rattle.operand_types.specs.Allowed.{IsNarrow};
+ghost use Rattle.typing_fits.specs.Sound.{Extends};
 ghost use Rattle.typing_steps.specs.Steps.{TypesTo};
 ghost use Rattle.typing_parts.specs.Typists.{CanType, IsReady};
 ghost use Rattle.typing_values.specs.Values.{ArePairNarrow};
@@ -34,6 +35,7 @@ pub fn binary<S: Names, F: Fn(&Expr, &mut Known) -> Result<Operand, Halt>>(
     ensures value { TypesTo result (binary (S.context names.now) op at l.now r.now known.old.functions) known.new.functions }
     ensures narrow { IfOk result IsNarrow }
     ensures ready { IsReady known.new }
+    ensures keeps { Extends known.old.functions known.new.functions }
 {
     let Operands { left, right } = two(names, typed, l, r, known)?;
     binary_of(alloc, names.text(), op, at, left, right)
@@ -55,6 +57,7 @@ pub fn unary<S: Names, F: Fn(&Expr, &mut Known) -> Result<Operand, Halt>>(
     ensures value { TypesTo result (unary (S.context names.now) op at e.now known.old.functions) known.new.functions }
     ensures narrow { IfOk result IsNarrow }
     ensures ready { IsReady known.new }
+    ensures keeps { Extends known.old.functions known.new.functions }
 {
     let v = value(names, typed, e, known)?;
     unary_of(alloc, names.text(), op, at, v)
@@ -82,6 +85,7 @@ fn arms<S: Names, F: Fn(&Expr, &mut Known) -> Result<Operand, Halt>>(
     ensures value { TypesTo (as_arms result) (arms_of (S.context names.now) first.now second.now known.old.functions) known.new.functions }
     ensures narrow { IfOk result ArePairNarrow }
     ensures ready { IsReady known.new }
+    ensures keeps { Extends known.old.functions known.new.functions }
 {
     two(names, typed, first, second, known)
 }
@@ -103,6 +107,7 @@ fn test_and_arms<S: Names, F: Fn(&Expr, &mut Known) -> Result<Operand, Halt>>(
     ensures value { TypesTo (as_tested result) (tested_of (S.context names.now) test.now first.now second.now known.old.functions) known.new.functions }
     ensures narrow { IfOk result AreArmsNarrow }
     ensures ready { IsReady known.new }
+    ensures keeps { Extends known.old.functions known.new.functions }
 {
     match value(names, typed, test, known) {
         Ok(on) => {
@@ -134,6 +139,7 @@ pub fn conditional<S: Names, F: Fn(&Expr, &mut Known) -> Result<Operand, Halt>>(
     ensures value { TypesTo result (conditional (S.context names.now) question test.now first.now second.now known.old.functions) known.new.functions }
     ensures narrow { IfOk result IsNarrow }
     ensures ready { IsReady known.new }
+    ensures keeps { Extends known.old.functions known.new.functions }
 {
     let Tested { on, arms } = test_and_arms(names, typed, test, first, second, known)?;
     choice_of(alloc, names.text(), question, on, arms.left, arms.right)

@@ -7,6 +7,7 @@ ghost use Rattle.expr_type.specs.Expressions.{meaning, slice_meaning};
 ghost use Rattle.expr_type.specs.Forms as form;
 ghost use Rattle.expr_type.specs.KeywordTypes.{keyword_type};
 ghost use Rattle.typing_fits.specs.Operands.{SoundContext};
+ghost use Rattle.typing_fits.specs.Sound.{Extends};
 ghost use Rattle.typing_steps.specs.Steps.{TypesTo};
 ghost use Rattle.typing_parts.specs.Typists.{AllCanType, CanType, IsReady};
 ghost use Rattle.typing_values.specs.Children.{in_slice};
@@ -133,6 +134,7 @@ fn slice_within<S: Names, F: Fn(&Expr, &mut Known) -> Result<Operand, Halt>>(
     requires ready { IsReady known.old }
     ensures value { TypesTo result (form.slice_within (S.context names.now).source ((meaning e.now).typed (S.context names.now)) known.old.functions) known.new.functions }
     ensures ready { IsReady known.new }
+    ensures keeps { Extends known.old.functions known.new.functions }
 {
     let n = number(alloc, names, typed, 1, MOST_OF_SLICE, e, known)?;
     Ok(n.number as u32)
@@ -151,16 +153,17 @@ pub(crate) fn slice<S: Names, F: Fn(&Expr, &mut Known) -> Result<Operand, Halt>>
     requires ready { IsReady known.old }
     ensures value { TypesTo result (slice_of_size (S.context names.now) size.now known.old.functions) known.new.functions }
     ensures ready { IsReady known.new }
+    ensures keeps { Extends known.old.functions known.new.functions }
 {
     match size {
         None => Ok(1),
-        Some(size) => written(alloc, names, typed, size.get(), known),
+        Some(size) => written_size(alloc, names, typed, size.get(), known),
     }
 }
 
-// A slice as it is written.
+/// How many bits a slice of a stream has, as it is written (E411).
 #[tactic(auto, using(crate::proofs::Putting::steps))]
-fn written<S: Names, F: Fn(&Expr, &mut Known) -> Result<Operand, Halt>>(
+pub fn written_size<S: Names, F: Fn(&Expr, &mut Known) -> Result<Operand, Halt>>(
     alloc: Global,
     names: &S,
     typed: &F,
@@ -172,6 +175,7 @@ fn written<S: Names, F: Fn(&Expr, &mut Known) -> Result<Operand, Halt>>(
     requires ready { IsReady known.old }
     ensures value { TypesTo result (slice_meaning size.now (S.context names.now) known.old.functions) known.new.functions }
     ensures ready { IsReady known.new }
+    ensures keeps { Extends known.old.functions known.new.functions }
 {
     match size {
         SliceSize::Decimal { digits } => written_slice(alloc, names.text(), *digits),

@@ -41,11 +41,11 @@ member-found : (n : ℕ) (name : List ℕ) (ss : List SignalId) → AllSignalsNa
 member-found n name [] s = tt
 member-found n name (x ∷ ss) s = signal-by ((x.decl == n) && bytes_eq x.member name) x (member_in n name ss) s.0 (member-found n name ss s.1)
 
-pub member-narrow : (n : ℕ) (name : List ℕ) (ss : List SignalId) (s : SignalId) → AllSignalsNarrow ss → member_in n name ss ≡ Some s → width_of s.of ≤ 65536
+pub member-narrow : (n : ℕ) (name : List ℕ) (ss : List SignalId) (s : SignalId) → AllSignalsNarrow ss → member_in n name ss ≡ Some s → width_of s.of ≤ 4194304
 member-narrow n name ss s h e = let k : IsNarrowType s.of = subst SignalIf e (member-found n name ss h) in k.narrow
 
-pub narrow-of : (r : Result Valued Halt) (t : SvType) → width_of t ≤ 65536 → IfOk r (λ v. v.expr.of ≡ t) → IfOk r IsNarrow
-narrow-of (Ok v) t h e = subst (λ (u : SvType). width_of u ≤ 65536) (sym e) h
+pub narrow-of : (r : Result Valued Halt) (t : SvType) → width_of t ≤ 4194304 → IfOk r (λ v. v.expr.of ≡ t) → IfOk r IsNarrow
+narrow-of (Ok v) t h e = subst (λ (u : SvType). width_of u ≤ 4194304) (sym e) h
 narrow-of (Err x) t h e = e
 
 -- the first select names a member of an interface

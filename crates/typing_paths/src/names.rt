@@ -4,6 +4,7 @@ ghost use Rattle.std.specs.Prelude.{IfOk};
 ghost use Rattle.expr_type.specs.Answers.{Gives};
 ghost use Rattle.operand_types.specs.Allowed.{IsNarrow};
 ghost use Rattle.typing_fits.specs.Operands.{SoundContext};
+ghost use Rattle.typing_fits.specs.Sound.{Extends};
 ghost use Rattle.typing_steps.specs.Steps.{TypesTo};
 ghost use Rattle.typing_parts.specs.Typists.{AllCanType, IsReady};
 ghost use Rattle.typing_values.specs.Children.{in_selects};
@@ -53,6 +54,7 @@ fn member_path<S: Names, F: Fn(&Expr, &mut Known) -> Result<Operand, Halt>>(
     ensures value { TypesTo result (member_path_of (S.context names.now) first interface selects.now known.old.functions) known.new.functions }
     ensures narrow { IfOk result IsNarrow }
     ensures ready { IsReady known.new }
+    ensures keeps { Extends known.old.functions known.new.functions }
 {
     match selects {
         [] => Err(Halt::Quiet),
@@ -82,6 +84,7 @@ fn value_path<S: Names, F: Fn(&Expr, &mut Known) -> Result<Operand, Halt>>(
     ensures value { TypesTo result (value_path_of (S.context names.now) of selects.now known.old.functions) known.new.functions }
     ensures narrow { IfOk result IsNarrow }
     ensures ready { IsReady known.new }
+    ensures keeps { Extends known.old.functions known.new.functions }
 {
     let first = named(alloc, names, of);
     path(alloc, names, typed, first, selects, known)
@@ -103,6 +106,7 @@ pub fn named_path<S: Names, F: Fn(&Expr, &mut Known) -> Result<Operand, Halt>>(
     ensures value { TypesTo result (part.named_path (S.context names.now) of selects.now known.old.functions) known.new.functions }
     ensures narrow { IfOk result IsNarrow }
     ensures ready { IsReady known.new }
+    ensures keeps { Extends known.old.functions known.new.functions }
 {
     match names.thing(of) {
         Thing::Signal(_, _) => value_path(alloc, names, typed, of, selects, known),

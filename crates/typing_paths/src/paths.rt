@@ -5,6 +5,7 @@ ghost use Rattle.sv_types.specs.declared.statement.Function.{Function};
 ghost use Rattle.expr_type.specs.Typings.{Typing};
 ghost use Rattle.expr_type.specs.declared.operand.Valued as V;
 ghost use Rattle.operand_types.specs.Allowed.{IsNarrow};
+ghost use Rattle.typing_fits.specs.Sound.{Extends};
 ghost use Rattle.typing_steps.specs.Steps.{TypesTo};
 ghost use Rattle.typing_parts.specs.Typists.{AllCanType, IsReady};
 ghost use Rattle.typing_values.specs.Children.{in_select, in_selects};
@@ -20,7 +21,7 @@ use typing_parts::{Known, Names};
 use typing_values::behind_quiet;
 
 // A value and the select behind it: where what stands before isn't whole and breaks nothing, the select is looked at for its breaks.
-#[tactic(auto, using(typing_steps::proofs::Combining::besides))]
+#[tactic(auto, using(typing_steps::proofs::Combining::besides, typing_parts::proofs::Keeping::keepings))]
 fn stepping<S: Names, F: Fn(&Expr, &mut Known) -> Result<Operand, Halt>>(
     alloc: Global,
     names: &S,
@@ -35,6 +36,7 @@ fn stepping<S: Names, F: Fn(&Expr, &mut Known) -> Result<Operand, Halt>>(
     ensures value { (x : Typing V.Valued) (fs : List Function) → TypesTo from (x fs) known.old.functions → TypesTo result (stepping_of (S.context names.now) x select.now fs) known.new.functions }
     ensures can { IfOk result CanStep }
     ensures ready { IsReady known.new }
+    ensures keeps { Extends known.old.functions known.new.functions }
 {
     match from {
         Ok(v) => {
@@ -63,6 +65,7 @@ fn selected<S: Names, F: Fn(&Expr, &mut Known) -> Result<Operand, Halt>>(
     ensures value { (x : Typing V.Valued) (fs : List Function) → TypesTo from (x fs) known.old.functions → TypesTo result (selected_of (S.context names.now) x select.now fs) known.new.functions }
     ensures narrow { IfOk result IsNarrow }
     ensures ready { IsReady known.new }
+    ensures keeps { Extends known.old.functions known.new.functions }
 {
     match stepping(alloc, names, typed, from, select, known) {
         Ok((v, s)) => stepped(alloc, names.text(), v, s),
@@ -87,6 +90,7 @@ pub fn path<S: Names, F: Fn(&Expr, &mut Known) -> Result<Operand, Halt>>(
     ensures value { (x : Typing V.Valued) (fs : List Function) → TypesTo first (x fs) known.old.functions → TypesTo result (path_of (S.context names.now) x selects.now fs) known.new.functions }
     ensures narrow { IfOk result IsNarrow }
     ensures ready { IsReady known.new }
+    ensures keeps { Extends known.old.functions known.new.functions }
 {
     let mut made = first;
     for select in selects {

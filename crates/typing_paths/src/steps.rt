@@ -2,6 +2,7 @@
 
 ghost use Rattle.std.specs.Prelude.{IfOk, true, false};
 ghost use Rattle.select_types.specs.Selected.{StepFits};
+ghost use Rattle.typing_fits.specs.Sound.{Extends};
 ghost use Rattle.typing_steps.specs.Steps.{TypesTo};
 ghost use Rattle.typing_parts.specs.Typists.{AllCanType, CanType, IsReady};
 ghost use Rattle.typing_values.specs.Children.{in_select};
@@ -17,7 +18,7 @@ use typing_parts::{Known, Names};
 use typing_values::{behind_quiet, index, width};
 
 // A base and a width in the order of the text.
-#[tactic(auto, using(typing_steps::proofs::Combining::besides))]
+#[tactic(auto, using(typing_steps::proofs::Combining::besides, typing_parts::proofs::Keeping::keepings))]
 fn sliding<S: Names, F: Fn(&Expr, &mut Known) -> Result<Operand, Halt>>(
     alloc: Global,
     names: &S,
@@ -32,6 +33,7 @@ fn sliding<S: Names, F: Fn(&Expr, &mut Known) -> Result<Operand, Halt>>(
     ensures value { TypesTo result (sliding_of (S.context names.now) left.now right.now known.old.functions) known.new.functions }
     ensures fits { IfOk result SlidesFit }
     ensures ready { IsReady known.new }
+    ensures keeps { Extends known.old.functions known.new.functions }
 {
     match index(names, typed, left, known) {
         Ok(base) => {
@@ -62,6 +64,7 @@ fn slide<S: Names, F: Fn(&Expr, &mut Known) -> Result<Operand, Halt>>(
     ensures value { TypesTo result (slide_of (S.context names.now) opening up left.now right.now known.old.functions) known.new.functions }
     ensures fits { IfOk result StepFits }
     ensures ready { IsReady known.new }
+    ensures keeps { Extends known.old.functions known.new.functions }
 {
     match sliding(alloc, names, typed, left, right, known) {
         Ok((base, width)) => Ok(Step::Slide {
@@ -91,6 +94,7 @@ fn part<S: Names, F: Fn(&Expr, &mut Known) -> Result<Operand, Halt>>(
     ensures value { TypesTo result (part_of (S.context names.now) W.Range opening left.now right.now known.old.functions) known.new.functions }
     ensures fits { IfOk result StepFits }
     ensures ready { IsReady known.new }
+    ensures keeps { Extends known.old.functions known.new.functions }
 {
     match bounds(alloc, names, typed, left, right, known) {
         Ok((left, right)) => Ok(Step::Part {
@@ -119,6 +123,7 @@ fn part_step<S: Names, F: Fn(&Expr, &mut Known) -> Result<Operand, Halt>>(
     ensures value { TypesTo result (part_of (S.context names.now) operator opening left.now right.now known.old.functions) known.new.functions }
     ensures fits { IfOk result StepFits }
     ensures ready { IsReady known.new }
+    ensures keeps { Extends known.old.functions known.new.functions }
 {
     match operator {
         PartOperator::Range => part(alloc, names, typed, opening, left, right, known),
@@ -141,6 +146,7 @@ fn index_step<S: Names, F: Fn(&Expr, &mut Known) -> Result<Operand, Halt>>(
     ensures value { TypesTo result (index_step_of (S.context names.now) opening e.now known.old.functions) known.new.functions }
     ensures fits { IfOk result StepFits }
     ensures ready { IsReady known.new }
+    ensures keeps { Extends known.old.functions known.new.functions }
 {
     let index = index(names, typed, e, known)?;
     Ok(Step::Index { opening, index })
@@ -159,6 +165,7 @@ pub fn step<S: Names, F: Fn(&Expr, &mut Known) -> Result<Operand, Halt>>(
     ensures value { TypesTo result (step_of (S.context names.now) select.now known.old.functions) known.new.functions }
     ensures fits { IfOk result StepFits }
     ensures ready { IsReady known.new }
+    ensures keeps { Extends known.old.functions known.new.functions }
 {
     match select {
         Select::Member { name, .. } => Ok(Step::Member(*name)),

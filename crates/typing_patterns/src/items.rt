@@ -3,6 +3,7 @@
 ghost use Rattle.std.specs.Prelude.{◌≡◌, map, flat_map, IfOk};
 ghost use Rattle.expr_type.specs.Patterns as rule;
 ghost use Rattle.typing_fits.specs.Operands.{SoundContext};
+ghost use Rattle.typing_fits.specs.Sound.{Extends};
 ghost use Rattle.typing_parts.specs.Typists.{AllCanType, CanType, IsReady};
 ghost use Rattle.typing_patterns.specs.Written.{AllFoundIn, AllInPlace, IsFoundIn, IsInPlace, as_item, as_value, item_by, items_by, keyed_by, numbered_by, valued_by, values_by};
 ghost use Rattle.typing_rows.specs.Rows.{mapped};
@@ -32,6 +33,7 @@ fn default_item<S: Names, F: Fn(&Expr, &mut Known) -> Result<Operand, Halt>>(
     ensures value { TypesTo (mapped (as_item (S.context names.now).source) result) (valued_by (S.context names.now) rule.ByDefault value.now known.old.functions) known.new.functions }
     ensures found { IfOk result (IsFoundIn (S.context names.now)) }
     ensures ready { IsReady known.new }
+    ensures keeps { Extends known.old.functions known.new.functions }
 {
     let value = unstreamed(names, typed, value, known)?;
     Ok(Item {
@@ -54,6 +56,7 @@ fn placed_item<S: Names, F: Fn(&Expr, &mut Known) -> Result<Operand, Halt>>(
     ensures operand { TypesTo (mapped (as_value (S.context names.now).source) result) (unstreamed_of (S.context names.now) value.now known.old.functions) known.new.functions }
     ensures placed { IfOk result IsInPlace }
     ensures ready { IsReady known.new }
+    ensures keeps { Extends known.old.functions known.new.functions }
 {
     let value = unstreamed(names, typed, value, known)?;
     Ok(Item {
@@ -78,6 +81,7 @@ fn named_item<S: Names, F: Fn(&Expr, &mut Known) -> Result<Operand, Halt>>(
     ensures value { TypesTo (mapped (as_item (S.context names.now).source) result) (valued_by (S.context names.now) (rule.Named of) value.now known.old.functions) known.new.functions }
     ensures found { IfOk result (IsFoundIn (S.context names.now)) }
     ensures ready { IsReady known.new }
+    ensures keeps { Extends known.old.functions known.new.functions }
 {
     let value = unstreamed(names, typed, value, known)?;
     let otherwise = name_key(alloc, names, of, known)?;
@@ -103,6 +107,7 @@ fn numbered_item<S: Names, F: Fn(&Expr, &mut Known) -> Result<Operand, Halt>>(
     ensures value { TypesTo (mapped (as_item (S.context names.now).source) result) (numbered_by (S.context names.now) key.now value.now known.old.functions) known.new.functions }
     ensures found { IfOk result (IsFoundIn (S.context names.now)) }
     ensures ready { IsReady known.new }
+    ensures keeps { Extends known.old.functions known.new.functions }
 {
     match key_number(alloc, names, typed, key, known) {
         Ok(n) => {
@@ -138,6 +143,7 @@ fn keyed_item<S: Names, F: Fn(&Expr, &mut Known) -> Result<Operand, Halt>>(
     ensures value { TypesTo (mapped (as_item (S.context names.now).source) result) (keyed_by (S.context names.now) key.now value.now known.old.functions) known.new.functions }
     ensures found { IfOk result (IsFoundIn (S.context names.now)) }
     ensures ready { IsReady known.new }
+    ensures keeps { Extends known.old.functions known.new.functions }
 {
     match name_alone(key) {
         Some(of) => named_item(alloc, names, typed, of, value, known),
@@ -160,6 +166,7 @@ fn item<S: Names, F: Fn(&Expr, &mut Known) -> Result<Operand, Halt>>(
     ensures value { TypesTo (mapped (as_item (S.context names.now).source) result) (item_by (S.context names.now) of.now known.old.functions) known.new.functions }
     ensures found { IfOk result (IsFoundIn (S.context names.now)) }
     ensures ready { IsReady known.new }
+    ensures keeps { Extends known.old.functions known.new.functions }
 {
     match of {
         PatternItem::Default { value, .. } => default_item(names, typed, value, known),
@@ -184,6 +191,7 @@ pub fn written<S: Names, F: Fn(&Expr, &mut Known) -> Result<Operand, Halt>>(
     ensures value { TypesTo (mapped (map (as_item (S.context names.now).source)) result) (items_by (S.context names.now) of.now known.old.functions) known.new.functions }
     ensures found { IfOk result (AllFoundIn (S.context names.now)) }
     ensures ready { IsReady known.new }
+    ensures keeps { Extends known.old.functions known.new.functions }
 {
     let mut made = Items::new(alloc);
     let mut whole = true;
@@ -207,6 +215,7 @@ pub fn repeated<S: Names, F: Fn(&Expr, &mut Known) -> Result<Operand, Halt>>(
     ensures value { TypesTo (mapped (map (as_value (S.context names.now).source)) result) (values_by (S.context names.now) es.now known.old.functions) known.new.functions }
     ensures placed { IfOk result AllInPlace }
     ensures ready { IsReady known.new }
+    ensures keeps { Extends known.old.functions known.new.functions }
 {
     let mut made = Items::new(alloc);
     let mut whole = true;

@@ -2,6 +2,7 @@
 
 ghost use Rattle.std.specs.Prelude.{◌≡◌, IfOk};
 ghost use Rattle.typing_fits.specs.Operands.{SoundContext};
+ghost use Rattle.typing_fits.specs.Sound.{Extends};
 ghost use Rattle.typing_parts.specs.Typists.{CanType, IsReady};
 ghost use Rattle.typing_patterns.specs.Keyed.{NamesConstant, NameStandsFor, alone, key_by, key_number_of, unselected};
 ghost use Rattle.typing_steps.specs.Steps.{TypesTo};
@@ -133,6 +134,7 @@ pub fn key_number<S: Names, F: Fn(&Expr, &mut Known) -> Result<Operand, Halt>>(
     requires ready { IsReady known.old }
     ensures value { TypesTo result (key_number_of (S.context names.now) e.now known.old.functions) known.new.functions }
     ensures ready { IsReady known.new }
+    ensures keeps { Extends known.old.functions known.new.functions }
 {
     let v = constant(alloc, names, typed, e, known)?;
     number_of_constant(

@@ -2,6 +2,7 @@
 
 ghost use Rattle.std.specs.Prelude.{◌≡◌};
 ghost use Rattle.typing_fits.specs.Operands.{SoundContext};
+ghost use Rattle.typing_fits.specs.Sound.{Extends};
 ghost use Rattle.typing_parts.specs.Operands.{as_operand};
 ghost use Rattle.typing_parts.specs.Typists.{AllCanType, IsReady, NarrowIfOk};
 ghost use Rattle.typing_patterns.specs.Written.{pattern_by};
@@ -32,6 +33,7 @@ pub fn pattern<S: Names, F: Fn(&Expr, &mut Known) -> Result<Operand, Halt>>(
     ensures value { TypesTo (as_operand (S.context names.now).source result) (pattern_by (S.context names.now) tick of.now known.old.functions) known.new.functions }
     ensures narrow { NarrowIfOk result }
     ensures ready { IsReady known.new }
+    ensures keeps { Extends known.old.functions known.new.functions }
 {
     match of {
         Pattern::Items(items) => {

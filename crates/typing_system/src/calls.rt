@@ -4,6 +4,7 @@ ghost use Rattle.std.specs.Prelude.{◌≡◌, List, IfOk};
 ghost use Rattle.sv_types.specs.declared.statement.Function.{Function};
 ghost use Rattle.expr_type.specs.Forms as form;
 ghost use Rattle.operand_types.specs.Allowed.{IsNarrow};
+ghost use Rattle.typing_fits.specs.Sound.{Extends};
 ghost use Rattle.typing_steps.specs.Steps.{TypesTo};
 ghost use Rattle.typing_parts.specs.Typists.{AllCanType, CanType, IsReady};
 ghost use Rattle.typing_values.specs.Parts as part;
@@ -45,6 +46,7 @@ fn bits_of_part<S: Names, F: Fn(&Expr, &mut Known) -> Result<Operand, Halt>>(
     ensures value { TypesTo result (bits_of_part_of (S.context names.now) name e.now known.old.functions) known.new.functions }
     ensures narrow { IfOk result IsNarrow }
     ensures ready { IsReady known.new }
+    ensures keeps { Extends known.old.functions known.new.functions }
 {
     let v = value(names, typed, e, known)?;
     Ok(bits_of_value(alloc, names.text(), name, &v)?)
@@ -66,6 +68,7 @@ fn bits_call<S: Names, F: Fn(&Expr, &mut Known) -> Result<Operand, Halt>>(
     ensures value { TypesTo result (bits_call_of (S.context names.now) name argument.now known.old.functions) known.new.functions }
     ensures narrow { IfOk result IsNarrow }
     ensures ready { IsReady known.new }
+    ensures keeps { Extends known.old.functions known.new.functions }
 {
     match as_type(alloc, names, typed, argument, known) {
         Ok(Some(t)) => Ok(bits_of_type(alloc, names.text(), name, &t)?),
@@ -102,6 +105,7 @@ fn bits_function<S: Names, F: Fn(&Expr, &mut Known) -> Result<Operand, Halt>>(
     ensures value { TypesTo result (bits_function_of (S.context names.now) name argument.now known.old.functions) known.new.functions }
     ensures narrow { IfOk result IsNarrow }
     ensures ready { IsReady known.new }
+    ensures keeps { Extends known.old.functions known.new.functions }
 {
     let v = bits(names, typed, argument, known)?;
     value_call(alloc, names, name, v)
@@ -123,6 +127,7 @@ pub fn system_call<S: Names, F: Fn(&Expr, &mut Known) -> Result<Operand, Halt>>(
     ensures value { TypesTo result (part.system_call (S.context names.now) name argument.now known.old.functions) known.new.functions }
     ensures narrow { IfOk result IsNarrow }
     ensures ready { IsReady known.new }
+    ensures keeps { Extends known.old.functions known.new.functions }
 {
     if is_word(names, name, b"$bits") {
         return bits_call(alloc, names, typed, name, argument, known);

@@ -1,5 +1,6 @@
 //! Expressions as types (IEEE 1800-2017 clauses 6.11, 6.18 and 20.6.2).
 
+ghost use Rattle.typing_fits.specs.Sound.{Extends};
 ghost use Rattle.typing_steps.specs.Steps.{TypesTo};
 ghost use Rattle.typing_parts.specs.Typists.{AllCanType, IsReady};
 ghost use Rattle.typing_values.specs.Children.{in_dimensions, in_selects};
@@ -79,6 +80,7 @@ fn word_type<S: Names, F: Fn(&Expr, &mut Known) -> Result<Operand, Halt>>(
     requires ready { IsReady known.old }
     ensures value { TypesTo result (word_type_of (S.context names.now) of packed.now known.old.functions) known.new.functions }
     ensures ready { IsReady known.new }
+    ensures keeps { Extends known.old.functions known.new.functions }
 {
     let t = type_of_word(alloc, names, typed, of, packed, known)?;
     Ok(Some(t))
@@ -98,6 +100,7 @@ fn named_type<S: Names, F: Fn(&Expr, &mut Known) -> Result<Operand, Halt>>(
     requires ready { IsReady known.old }
     ensures value { TypesTo result (named_type_of (S.context names.now) of selects.now known.old.functions) known.new.functions }
     ensures ready { IsReady known.new }
+    ensures keeps { Extends known.old.functions known.new.functions }
 {
     match type_of_name(names, of) {
         None => Ok(None),
@@ -120,6 +123,7 @@ pub fn as_type<S: Names, F: Fn(&Expr, &mut Known) -> Result<Operand, Halt>>(
     requires ready { IsReady known.old }
     ensures value { TypesTo result (as_type_of (S.context names.now) e.now known.old.functions) known.new.functions }
     ensures ready { IsReady known.new }
+    ensures keeps { Extends known.old.functions known.new.functions }
 {
     match type_form(e) {
         TypeForm::Word(of, packed) => word_type(alloc, names, typed, of, packed, known),

@@ -31,10 +31,10 @@ use Rattle.typing_paths.specs.Paths.{path_of}
 use Rattle.typing_targets.specs.Names.{local_path_of, member_path_of, member_target_of, named_target_of, signal_path_of}
 
 -- signals and locals are narrow
-pub signal-narrow : (k : Context) (of : QualifiedName) (n : ℕ) (t : SvType) → SoundContext k → thing k of ≡ Signal n t → width_of t ≤ 65536
+pub signal-narrow : (k : Context) (of : QualifiedName) (n : ℕ) (t : SvType) → SoundContext k → thing k of ≡ Signal n t → width_of t ≤ 4194304
 signal-narrow k of n t s e = let sound : IsNarrowType t = subst SoundThing e (thing-sound k of s) in sound.narrow
 
-pub local-narrow : (k : Context) (of : QualifiedName) (n : ℕ) (t : SvType) → SoundContext k → thing k of ≡ Local n t → width_of t ≤ 65536
+pub local-narrow : (k : Context) (of : QualifiedName) (n : ℕ) (t : SvType) → SoundContext k → thing k of ≡ Local n t → width_of t ≤ 4194304
 local-narrow k of n t s e = let sound : IsNarrowType t = subst SoundThing e (thing-sound k of s) in sound.narrow
 
 -- the first select names a member of an interface

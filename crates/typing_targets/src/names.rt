@@ -6,6 +6,7 @@ ghost use Rattle.expr_type.specs.TargetNames as def;
 ghost use Rattle.operand_types.specs.Allowed.{IsNarrow};
 ghost use Rattle.sv_types.specs.Layouts.{width_of};
 ghost use Rattle.typing_fits.specs.Operands.{SoundContext};
+ghost use Rattle.typing_fits.specs.Sound.{Extends};
 ghost use Rattle.typing_steps.specs.Steps.{TypesTo};
 ghost use Rattle.typing_parts.specs.Typists.{AllCanType, IsReady};
 ghost use Rattle.typing_values.specs.Children.{in_selects};
@@ -40,7 +41,7 @@ fn signal_target<S: Nets>(
     signal: u32,
     t: &SvType,
 ) -> Result<Valued, Halt>
-    requires narrow { width_of t.now ≤ 65536 }
+    requires narrow { width_of t.now ≤ 4194304 }
     ensures value { Gives result (signal_target_of (S.context names.now) in_statement of signal t.now) }
     ensures narrow { IfOk result IsNarrow }
 {
@@ -94,12 +95,13 @@ fn signal_path<S: Nets, F: Fn(&Expr, &mut Known) -> Result<Operand, Halt>>(
     selects: &[Select],
     known: &mut Known,
 ) -> Result<Valued, Halt>
-    requires narrow { width_of t.now ≤ 65536 }
+    requires narrow { width_of t.now ≤ 4194304 }
     requires can { AllCanType _ _ (λ e. e.now) (λ k. k.now) (F.pre typed.now) (F.post typed.now) (S.context names.now) (in_selects selects.now) }
     requires ready { IsReady known.old }
     ensures value { TypesTo result (signal_path_of (S.context names.now) in_statement of signal t.now selects.now known.old.functions) known.new.functions }
     ensures narrow { IfOk result IsNarrow }
     ensures ready { IsReady known.new }
+    ensures keeps { Extends known.old.functions known.new.functions }
 {
     let from = signal_target(alloc, names, in_statement, of, signal, t);
     path(alloc, names, typed, from, selects, known)
@@ -116,12 +118,13 @@ fn local_path<S: Nets, F: Fn(&Expr, &mut Known) -> Result<Operand, Halt>>(
     selects: &[Select],
     known: &mut Known,
 ) -> Result<Valued, Halt>
-    requires narrow { width_of t.now ≤ 65536 }
+    requires narrow { width_of t.now ≤ 4194304 }
     requires can { AllCanType _ _ (λ e. e.now) (λ k. k.now) (F.pre typed.now) (F.post typed.now) (S.context names.now) (in_selects selects.now) }
     requires ready { IsReady known.old }
     ensures value { TypesTo result (local_path_of (S.context names.now) of local t.now selects.now known.old.functions) known.new.functions }
     ensures narrow { IfOk result IsNarrow }
     ensures ready { IsReady known.new }
+    ensures keeps { Extends known.old.functions known.new.functions }
 {
     let from = leaf(alloc, names, of.first_token(), t, Form::Local(local));
     path(alloc, names, typed, from, selects, known)
@@ -144,6 +147,7 @@ fn member_path<S: Nets, F: Fn(&Expr, &mut Known) -> Result<Operand, Halt>>(
     ensures value { TypesTo result (member_path_of (S.context names.now) in_statement first interface selects.now known.old.functions) known.new.functions }
     ensures narrow { IfOk result IsNarrow }
     ensures ready { IsReady known.new }
+    ensures keeps { Extends known.old.functions known.new.functions }
 {
     match selects {
         [] => Err(Halt::Quiet),
@@ -176,6 +180,7 @@ pub fn named_target<S: Nets, F: Fn(&Expr, &mut Known) -> Result<Operand, Halt>>(
     ensures value { TypesTo result (named_target_of (S.context names.now) in_statement of selects.now known.old.functions) known.new.functions }
     ensures narrow { IfOk result IsNarrow }
     ensures ready { IsReady known.new }
+    ensures keeps { Extends known.old.functions known.new.functions }
 {
     match names.thing(of) {
         Thing::Signal(n, t) => {

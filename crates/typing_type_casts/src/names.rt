@@ -7,6 +7,7 @@ ghost use Rattle.expr_type.specs.Typings.{Typing};
 ghost use Rattle.expr_type.specs.declared.operand.Valued as values;
 ghost use Rattle.sv_types.specs.declared.statement.Function.{Function};
 ghost use Rattle.typing_fits.specs.Operands.{SoundContext};
+ghost use Rattle.typing_fits.specs.Sound.{Extends};
 ghost use Rattle.typing_parts.specs.Operands.{as_operand};
 ghost use Rattle.typing_parts.specs.Typists.{AllCanType, FitsIfOk, IsReady};
 ghost use Rattle.typing_steps.specs.Steps.{TypesTo};
@@ -37,6 +38,7 @@ pub fn plain_operand(v: Result<Valued, Halt>) -> Result<Operand, Halt>
 }
 
 // A cast to the size that a name with selects behind it gives.
+#[tactic(auto, using(typing_parts::proofs::Keeping::keepings))]
 fn to_size<S: Names, F: Fn(&Expr, &mut Known) -> Result<Operand, Halt>>(
     alloc: Global,
     names: &S,
@@ -53,6 +55,7 @@ fn to_size<S: Names, F: Fn(&Expr, &mut Known) -> Result<Operand, Halt>>(
     requires ready { IsReady known.old }
     ensures value { TypesTo result (size_named (S.context names.now) of selects.now cast.now known.old.functions) known.new.functions }
     ensures ready { IsReady known.new }
+    ensures keeps { Extends known.old.functions known.new.functions }
 {
     let v = named_path(alloc, names, typed, of, selects, known);
     let size = plain_operand(v);
@@ -61,7 +64,7 @@ fn to_size<S: Names, F: Fn(&Expr, &mut Known) -> Result<Operand, Halt>>(
 
 /// A cast to what a name with selects behind it stands for: a type, of which the selects are packed dimensions, or a size. That a size
 /// can be valued is asked of what names it (`PathFits`).
-#[tactic(auto, using(crate::proofs::Naming::names))]
+#[tactic(auto, using(crate::proofs::Naming::names, typing_parts::proofs::Keeping::keepings))]
 pub fn to_name<S: Names, F: Fn(&Expr, &mut Known) -> Result<Operand, Halt>>(
     alloc: Global,
     names: &S,
@@ -78,6 +81,7 @@ pub fn to_name<S: Names, F: Fn(&Expr, &mut Known) -> Result<Operand, Halt>>(
     requires ready { IsReady known.old }
     ensures value { TypesTo result (part.to_name (S.context names.now) of selects.now cast.now known.old.functions) known.new.functions }
     ensures ready { IsReady known.new }
+    ensures keeps { Extends known.old.functions known.new.functions }
 {
     match type_of_name(names, of) {
         Some(t) => {

@@ -2,6 +2,7 @@
 
 ghost use Rattle.std.specs.Prelude.{◌≡◌};
 ghost use Rattle.typing_fits.specs.Operands.{SoundContext};
+ghost use Rattle.typing_fits.specs.Sound.{Extends};
 ghost use Rattle.typing_parts.specs.Typists.{AllCanType, IsReady};
 ghost use Rattle.typing_steps.specs.Steps.{TypesTo};
 ghost use Rattle.typing_values.specs.Children.{in_cast, in_dimensions};
@@ -16,6 +17,7 @@ use typing_dimensions::type_of_word;
 use typing_parts::{Known, Names};
 
 /// A cast to the type of a word with packed dimensions behind it.
+#[tactic(auto, using(typing_parts::proofs::Keeping::keepings))]
 pub fn to_word<S: Names, F: Fn(&Expr, &mut Known) -> Result<Operand, Halt>>(
     alloc: Global,
     names: &S,
@@ -31,6 +33,7 @@ pub fn to_word<S: Names, F: Fn(&Expr, &mut Known) -> Result<Operand, Halt>>(
     requires ready { IsReady known.old }
     ensures value { TypesTo result (part.to_word (S.context names.now) of packed.now cast.now known.old.functions) known.new.functions }
     ensures ready { IsReady known.new }
+    ensures keeps { Extends known.old.functions known.new.functions }
 {
     let t = type_of_word(alloc, names, typed, of, packed, known);
     by_type(alloc, names, typed, of.at, t, cast, known)

@@ -30,14 +30,14 @@ use Rattle.typing_parts.specs.Operands.{as_operand}
 use Rattle.typing_parts.specs.Typists.{FitsIfOk, FitsOperand, IsNarrowOperand, NarrowIfOk}
 
 narrow-is : (v u : Valued) → v ≡ u → IsNarrow v → IsNarrow u
-narrow-is v u is n = subst (λ (x : Valued). width_of x.expr.of ≤ 65536) is n
+narrow-is v u is n = subst (λ (x : Valued). width_of x.expr.of ≤ 4194304) is n
 
 plain-layer : (v : Valued) → out-Operand (O.Plain v) ≡ Operand-F.Plain v
 plain-layer v = search (rules, the_lemmas)
 
 abbrev narrow_layer : Operand-F Operand Item → Type 0
 narrow_layer z = elim z [
-  | Operand-F.Plain v ↦ width_of v.expr.of ≤ 65536
+  | Operand-F.Plain v ↦ width_of v.expr.of ≤ 4194304
   | Operand-F.Pattern tick times items ↦ ⊤
   | Operand-F.Stream v ↦ width_of v.expr.of ≤ 65536
 ]

@@ -7,6 +7,7 @@ ghost use Rattle.expr_type.specs.Operands as rule;
 ghost use Rattle.pattern_types.specs.Meaning.{operand_of};
 ghost use Rattle.pattern_types.specs.declared.operand.Operand.TheVariants as O;
 ghost use Rattle.select_types.specs.Selected.{IsWidth};
+ghost use Rattle.typing_fits.specs.Sound.{Extends};
 ghost use Rattle.typing_steps.specs.Steps.{TypesTo};
 ghost use Rattle.typing_parts.specs.Typists.{CanType, FitsOperand, IsReady};
 ghost use Rattle.typing_values.specs.Numbers.{CanBeValued, NumberIsWithin, bound_of, constant_of, count_of, number_of, operand_number, width_of};
@@ -64,6 +65,7 @@ pub fn constant<S: Names, F: Fn(&Expr, &mut Known) -> Result<Operand, Halt>>(
     ensures value { TypesTo result (constant_of (S.context names.now) e.now known.old.functions) known.new.functions }
     ensures fits { IfOk result (CanBeValued known.new.functions) }
     ensures ready { IsReady known.new }
+    ensures keeps { Extends known.old.functions known.new.functions }
 {
     let o = typed(e, known)?;
     as_constant(alloc, names.text(), o)
@@ -130,6 +132,7 @@ pub fn number<S: Names, F: Fn(&Expr, &mut Known) -> Result<Operand, Halt>>(
     ensures value { TypesTo result (number_of (S.context names.now) low high e.now known.old.functions) known.new.functions }
     ensures within { IfOk result (NumberIsWithin low high) }
     ensures ready { IsReady known.new }
+    ensures keeps { Extends known.old.functions known.new.functions }
 {
     let v = constant(alloc, names, typed, e, known)?;
     number_of_value(alloc, names, low, high, &v, known)
@@ -147,6 +150,7 @@ pub fn bound<S: Names, F: Fn(&Expr, &mut Known) -> Result<Operand, Halt>>(
     requires ready { IsReady known.old }
     ensures value { TypesTo result (bound_of (S.context names.now) e.now known.old.functions) known.new.functions }
     ensures ready { IsReady known.new }
+    ensures keeps { Extends known.old.functions known.new.functions }
 {
     number(alloc, names, typed, i64::MIN, i64::MAX, e, known)
 }
@@ -165,6 +169,7 @@ pub fn width<S: Names, F: Fn(&Expr, &mut Known) -> Result<Operand, Halt>>(
     ensures value { TypesTo result (width_of (S.context names.now) e.now known.old.functions) known.new.functions }
     ensures within { IfOk result (λ n. IsWidth n.number) }
     ensures ready { IsReady known.new }
+    ensures keeps { Extends known.old.functions known.new.functions }
 {
     number(alloc, names, typed, 1, MOST_OF_SIZE, e, known)
 }
@@ -196,6 +201,7 @@ pub fn count<S: Names, F: Fn(&Expr, &mut Known) -> Result<Operand, Halt>>(
     requires ready { IsReady known.old }
     ensures value { TypesTo result (count_of (S.context names.now) e.now known.old.functions) known.new.functions }
     ensures ready { IsReady known.new }
+    ensures keeps { Extends known.old.functions known.new.functions }
 {
     let n = number(alloc, names, typed, 0, MOST_OF_SIZE, e, known)?;
     as_count(names.text(), n)

@@ -8,6 +8,7 @@ ghost use Rattle.expr_type.specs.Operands as rule;
 ghost use Rattle.expr_type.specs.Operators as operator;
 ghost use Rattle.pattern_types.specs.Meaning.{operand_of};
 ghost use Rattle.pattern_types.specs.declared.operand.Operand.TheVariants as O;
+ghost use Rattle.typing_fits.specs.Sound.{Extends};
 ghost use Rattle.typing_steps.specs.Steps.{TypesTo};
 ghost use Rattle.typing_parts.specs.Operands.{as_operand};
 ghost use Rattle.typing_parts.specs.Typists.{CanType, FitsIfOk, IsNarrowOperand, IsReady, NarrowIfOk};
@@ -55,6 +56,7 @@ pub fn value<S: Names, F: Fn(&Expr, &mut Known) -> Result<Operand, Halt>>(
     ensures value { TypesTo result (value_of (S.context names.now) e.now known.old.functions) known.new.functions }
     ensures narrow { IfOk result IsNarrow }
     ensures ready { IsReady known.new }
+    ensures keeps { Extends known.old.functions known.new.functions }
 {
     let o = typed(e, known)?;
     as_value(names.text(), o)
@@ -85,6 +87,7 @@ pub fn two<S: Names, F: Fn(&Expr, &mut Known) -> Result<Operand, Halt>>(
     ensures value { TypesTo (as_pair result) (two_of (S.context names.now) l.now r.now known.old.functions) known.new.functions }
     ensures narrow { IfOk result ArePairNarrow }
     ensures ready { IsReady known.new }
+    ensures keeps { Extends known.old.functions known.new.functions }
 {
     match value(names, typed, l, known) {
         Ok(left) => {
@@ -110,6 +113,7 @@ pub fn bits<S: Names, F: Fn(&Expr, &mut Known) -> Result<Operand, Halt>>(
     ensures value { TypesTo result (bits_of (S.context names.now) e.now known.old.functions) known.new.functions }
     ensures narrow { IfOk result IsNarrow }
     ensures ready { IsReady known.new }
+    ensures keeps { Extends known.old.functions known.new.functions }
 {
     let v = value(names, typed, e, known)?;
     has_bits(names.text(), v)
@@ -128,6 +132,7 @@ pub fn index<S: Names, F: Fn(&Expr, &mut Known) -> Result<Operand, Halt>>(
     ensures value { TypesTo result (index_of (S.context names.now) e.now known.old.functions) known.new.functions }
     ensures narrow { IfOk result IsNarrow }
     ensures ready { IsReady known.new }
+    ensures keeps { Extends known.old.functions known.new.functions }
 {
     let v = bits(names, typed, e, known)?;
     is_index(names.text(), v)
@@ -146,6 +151,7 @@ pub fn part<S: Names, F: Fn(&Expr, &mut Known) -> Result<Operand, Halt>>(
     ensures value { TypesTo result (part_of (S.context names.now) e.now known.old.functions) known.new.functions }
     ensures narrow { IfOk result IsNarrow }
     ensures ready { IsReady known.new }
+    ensures keeps { Extends known.old.functions known.new.functions }
 {
     let v = value(names, typed, e, known)?;
     is_part(names.text(), v)
@@ -184,6 +190,7 @@ pub fn streamed<S: Names, F: Fn(&Expr, &mut Known) -> Result<Operand, Halt>>(
     ensures value { TypesTo result (streamed_of (S.context names.now) e.now known.old.functions) known.new.functions }
     ensures narrow { IfOk result IsNarrow }
     ensures ready { IsReady known.new }
+    ensures keeps { Extends known.old.functions known.new.functions }
 {
     let o = typed(e, known)?;
     as_streamed(names.text(), o)
@@ -218,6 +225,7 @@ pub fn unstreamed<S: Names, F: Fn(&Expr, &mut Known) -> Result<Operand, Halt>>(
     ensures narrow { NarrowIfOk result }
     ensures fits { FitsIfOk result known.new.functions }
     ensures ready { IsReady known.new }
+    ensures keeps { Extends known.old.functions known.new.functions }
 {
     let o = typed(e, known)?;
     not_streamed(names.text(), o)

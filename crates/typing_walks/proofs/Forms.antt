@@ -24,10 +24,10 @@ use Rattle.expr_type.specs.Forms.{SelectMeaning, dimensions, type_of_thing}
 use Rattle.expr_type.specs.Expressions.{Meaning, of_operand, of_value, CastMeaning, DimensionMeaning, RangeMeaning, keyword_dimensions, Arms, arms, expr_step}
 use Rattle.typing_fits.specs.Sound.{Sound, AllSoundAlone}
 use Rattle.typing_fits.specs.Alternatives.{AllSoundIn}
-use Rattle.typing_fits.specs.Operands.{SoundFixed, SoundOperand}
+use Rattle.typing_fits.specs.Operands.{SoundFixed, SoundStream, SoundOperand}
 use Rattle.typing_fits.proofs.Contexts.{refused-then}
 use Rattle.typing_fits.proofs.Operators.{ok-is, binary-sound, unary-sound}
-use Rattle.typing_fits.proofs.Joins.{all-alone, choice-sound, concat-sound, stream-sound, inside-sound}
+use Rattle.typing_fits.proofs.Joins.{all-alone, choice-sound, concat-sound, stream-sound, stream-short, inside-sound}
 use Rattle.typing_fits.proofs.Selects.{long-then}
 use Rattle.typing_fits.proofs.Numbers.{decimal-sound, based-sound, sized-sound, fill-sound}
 use Rattle.typing_fits.proofs.Given.{parenthesized-sound}
@@ -68,6 +68,15 @@ streamed-fixed k opening reversed n vs v gs h s =
     record {
       none = ap (λ (x : Valued). x.arithmetic) (sym (ok-is a v (long-then k opening w (Ok a) v h)));
       sound = stream-sound k opening reversed n s.first.expr (exprs s.rest) v gs (ap (λ (us : List Valued). F.stream_of k opening reversed n (exprs us)) (sym s.is) ∙ h) (some-alone vs gs s);
+    }
+
+pub streamed-made : (k : Source) (opening : ℕ) (reversed : Bool) (n : ℕ) (vs : List Valued) (v : Valued) (gs : List Function) → F.stream_of k opening reversed n (exprs vs) ≡ Ok v → SomeHold Valued Sound vs gs → SoundStream v gs
+streamed-made k opening reversed n vs v gs h s =
+    let fixed = streamed-fixed k opening reversed n vs v gs h s in
+    record {
+      none = fixed.none;
+      sound = fixed.sound;
+      short = stream-short k opening reversed n s.first.expr (exprs s.rest) v gs (ap (λ (us : List Valued). F.stream_of k opening reversed n (exprs us)) (sym s.is) ∙ h) (some-alone vs gs s);
     }
 
 pub packed-fixed : (k : Source) (v u : Valued) (gs : List Function) → is_packed_target k v ≡ Ok u → SoundFixed v gs → SoundFixed u gs

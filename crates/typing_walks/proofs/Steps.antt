@@ -36,7 +36,7 @@ use Rattle.expr_type.specs.Forms.{Inside, SelectMeaning, dimensions, type_of_thi
 use Rattle.expr_type.specs.Patterns.{Item, ItemKey, InPlace, ByDefault, Named, Numbered}
 use Rattle.expr_type.specs.Expressions.{Meaning, part, parts, count, PatternMeaning, ItemMeaning, SliceMeaning, pattern_operand, cast_step, most_of_unpacked, between, bounds, dimension_step, if_all, slice_or_one, stream, expr_step, pattern_step, key_number, is_key, keyed_item, pattern_item_step, part_step, part_dimension, select_step, slice_size_step, value_range_step}
 use Rattle.typing_fits.specs.Sound.{Sound}
-use Rattle.typing_fits.specs.Operands.{SoundFixed, SoundOperand}
+use Rattle.typing_fits.specs.Operands.{SoundFixed, SoundStream, SoundOperand}
 use Rattle.typing_fits.specs.Patterns.{AllSoundItems}
 use Rattle.typing_fits.specs.Selects.{SoundIndex, SoundStep}
 use Rattle.typing_fits.proofs.Joins.{repeat-sound}
@@ -49,7 +49,7 @@ use Rattle.typing_walks.proofs.Operands.{SomeHold}
 use Rattle.typing_walks.proofs.Paths as P
 use Rattle.typing_walks.proofs.Paths.{SelectsSound}
 use Rattle.typing_walks.proofs.Forms as X
-use Rattle.typing_walks.proofs.Forms.{AllMeanings, Gives, AllGive, some-alone, joined-sound, joined-none, streamed-fixed, packed-fixed, some-fixed}
+use Rattle.typing_walks.proofs.Forms.{AllMeanings, Gives, AllGive, some-alone, joined-sound, joined-none, streamed-made, packed-fixed, some-fixed}
 
 repeated-sound : (k : Source) (opening n : ℕ) (vs : List Valued) (v : Valued) (gs : List Function) → repeat_of k opening n (exprs vs) ≡ Ok v → 0 < n → SomeHold Valued Sound vs gs → Sound v gs
 repeated-sound k opening n vs v gs h some s =
@@ -182,12 +182,12 @@ module _ (Q : List Function → Type 0) where
       (λ k.
       checked (both (slice_or_one k size) (all (map (λ (d : Meaning). F.streamed_part k.source (d.typed k)) (e ∷ es))) (λ n vs. rule (F.stream_of k.source opening (F.reverses operator) n (exprs vs)))) (stream k))
       (λ k r.
-      K.checked-keeps Q SoundFixed SoundOperand
+      K.checked-keeps Q SoundStream SoundOperand
       (both (slice_or_one k size) (all (map (λ (d : Meaning). F.streamed_part k.source (d.typed k)) (e ∷ es))) (λ n vs. rule (F.stream_of k.source opening (F.reverses operator) n (exprs vs)))) (stream k)
-      (K.both-keeps Q Anything (SomeHold Valued Sound) SoundFixed (slice_or_one k size) (all (map (λ (d : Meaning). F.streamed_part k.source (d.typed k)) (e ∷ es)))
+      (K.both-keeps Q Anything (SomeHold Valued Sound) SoundStream (slice_or_one k size) (all (map (λ (d : Meaning). F.streamed_part k.source (d.typed k)) (e ∷ es)))
       (λ n vs. rule (F.stream_of k.source opening (F.reverses operator) n (exprs vs))) any-lasts (slice-keeps k size r z)
       (O.some-keeps Q Sound (F.streamed_part k.source (e.typed k)) (map (λ (d : Meaning). F.streamed_part k.source (d.typed k)) es) valued-lasts (O.streamed-keeps Q k.source (e.typed k) (s.0.typed k r)) (each-streamed k es r s.1))
-      (λ n vs js q a b. K.rule-kept Q SoundFixed (F.stream_of k.source opening (F.reverses operator) n (exprs vs)) js q (λ v h. streamed-fixed k.source opening (F.reverses operator) n vs v js h b)))
+      (λ n vs js q a b. K.rule-kept Q SoundStream (F.stream_of k.source opening (F.reverses operator) n (exprs vs)) js q (λ v h. streamed-made k.source opening (F.reverses operator) n vs v js h b)))
       (λ v js q a. K.whole-kept Q SoundOperand (V.Stream v) js q a))
 
   -- patterns

@@ -116,9 +116,9 @@ more-values [] vs s r = r
 more-values (u ∷ us) vs s r = (s.0, more-values us vs s.1 r)
 
 abbrev pub Short : SvType → NameValue → List Function → Type 0
-Short base v gs = width_of base ≤ 65536
+Short base v gs = width_of base ≤ 4194304
 
-short-value : (k : Context) (t : SvType) (v : NameValue) → is_full t ≡ true → width_of t ≤ 65536 → SoundConstant (value_in k t v).of (value_in k t v).value
+short-value : (k : Context) (t : SvType) (v : NameValue) → is_full t ≡ true → width_of t ≤ 4194304 → SoundConstant (value_in k t v).of (value_in k t v).value
 short-value k t v full short = record { of = record { full = full; narrow = short }; long = value-long t (vec (width_of t) v.number) (length-vec (width_of t) v.number) }
 
 enum-width : (id : ℕ) (base : SvType) (names : List EnumName) → width_of (V.Enum id base names) ≡ width_of base
@@ -126,7 +126,7 @@ enum-width id base names = ap (λ (l : Layout). length l.two_state) (layout-Enum
 
 name-values-sound : (k : Context) (t base : SvType) (vs : List NameValue) (gs : List Function) → is_full t ≡ true → width_of t ≡ width_of base → AllHold (Short base) vs gs → AllValuesSound (map (value_in k t) vs)
 name-values-sound k t base [] gs full w s = tt
-name-values-sound k t base (v ∷ vs) gs full w s = (short-value k t v full (subst (λ n. n ≤ 65536) (sym w) s.0), name-values-sound k t base vs gs full w s.1)
+name-values-sound k t base (v ∷ vs) gs full w s = (short-value k t v full (subst (λ n. n ≤ 4194304) (sym w) s.0), name-values-sound k t base vs gs full w s.1)
 
 latest-sound : (vs : List ParamValue) → AllValuesSound vs → AllValuesSound (latest_first vs)
 latest-sound [] s = tt

@@ -1,4 +1,4 @@
--- What a walk over expressions of a sound text owes its parts: functions keep their places, and what is typed as a size can be valued.
+-- What a walk over expressions of a sound text owes its parts: what is typed as a size can be valued.
 use Rattle.std.proofs.Common.{◌≡◌, true, List, [], ◌∷◌, map, ap, subst}
 use Rattle.std.specs.Prelude.{IfOk, Result, Ok, Err}
 use Rattle.sv_tree.specs.declared.expressions.Expr.{Expr}
@@ -10,32 +10,23 @@ use Rattle.expr_type.specs.declared.operand.Valued.{Valued}
 use Rattle.expr_type.specs.Expressions.{actuals, meaning, select_meaning}
 use Rattle.expr_type.specs.Forms as F
 use Rattle.expr_type.specs.Names.{Context}
-use Rattle.expr_type.specs.Typings.{Typed, Typing, all}
+use Rattle.expr_type.specs.Typings.{Typed, Typing}
 use Rattle.typing_steps.specs.Steps.{TypesTo}
 use Rattle.typing_fits.specs.Operands.{SoundOperand}
-use Rattle.typing_fits.specs.Sound.{Extends, Sound}
+use Rattle.typing_fits.specs.Sound.{Sound}
 use Rattle.typing_fits.proofs.Full.{and-left, and-right}
-use Rattle.typing_fits.proofs.Given.{operand-later, sound-fits}
+use Rattle.typing_fits.proofs.Given.{sound-fits}
 use Rattle.routine_fits.specs.Sound.{AllSoundFunctions}
 use Rattle.typing_walks.specs.Keeps.{AllKeep, Surrounded}
 use Rattle.typing_walks.specs.Written as W
 use Rattle.typing_walks.specs.Written.{select_written}
 use Rattle.typing_walks.proofs.Casts as C
-use Rattle.typing_walks.proofs.Keeping as K
 use Rattle.typing_walks.proofs.Operands as O
 use Rattle.typing_walks.proofs.Paths as P
 use Rattle.typing_walks.proofs.Paths.{SelectsSound}
 use Rattle.typing_walks.proofs.Walk.{expr-sound, select-sound}
 use Rattle.typing_values.specs.Numbers.{CanBeValued}
-use Rattle.typing_values.specs.Values.{unstreamed_of}
 use Rattle.walk_laws.specs.Children.{AllWritten}
-
-all-keep : (k : Context) (es : List Expr) → Surrounded AllSoundFunctions k → AllWritten es → AllKeep AllSoundFunctions SoundOperand (map (unstreamed_of k) es)
-all-keep k [] r w = tt
-all-keep k (e ∷ es) r w = (O.unstreamed-keeps AllSoundFunctions k.source ((meaning e).typed k) ((expr-sound AllSoundFunctions e w.0).typed k r), all-keep k es r w.1)
-
-pub actuals-extend : (k : Context) (es : List Expr) → Surrounded AllSoundFunctions k → AllWritten es → (gs : List Function) → AllSoundFunctions gs → Extends gs (all (map (unstreamed_of k) es) gs).functions
-actuals-extend k es r w gs q = (K.all-keeps AllSoundFunctions SoundOperand (map (unstreamed_of k) es) operand-later (all-keep k es r w) gs q).extends
 
 all-selects : (ss : List Select) → W.all (map select_written ss) ≡ true → SelectsSound AllSoundFunctions (map select_meaning ss)
 all-selects [] w = tt

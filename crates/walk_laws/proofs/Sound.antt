@@ -28,7 +28,7 @@ use Rattle.typing_parts.specs.Typists.{FitsIfOk, NarrowIfOk}
 
 abbrev narrow_layer : Operand-F O.Operand Item → Type 0
 narrow_layer z = elim z [
-  | Operand-F.Plain v ↦ width_of v.expr.of ≤ 65536
+  | Operand-F.Plain v ↦ width_of v.expr.of ≤ 4194304
   | Operand-F.Pattern tick times items ↦ ⊤
   | Operand-F.Stream v ↦ width_of v.expr.of ≤ 65536
 ]
@@ -49,7 +49,7 @@ meant-is k o = fold_out-Operand Operand Filled (operand_step k) item_step o
 narrow-by : (k : Source) (z : Operand-F O.Operand Item) (gs : List Function) → SoundOperand (meant k z) gs → narrow_layer z
 narrow-by k (Operand-F.Plain v) gs s = s.of.narrow
 narrow-by k (Operand-F.Pattern tick times items) gs s = tt
-narrow-by k (Operand-F.Stream v) gs s = s.sound.of.narrow
+narrow-by k (Operand-F.Stream v) gs s = s.short
 
 fits-by : (k : Source) (z : Operand-F O.Operand Item) (gs : List Function) → SoundOperand (meant k z) gs → fits_layer gs z
 fits-by k (Operand-F.Plain v) gs s = sound-fits v gs s

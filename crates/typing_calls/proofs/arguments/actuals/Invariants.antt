@@ -1,4 +1,5 @@
 use Rattle.std.proofs.Common.{take}
+use Rattle.typing_fits.specs.Sound.{Extends}
 use Rattle.typing_steps.specs.Steps.{TypesTo}
 use Rattle.pattern_types.specs.Meaning.{operand_of}
 use Rattle.typing_parts.specs.Typists.{IsReady}
@@ -12,4 +13,5 @@ invariant-loop-e g l =
     record {
       made : TypesTo (all_meant (operand_of k.source) l.made) (actuals_of k (take l.e-index l.es) l.fn.known.functions) l.known.functions;
       ready : IsReady l.known;
+      keeps : Extends l.fn.known.functions l.known.functions;
     }

@@ -3,12 +3,9 @@ use Rattle.expr_type.specs.Forms.{plain}
 use Rattle.typing_parts.specs.Operands.{as_operand}
 use Rattle.typing_steps.specs.Steps.{TypesTo}
 use Rattle.typing_values.specs.Parts as P
-use Rattle.walk_laws.proofs.Premises.{actuals-extend, call-fits}
+use Rattle.walk_laws.proofs.Premises.{call-fits}
 use Rattle.typing_cast_forms.proofs.Casting.{called-alone, called-sized, cast-can}
 use Rattle.typing_cast_forms.proofs.calls.called.Goals as goal
-
-pub call-requires-clause-extend : goal.call-requires-clause-extend
-call-requires-clause-extend g c = record { keeps = actuals-extend (g.S.Names.context c.args.names.now) c.args.arguments.now c.requires.names c.requires.written }
 
 pub by_size-requires-clause-names : goal.by_size-requires-clause-names
 by_size-requires-clause-names g c = c.requires.names.context

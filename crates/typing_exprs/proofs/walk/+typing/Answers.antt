@@ -37,5 +37,6 @@ operand-form-requires-clause-can g t c =
       gives = λ y s r u is p. subst (λ (z : Expr). TypesTo (as_operand k.source r) ((meaning z).typed k s.now.functions) u.now.functions) is p.0;
       narrow = λ y s r u is p. p.1.0;
       fits = λ y s r u is p. p.1.1.0;
-      ready = λ y s r u is p. p.1.1.1;
+      ready = λ y s r u is p. p.1.1.1.0;
+      keeps = λ y s r u is p. p.1.1.1.1;
     }) c.requires.written

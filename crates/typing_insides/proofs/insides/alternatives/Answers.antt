@@ -2,6 +2,7 @@ use Rattle.std.proofs.Common.{Ok, Err, map, ap, sym, ◌∙◌, subst}
 use Rattle.std.proofs.lemmas.Result.{err_from_is_err_and}
 use Rattle.inside_types.specs.Alternatives.{alternative}
 use Rattle.typing_steps.specs.Steps.{TypesTo}
+use Rattle.typing_parts.proofs.Keeping.{extends-then}
 use Rattle.typing_rows.specs.Rows.{mapped}
 use Rattle.typing_rows.proofs.Walking.{adds-mapped, turn, turn-ends}
 use Rattle.typing_values.specs.Children.{in_range}
@@ -32,5 +33,6 @@ loop-range-preserved g c =
           (adds-mapped alternative c.loop-range.made c.add_item.new.made c.loop-range.whole c.alternative-item.result (Ok c.in_ok-whole.whole) c.in_ok-whole.ensures.value) c.loop-range.invariant.typed
           c.alternative-item.ensures.value;
       ready = c.alternative-item.ensures.ready;
+      keeps = extends-then _ _ _ c.loop-range.invariant.keeps c.alternative-item.ensures.keeps;
       narrow = c.in_ok-whole.ensures.narrow;
     }

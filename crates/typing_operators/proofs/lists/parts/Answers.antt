@@ -4,6 +4,7 @@ use Rattle.std.proofs.lemmas.Result.{err_from_is_err_and}
 use Rattle.sv_types.specs.declared.expression.Expr as T
 use Rattle.expr_type.specs.declared.halt.Halt.{Halt}
 use Rattle.typing_steps.specs.Steps.{TypesTo}
+use Rattle.typing_parts.proofs.Keeping.{extends-then}
 use Rattle.typing_rows.specs.Rows.{so_far}
 use Rattle.typing_rows.proofs.Walking.{turn, turn-ends, walked}
 use Rattle.typing_values.proofs.Children.{all-at}
@@ -35,6 +36,7 @@ loop-e-preserved g c =
           turn (part_expr k) c.args.es.now c.loop-e.e-index c.e-item.result c.loop-e.whole c.in_ok-whole.whole c.loop-e.made c.add.new.made c.part_expr.result c.args.known.now.functions c.loop-e.known.functions
           c.part_expr.new.known.functions c.loop-e-test.true c.e-item.is c.in_ok-whole.ensures c.loop-e.invariant.typed c.part_expr.ensures.value;
       ready = c.part_expr.ensures.ready;
+      keeps = extends-then _ _ _ c.loop-e.invariant.keeps c.part_expr.ensures.keeps;
       narrow = narrow-more c.loop-e.made c.add.new.made c.loop-e.whole c.in_ok-whole.whole c.part_expr.result c.in_ok-whole.ensures c.loop-e.invariant.narrow c.part_expr.ensures.narrow;
     }
 

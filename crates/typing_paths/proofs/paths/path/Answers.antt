@@ -1,4 +1,5 @@
 use Rattle.std.proofs.Common.{take}
+use Rattle.typing_parts.proofs.Keeping.{extends-then}
 use Rattle.typing_values.specs.Children.{in_select}
 use Rattle.typing_dimensions.proofs.Typable.{can-in}
 use Rattle.typing_paths.specs.Paths.{path_of}
@@ -20,4 +21,5 @@ loop-select-preserved g c =
           (c.selected-made.ensures.value (path_of k x (take i ss)) fs (c.loop-select.invariant.value x fs h));
       narrow = c.selected-made.ensures.narrow;
       ready = c.selected-made.ensures.ready;
+      keeps = extends-then _ _ _ c.loop-select.invariant.keeps c.selected-made.ensures.keeps;
     }

@@ -4,6 +4,7 @@ use Rattle.sv_types.specs.declared.statement.Function.{Function}
 use Rattle.expr_type.specs.declared.operand.Valued.{Valued}
 use Rattle.expr_type.specs.Typings.{Typing}
 use Rattle.operand_types.specs.Allowed.{IsNarrow}
+use Rattle.typing_fits.specs.Sound.{Extends}
 use Rattle.typing_steps.specs.Steps.{TypesTo}
 use Rattle.typing_parts.specs.Typists.{IsReady}
 use Rattle.typing_paths.specs.Paths.{path_of}
@@ -15,4 +16,5 @@ invariant-loop-select g l = record {
       → TypesTo l.made (path_of (g.S.Names.context l.names) x (take l.select-index l.selects) fs) l.known.functions;
   narrow : IfOk l.made IsNarrow;
   ready : IsReady l.known;
+  keeps : Extends l.initial.known.functions l.known.functions;
 }

@@ -1,6 +1,7 @@
 use Rattle.std.proofs.Common.{Ok, Err, map, ap, sym, ◌∙◌, subst}
 use Rattle.std.proofs.lemmas.Result.{err_from_is_err_and}
 use Rattle.typing_steps.specs.Steps.{TypesTo}
+use Rattle.typing_parts.proofs.Keeping.{extends-then}
 use Rattle.typing_rows.specs.Rows.{mapped}
 use Rattle.typing_rows.proofs.Walking.{adds-mapped, turn, turn-ends}
 use Rattle.typing_values.proofs.Children.{all-at}
@@ -34,5 +35,6 @@ loop-e-preserved g c =
           (adds-mapped f c.loop-e.made c.add.new.made c.loop-e.whole c.placed_item-one.result (Ok c.in_ok-whole.whole) c.in_ok-whole.ensures) c.loop-e.invariant.typed
           c.placed_item-one.ensures.operand;
       ready = c.placed_item-one.ensures.ready;
+      keeps = extends-then _ _ _ c.loop-e.invariant.keeps c.placed_item-one.ensures.keeps;
       placed = placed-more c.loop-e.made c.add.new.made c.loop-e.whole c.in_ok-whole.whole c.placed_item-one.result c.in_ok-whole.ensures c.loop-e.invariant.placed c.placed_item-one.ensures.placed;
     }

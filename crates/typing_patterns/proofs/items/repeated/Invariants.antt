@@ -1,5 +1,6 @@
 use Rattle.std.proofs.Common.{map, take}
 use Rattle.expr_type.specs.Typings.{all}
+use Rattle.typing_fits.specs.Sound.{Extends}
 use Rattle.typing_steps.specs.Steps.{TypesTo}
 use Rattle.typing_rows.specs.Rows.{so_far}
 use Rattle.typing_parts.specs.Typists.{IsReady}
@@ -13,5 +14,6 @@ invariant-loop-e g l =
     record {
       typed : TypesTo (so_far l.whole (map (as_value k.source) l.made)) (all (map (unstreamed_of k) (take l.e-index l.es)) l.fn.known.functions) l.known.functions;
       ready : IsReady l.known;
+      keeps : Extends l.fn.known.functions l.known.functions;
       placed : AllInPlace l.made;
     }

@@ -1,6 +1,7 @@
 use Rattle.std.proofs.Common.{Ok, Err, map, ap, sym, ◌∙◌, subst}
 use Rattle.std.proofs.lemmas.Result.{err_from_is_err_and}
 use Rattle.typing_steps.specs.Steps.{TypesTo}
+use Rattle.typing_parts.proofs.Keeping.{extends-then}
 use Rattle.typing_rows.specs.Rows.{mapped}
 use Rattle.typing_rows.proofs.Walking.{adds-mapped, turn, turn-ends}
 use Rattle.typing_values.specs.Children.{in_item}
@@ -34,5 +35,6 @@ loop-i-preserved g c =
           (adds-mapped f c.loop-i.made c.add.new.made c.loop-i.whole c.item-one.result (Ok c.in_ok-whole.whole) c.in_ok-whole.ensures) c.loop-i.invariant.typed
           c.item-one.ensures.value;
       ready = c.item-one.ensures.ready;
+      keeps = extends-then _ _ _ c.loop-i.invariant.keeps c.item-one.ensures.keeps;
       found = found-more k c.loop-i.made c.add.new.made c.loop-i.whole c.in_ok-whole.whole c.item-one.result c.in_ok-whole.ensures c.loop-i.invariant.found c.item-one.ensures.found;
     }

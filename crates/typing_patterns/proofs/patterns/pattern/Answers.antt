@@ -4,6 +4,7 @@ use Rattle.sv_tree.specs.declared.expressions.Pattern.TheVariants as P
 use Rattle.expr_type.specs.declared.halt.Halt.TheVariants as H
 use Rattle.typing_steps.specs.Steps.{StopsBy, TypesTo}
 use Rattle.typing_parts.specs.Operands.{as_operand}
+use Rattle.typing_parts.proofs.Keeping.{extends-then}
 use Rattle.typing_values.specs.Numbers.{count_of}
 use Rattle.typing_patterns.specs.Written.{pattern_by}
 use Rattle.typing_patterns.proofs.Among.{can-count}
@@ -49,3 +50,12 @@ returns-in-Err-Quiet-clause-value g c =
     subst (λ h. StopsBy h (pattern_by k c.args.tick c.args.of.now c.args.known.now.functions) c.repeated-items.new.known.functions) (sym c.behind_quiet.ensures)
     (values-behind k c.args.tick c.args.known.now.functions c.repeated-items.new.known.functions c.args.of.now c.get.result.now c.in-Replication.opening c.in-Replication.closing c.as_slice-in-Err-Quiet.result.now
     c.repeated-items.result c.count.new.known.functions form quiet c.repeated-items.ensures.value)
+
+pub returns-in_err-items-in-Ok-clause-keeps : goal.returns-in_err-items-in-Ok-clause-keeps
+returns-in_err-items-in-Ok-clause-keeps g c = extends-then _ _ _ c.count.ensures.keeps c.repeated.ensures.keeps
+
+pub returns-in_ok-items-in-Ok-clause-keeps : goal.returns-in_ok-items-in-Ok-clause-keeps
+returns-in_ok-items-in-Ok-clause-keeps g c = extends-then _ _ _ c.count.ensures.keeps c.repeated.ensures.keeps
+
+pub returns-in-Err-Quiet-clause-keeps : goal.returns-in-Err-Quiet-clause-keeps
+returns-in-Err-Quiet-clause-keeps g c = extends-then _ _ _ c.count.ensures.keeps c.repeated-items.ensures.keeps

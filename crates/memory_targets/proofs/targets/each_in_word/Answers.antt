@@ -1,6 +1,6 @@
 use Rattle.std.proofs.Common.{arith}
 use Rattle.memory_targets.proofs.Naming.{in-after, in-all}
-use Rattle.memory_targets.proofs.targets.in_words.Goals as goal
+use Rattle.memory_targets.proofs.targets.each_in_word.Goals as goal
 
 pub loop-write-preserved : goal.loop-write-preserved
 loop-write-preserved c =

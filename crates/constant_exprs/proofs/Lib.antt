@@ -1,0 +1,5 @@
+pub mod Lists
+pub mod Forms
+pub mod ByForm
+pub mod Counting
+pub mod Walks

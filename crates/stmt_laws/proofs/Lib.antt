@@ -1,0 +1,5 @@
+pub mod Values
+pub mod Declared
+pub mod Parts
+pub mod Statements
+pub mod Walk
