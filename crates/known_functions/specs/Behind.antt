@@ -1,10 +1,8 @@
 -- Functions behind others, and what is known of them.
-use Rattle.std.specs.Prelude.{◌≡◌, ℕ, if◌then◌else◌, List, [], ◌∷◌, ◌++◌, Option, Some, None, slice_get}
+use Rattle.std.specs.Prelude.{◌≡◌, ℕ, if◌then◌else◌, List, Option, Some, None, slice_get}
 use Rattle.sv_types.specs.declared.statement.Function.{Function}
 use Rattle.expr_type.specs.Functions.{known_from}
-use Rattle.expr_type.specs.Uses.{stream_marks}
-use Rattle.function_places.specs.Places.{Declared, places_in, first_place, same_declared}
-use Rattle.typing_parts.specs.declared.known.Known.{Known}
+use Rattle.function_places.specs.Places.{Declared, same_declared}
 
 -- where a function is declared
 abbrev pub declared_of : Function → Declared
@@ -24,18 +22,3 @@ pub record IsFound (n : ℕ) (d : Declared) (fs : List Function) : Type 0 where
   pub of : Function
   pub known : slice_get fs n ≡ Some of
   pub first : known_from 0 d.0 d.1 d.2 fs ≡ Some (record { place = n; of = of })
-
--- all but the last one, and where that is declared
-pub record IsRest (fs gs : List Function) : Type 0 where
-  pub last : Function
-  pub is : fs ≡ gs ++ last ∷ []
-
-pub record IsOneLess (fs gs : List Function) (d : Declared) : Type 0 where
-  pub last : Function
-  pub is : fs ≡ gs ++ last ∷ []
-  pub declared : declared_of last ≡ d
-
--- what is kept of each function that is known, whether or not it can be run
-pub record IsIndexed (k : Known) : Type 0 where
-  pub marked : k.marks ≡ stream_marks k.functions
-  pub placed : (d : Declared) → places_in k.places d ≡ first_place d k.functions
