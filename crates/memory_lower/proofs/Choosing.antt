@@ -6,8 +6,13 @@ use Rattle.sv_types.specs.declared.expression.Form.TheVariants as V
 use Rattle.sv_types.specs.declared.statement.Function.{Function}
 use Rattle.sv_types.specs.declared.types.SvType.{SvType}
 use Rattle.sv_types.specs.Layouts.{Layout, layout}
+use Rattle.sv_types.specs.Meanings as S
+use Rattle.sv_types.specs.Expressions.{meaning}
 use Rattle.v_tree.specs.declared.names.Helper.{Helper}
 use Rattle.v_tree.specs.declared.names.NameMap.{NameMap}
+use Rattle.v_meaning.specs.Scopes.{Scope}
+use Rattle.lowering_laws.specs.Agreeing.{Images}
+use Rattle.sv_types.specs.Surroundings.{Around}
 use Rattle.target_flatten.specs.Owning.{AllWrite}
 use Rattle.target_flatten.specs.Writing.{pieces}
 use Rattle.target_walk.specs.declared.never.Targets.{Targets}
@@ -15,10 +20,10 @@ use Rattle.typed_paths.specs.Typed.{Indexing, IsTypedPath, IsTyped, of_signal, o
 use Rattle.expr_lower.specs.Leaves.{Leaf, Signals, Elements, Inside, Locals, onto, indexed, leaves}
 use Rattle.expr_lower.specs.Named.{is_memory}
 use Rattle.expr_lower.proofs.AskedLeaves.{leaves-Signal, leaves-Local, leaves-Member, leaves-Index, leaves-Part, leaves-Slide}
-use Rattle.target_lower.specs.Targets.{StandsOnVector, LowersTarget}
+use Rattle.target_lower.specs.Targets.{StandsAsTarget, StandsOnVector, LowersTarget}
 use Rattle.element_paths.specs.Elements.{GoesOn, at_element, by_member, by_index, by_part, by_slide}
-use Rattle.memory_lower.specs.Lowered.{LowersInMemory}
-use Rattle.memory_lower.specs.Written.{LowersWritten}
+use Rattle.memory_lower.specs.Lowered.{StandsInMemory, LowersInMemory}
+use Rattle.memory_lower.specs.Written.{StandsWritten, LowersWritten}
 
 -- The first leaf of a path: a whole signal, an element of one from which the path goes on, something else of one, or a local.
 data First (e : Expr) : Type 0 where
