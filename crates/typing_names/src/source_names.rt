@@ -38,7 +38,7 @@ pub struct SourceNames<'t> {
     ghost scoped: { AreInnermost names.now.scopes scopes },
     ghost used: { (q : ℕ) → places_in uses q ≡ place_from use_number 0 q names.now.uses },
     ghost declared: { (q : ℕ) → places_in declarations q ≡ place_from declaration_number 0 q names.now.declared },
-    ghost routed: { (q : ℕ) → routine_in routines q ≡ named_at q (means_routines tree.now) },
+    ghost counted: { (q : ℕ) → option_map formal_count (routine_in routines q) ≡ option_map formal_count (named_at q (means_routines tree.now)) },
 }
 
 /// At which place of a list the first use at each token stands.
