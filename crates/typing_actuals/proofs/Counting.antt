@@ -10,7 +10,6 @@ use Rattle.expr_type.specs.declared.halt.Halt.{Halt}
 use Rattle.expr_type.specs.declared.halt.Halt.TheVariants as H
 use Rattle.expr_type.specs.Names.{Context}
 use Rattle.typing_calls.specs.Lists.{Follows, all_meant, as_meant, listed}
-use Rattle.typing_walks.specs.Written as W
 use Rattle.typing_walks.specs.Written.{is_written}
 use Rattle.walk_laws.specs.Children.{AllWritten, nodes, sum}
 use Rattle.typing_actuals.specs.Actuals.{are_targets, as_itself, is_target}
@@ -45,29 +44,38 @@ target-at k (x ∷ es) zero e t within is = subst (λ (y : Expr). is_target k y 
 target-at k (x ∷ es) (suc i) e t within is = target-at k es i e (both-right (is_target k x) (are_targets k es) t) (omega arith) is
 
 -- those from a place on
-pub rest-from : (k : Context) (es : List Expr) (i : ℕ) (e : Expr) → i < length es → e ≡ get_or es i e → are_targets k (drop i es) ≡ (is_target k e && are_targets k (drop (i + 1) es))
+rest-from : (k : Context) (es : List Expr) (i : ℕ) (e : Expr) → i < length es → e ≡ get_or es i e → are_targets k (drop i es) ≡ (is_target k e && are_targets k (drop (suc i) es))
 rest-from k [] i e within is = absurd (omega arith)
 rest-from k (x ∷ es) zero e within is = ap (λ (y : Expr). is_target k y && are_targets k es) (sym is)
 rest-from k (x ∷ es) (suc i) e within is = rest-from k es i e (omega arith) is
 
+one-more : (k : Context) (es : List Expr) (i : ℕ) (e : Expr) → i < length es → e ≡ get_or es i e → are_targets k (drop i es) ≡ (is_target k e && are_targets k (drop (i + 1) es))
+one-more k es i e within is =
+    let next : suc i ≡ i + 1 = omega arith in
+    rest-from k es i e within is ∙ ap (λ (n : ℕ). is_target k e && are_targets k (drop n es)) next
+
 pub no-rest : (k : Context) (es : List Expr) (i : ℕ) → length es ≤ i → are_targets k (drop i es) ≡ true
-no-rest k [] i over = refl
+no-rest k [] zero over = refl
+no-rest k [] (suc i) over = refl
 no-rest k (x ∷ es) zero over = absurd (omega arith)
 no-rest k (x ∷ es) (suc i) over = no-rest k es i (omega arith)
 
 pub false-from : (k : Context) (es : List Expr) (i : ℕ) (e : Expr) → i < length es → e ≡ get_or es i e → is_target k e ≡ false → are_targets k (drop i es) ≡ false
-false-from k es i e within is f = rest-from k es i e within is ∙ ap (λ (b : Bool). b && are_targets k (drop (i + 1) es)) f
+false-from k es i e within is f = one-more k es i e within is ∙ ap (λ (b : Bool). b && are_targets k (drop (i + 1) es)) f
 
 pub true-from : (k : Context) (es : List Expr) (i : ℕ) (e : Expr) → i < length es → e ≡ get_or es i e → is_target k e ≡ true → are_targets k (drop i es) ≡ are_targets k (drop (i + 1) es)
-true-from k es i e within is f = rest-from k es i e within is ∙ ap (λ (b : Bool). b && are_targets k (drop (i + 1) es)) f
+true-from k es i e within is f = one-more k es i e within is ∙ ap (λ (b : Bool). b && are_targets k (drop (i + 1) es)) f
 
 -- expressions as they are
 pub one-itself : (r : Result T.Expr Halt) → as_meant as_itself r ≡ r
 one-itself (Ok e) = refl
 one-itself (Err h) = refl
 
+abbrev ok : List T.Expr → Result (List T.Expr) Halt
+ok es = Ok es
+
 pub all-themselves : (r : Result (Vec T.Expr Global) Halt) → all_meant as_itself r ≡ listed r
-all-themselves (Ok v) = ap (λ (es : List T.Expr). Ok es) (map-id v.items)
+all-themselves (Ok v) = ap ok (map-id v.items)
 all-themselves (Err h) = refl
 
 -- each of them is narrow

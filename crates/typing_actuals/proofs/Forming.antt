@@ -3,8 +3,7 @@ use Rattle.std.proofs.Common.{◌≡◌, ℕ, suc, Bool, true, false, ◌&&◌, 
 use Rattle.std.specs.Option.{option_map}
 use Rattle.std.specs.Prelude.{Result, Err}
 use Rattle.sv_tree.specs.declared.expressions.Cast.{Cast}
-use Rattle.sv_tree.specs.declared.expressions.Dimension.{Dimension}
-use Rattle.sv_tree.specs.declared.expressions.Expr.{Expr, Expr-F, fold-roll-Expr, out-Expr, out-roll-Expr, the_lemmas}
+use Rattle.sv_tree.specs.declared.expressions.Expr.{Expr, Expr-F, out-Expr, out-roll-Expr, the_lemmas}
 use Rattle.sv_tree.specs.declared.expressions.Expr.TheVariants as V
 use Rattle.sv_tree.specs.declared.expressions.Select.{Select}
 use Rattle.sv_tree.specs.declared.names.QualifiedName.{QualifiedName}
@@ -24,7 +23,6 @@ use Rattle.typing_operators.specs.Lists.{expr_of}
 use Rattle.typing_operators.proofs.Exprs.{exprs-type, then-types}
 use Rattle.typing_forms.specs.Levels.{Level}
 use Rattle.typing_values.specs.Children.{in_selects}
-use Rattle.typing_walks.specs.Written as W
 use Rattle.typing_walks.specs.Written.{is_written}
 use Rattle.walk_laws.specs.Children.{AllWritten, children_in, nodes, sum}
 use Rattle.walk_laws.proofs.Written.{children-written}
