@@ -1,7 +1,7 @@
 -- Where functions are found, the last of which is taken away.
-use Rattle.std.proofs.Common.{◌≡◌, ◌≤◌, ℕ, suc, Bool, true, false, cond, List, [], ◌∷◌, ◌++◌, length, take, Option, Some, None, refl, arith, ap, sym, ◌∙◌, subst}
+use Rattle.std.proofs.Common.{◌≡◌, ◌≤◌, ◌+◌, ℕ, zero, suc, Bool, true, false, cond, List, [], ◌∷◌, ◌++◌, length, take, Option, Some, None, refl, arith, ap, sym, ◌∙◌, subst}
 use Rattle.std.specs.Prelude.{slice_get}
-use Rattle.std.proofs.lemmas.List.{take-append-le}
+use Rattle.std.proofs.lemmas.List.{length-append, take-append-le, take_all}
 use Rattle.sv_types.specs.declared.statement.Function.{Function}
 use Rattle.expr_type.specs.Uses.{mark_of, stream_marks}
 use Rattle.function_places.specs.Places.{Declared, same_declared, first_place, without_place}
@@ -97,5 +97,12 @@ pub marks-less : (fs : List Function) (f : Function) (marks : List Bool) → mar
 marks-less fs f marks e = e ∙ one-mark-more fs f
 
 -- what is cut from all but the last function is cut from all
+pub shorter : (fs rest : List Function) (f : Function) → fs ≡ rest ++ f ∷ [] → length fs ≡ suc (length rest)
+shorter fs rest f is = ap length is ∙ length-append rest (f ∷ []) ∙ omega arith
+
 pub cut-less : (n : ℕ) (fs rest : List Function) (f : Function) → fs ≡ rest ++ f ∷ [] → n ≤ length rest → take n rest ≡ take n fs
-cut-less n fs rest f is h = sym (take-append-le n rest (f ∷ [])) ∙ ap (λ (xs : List Function). take n xs) (sym is)
+cut-less n fs rest f is h = sym (take-append-le n rest (f ∷ []) h) ∙ ap (λ (xs : List Function). take n xs) (sym is)
+
+-- no more than so many are left
+pub left-over : (n : ℕ) (fs all : List Function) → length fs ≤ n → take n fs ≡ take n all → fs ≡ take n all
+left-over n fs all over same = sym (take_all n fs over) ∙ same
