@@ -1,4 +1,4 @@
-use Rattle.std.proofs.Common.{◌≡◌, ◌≤◌, List, map, take, arith, sym, subst, true}
+use Rattle.std.proofs.Common.{◌≡◌, ◌≤◌, suc, List, map, take, rules, sym, ◌∙◌, subst, true}
 use Rattle.std.specs.Prelude.{Result}
 use Rattle.sv_types.specs.declared.expression.Expr as T
 use Rattle.expr_type.specs.declared.halt.Halt.{Halt}
@@ -22,22 +22,9 @@ parts-target-next-requires g t c =
     let i = c.loop-item.item-index in
     let e = c.item-item.result in
     let less : nodes e ≤ sum (map nodes es) = nodes-at es i e c.loop-item-test.true c.item-item.is in
-    (
-      (let d = c.decreases in omega arith),
-      (
-        c.requires.needs,
-        (
-          c.requires.names,
-          (
-            written-at es i e c.requires.written c.loop-item-test.true c.item-item.is,
-            (
-              target-at k es i e c.requires.form c.loop-item-test.true c.item-item.is,
-              c.loop-item.invariant.ready,
-            ),
-          ),
-        ),
-      ),
-    )
+    let w : is_written e ≡ true = written-at es i e c.requires.written c.loop-item-test.true c.item-item.is in
+    let f : is_target k e ≡ true = target-at k es i e c.requires.form c.loop-item-test.true c.item-item.is in
+    search rules
 
 pub parts-loop-item-preserved : goal.parts-loop-item-preserved
 parts-loop-item-preserved g t c =
@@ -67,3 +54,40 @@ parts-returns-clause-value g t c =
 
 pub parts-returns-clause-narrow : goal.parts-returns-clause-narrow
 parts-returns-clause-narrow g t c = narrow-listed c.loop-item.made c.all_made.result c.all_made.ensures c.loop-item.invariant.narrow
+
+pub target-name_target-requires-clause-written : goal.target-name_target-requires-clause-written
+target-name_target-requires-clause-written g t c =
+    let form : IsName c.in-Name.of c.in-Name.selects.now c.args.e.now = c.in-Name.ensures in
+    form.written c.requires.written
+
+pub target-returns-in-Name-clause-value : goal.target-returns-in-Name-clause-value
+target-returns-in-Name-clause-value g t c =
+    let k = g.S.Names.context c.args.names.now in
+    let form : IsName c.in-Name.of c.in-Name.selects.now c.args.e.now = c.in-Name.ensures in
+    name-target k c.in-Name.of c.in-Name.selects.now c.args.e.now c.args.known.now.functions c.name_target.new.known.functions c.name_target.result form c.name_target.ensures.value
+
+pub target-parts-found-requires : goal.target-parts-found-requires
+target-parts-found-requires g t c =
+    let k = g.S.Names.context c.args.names.now in
+    let es = c.in-Concatenation.items.now in
+    let form : IsConcatenation c.in-Concatenation.opening es c.args.e.now = c.in-Concatenation.ensures in
+    let larger : nodes c.args.e.now ≡ suc (sum (map nodes es)) = form.larger in
+    let w : AllWritten es = form.written c.requires.written in
+    let f : are_targets k es ≡ true = sym (there-by k c.in-Concatenation.opening es c.args.e.now form) ∙ c.requires.form in
+    search rules
+
+pub target-returns-in-Concatenation-clause-value : goal.target-returns-in-Concatenation-clause-value
+target-returns-in-Concatenation-clause-value g t c =
+    let k = g.S.Names.context c.args.names.now in
+    let e = c.args.e.now in
+    let es = c.in-Concatenation.items.now in
+    let fs = c.args.known.now.functions in
+    let gs = c.parts-found.new.known.functions in
+    let form : IsConcatenation c.in-Concatenation.opening es e = c.in-Concatenation.ensures in
+    let f : are_targets k es ≡ true = sym (there-by k c.in-Concatenation.opening es e form) ∙ c.requires.form in
+    concatenation-target k c.in-Concatenation.opening es e fs gs c.joined.result form f (c.joined.ensures.value (parts_of k es) fs gs c.parts-found.ensures.value)
+
+pub target-returns-in-Other-clause-value : goal.target-returns-in-Other-clause-value
+target-returns-in-Other-clause-value g t c =
+    let k = g.S.Names.context c.args.names.now in
+    no-target k c.args.e.now c.args.known.now.functions c.in-Other.ensures
