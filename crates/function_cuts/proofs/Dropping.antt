@@ -72,10 +72,10 @@ pub removed : (fs : List Function) (f : Function) (places : Declared → Option 
     → ((d : Declared) → places d ≡ first_place d (fs ++ f ∷ [])) → places declared ≡ Some place → (d : Declared) → without_place places declared d ≡ first_place d fs
 removed fs f places declared place is at all here d =
     let none : first_place declared fs ≡ None =
-      no-first (first_place declared fs) (length fs) (not-there declared fs) (sym (at-last declared fs f is) ∙ sym (all declared) ∙ here ∙ ap (λ (n : ℕ). Some n) (sym at)) in
+    no-first (first_place declared fs) (length fs) (not-there declared fs) (sym (at-last declared fs f is) ∙ sym (all declared) ∙ here ∙ ap (λ (n : ℕ). Some n) (sym at)) in
     subst (λ (x : Declared). cond (same_declared x d) None (places d) ≡ first_place d fs) is
     (without-last (same_declared (declared_of f) d) fs f d (places d) refl
-      (λ same. none-before declared d fs (sym is ∙ same-is (declared_of f) d same) none) (all d))
+    (λ same. none-before declared d fs (sym is ∙ same-is (declared_of f) d same) none) (all d))
 
 -- it stays where another is found there
 with-last : (b : Bool) (fs : List Function) (f : Function) (d : Declared) (o : Option ℕ) → same_declared (declared_of f) d ≡ b → (b ≡ true → o ≡ first_place d fs) → o ≡ first_place d (fs ++ f ∷ [])
@@ -87,9 +87,9 @@ pub left : (fs : List Function) (f : Function) (places : Declared → Option ℕ
     → ((d : Declared) → places d ≡ first_place d (fs ++ f ∷ [])) → (places declared ≡ Some place → ⊥) → (d : Declared) → places d ≡ first_place d fs
 left fs f places declared place is at all not d =
     let there : (x : Declared) → declared ≡ x → places x ≡ first_place x fs =
-      λ x same. subst (λ (y : Declared). places y ≡ first_place y fs) same
-      (all declared ∙ at-last declared fs f is
-        ∙ one-first (first_place declared fs) (length fs) (λ e. not (all declared ∙ at-last declared fs f is ∙ e ∙ ap (λ (n : ℕ). Some n) at))) in
+    λ x same. subst (λ (y : Declared). places y ≡ first_place y fs) same
+    (all declared ∙ at-last declared fs f is
+    ∙ one-first (first_place declared fs) (length fs) (λ e. not (all declared ∙ at-last declared fs f is ∙ e ∙ ap (λ (n : ℕ). Some n) at))) in
     with-last (same_declared (declared_of f) d) fs f d (places d) refl (λ same. there d (sym is ∙ same-is (declared_of f) d same)) (all d)
 
 -- marks
