@@ -9,5 +9,5 @@ returns-in-None c =
 
 pub returns-in-Concatenation : goal.returns-in-Concatenation
 returns-in-Concatenation c =
-    let same : c.as_slice.result.now ≡ c.in-Concatenation.items = search rules in
-    concatenation-form c.in-Concatenation.opening c.in-Concatenation.items c.as_slice.result.now c.in-Concatenation.closing c.args.e.now c.in-Concatenation.is same
+    let same : c.as_slice-in-Concatenation.result.now ≡ c.in-Concatenation.items = search rules in
+    concatenation-form c.in-Concatenation.opening c.in-Concatenation.items c.as_slice-in-Concatenation.result.now c.in-Concatenation.closing c.args.e.now c.in-Concatenation.is same
