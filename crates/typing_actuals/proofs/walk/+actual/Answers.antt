@@ -24,6 +24,7 @@ parts-target-next-requires g t c =
     let less : nodes e ≤ sum (map nodes es) = nodes-at es i e c.loop-item-test.true c.item-item.is in
     let w : is_written e ≡ true = written-at es i e c.requires.written c.loop-item-test.true c.item-item.is in
     let f : is_target k e ≡ true = target-at k es i e c.requires.form c.loop-item-test.true c.item-item.is in
+    let d = c.decreases in
     search rules
 
 pub parts-loop-item-preserved : goal.parts-loop-item-preserved
@@ -74,6 +75,7 @@ target-parts-found-requires g t c =
     let larger : nodes c.args.e.now ≡ suc (sum (map nodes es)) = form.larger in
     let w : AllWritten es = form.written c.requires.written in
     let f : are_targets k es ≡ true = sym (there-by k c.in-Concatenation.opening es c.args.e.now form) ∙ c.requires.form in
+    let d = c.decreases in
     search rules
 
 pub target-returns-in-Concatenation-clause-value : goal.target-returns-in-Concatenation-clause-value
