@@ -1,11 +1,11 @@
 -- Where functions are found, the last of which is taken away.
-use Rattle.std.proofs.Common.{◌≡◌, ◌≤◌, ◌+◌, ℕ, zero, suc, Bool, true, false, cond, List, [], ◌∷◌, ◌++◌, length, take, Option, Some, None, refl, arith, ap, sym, ◌∙◌, subst}
+use Rattle.std.proofs.Common.{◌≡◌, ◌≤◌, ℕ, zero, suc, Bool, true, false, cond, List, [], ◌∷◌, ◌++◌, length, take, Option, Some, None, refl, arith, ap, sym, ◌∙◌, subst}
 use Rattle.std.specs.Prelude.{slice_get}
 use Rattle.std.proofs.lemmas.List.{length-append, take-append-le, take_all}
 use Rattle.sv_types.specs.declared.statement.Function.{Function}
 use Rattle.expr_type.specs.Uses.{mark_of, stream_marks}
 use Rattle.function_places.specs.Places.{Declared, same_declared, first_place, without_place}
-use Rattle.known_functions.specs.Behind.{declared_of, or_else, place_if, IsFound}
+use Rattle.known_functions.specs.Behind.{declared_of, or_else}
 use Rattle.known_functions.proofs.Laws.{one-mark-more}
 use Rattle.known_functions.proofs.Places.{same-is, same-itself, place-behind, found-there}
 

@@ -18,7 +18,7 @@ loop-alloc-preserved c =
       same = cut-less c.args.count old new rest.last rest.behind within ∙ c.loop-alloc.invariant.same;
     }
 
-pub loop-alloc-smaller : goal.loop-alloc-decreases
+pub loop-alloc-smaller : goal.loop-alloc-smaller
 loop-alloc-smaller c =
     let old = c.loop-alloc.known.functions in
     let new = c.drop_function.new.known.functions in
