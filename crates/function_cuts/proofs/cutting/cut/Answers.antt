@@ -1,4 +1,4 @@
-use Rattle.std.proofs.Common.{◌≡◌, ◌≤◌, suc, List, length, take, arith, sym, ◌∙◌, subst}
+use Rattle.std.proofs.Common.{◌≡◌, ◌≤◌, suc, List, length, arith, sym, ◌∙◌, subst}
 use Rattle.sv_types.specs.declared.statement.Function.{Function}
 use Rattle.routine_fits.specs.Sound.{AllSoundFunctions}
 use Rattle.function_cuts.specs.Cuts.{IsRest}
