@@ -1,5 +1,5 @@
 -- What is in no form of a target, and what is in one, as actuals.
-use Rattle.std.proofs.Common.{◌≡◌, ℕ, true, false, List, Option, Some, None, ap, refl, sym, subst}
+use Rattle.std.proofs.Common.{◌≡◌, true, false, List, Option, Some, None, ap, refl, sym, subst}
 use Rattle.std.specs.Prelude.{Result, Ok, Err}
 use Rattle.sv_tree.specs.declared.expressions.Expr.{Expr}
 use Rattle.sv_types.specs.declared.statement.Function.{Function}
@@ -7,7 +7,7 @@ use Rattle.expr_type.specs.declared.halt.Halt.{Halt}
 use Rattle.expr_type.specs.declared.halt.Halt.TheVariants as H
 use Rattle.expr_type.specs.declared.operand.Valued.{Valued}
 use Rattle.expr_type.specs.Breaks.{At}
-use Rattle.expr_type.specs.Expressions.{Meaning, meaning}
+use Rattle.expr_type.specs.Expressions.{meaning}
 use Rattle.expr_type.specs.Names.{Context, position}
 use Rattle.expr_type.specs.Operands.{Operand, first_of}
 use Rattle.expr_type.specs.Statements.{Actual, as_target}

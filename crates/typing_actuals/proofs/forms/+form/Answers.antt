@@ -1,4 +1,4 @@
-use Rattle.std.proofs.Common.{◌≡◌, ◌≤◌, suc, map, sym, arith, ◌∙◌}
+use Rattle.std.proofs.Common.{◌≤◌, map, sym, arith, ◌∙◌}
 use Rattle.walk_laws.specs.Children.{nodes, sum}
 use Rattle.typing_actuals.specs.Forms.{IsConcatenation}
 use Rattle.typing_actuals.proofs.Counting.{false-from, nodes-at, true-from}
