@@ -13,7 +13,7 @@ use Rattle.expr_type.specs.declared.halt.Halt.{Halt}
 use Rattle.expr_type.specs.declared.halt.Halt.TheVariants as H
 use Rattle.expr_type.specs.declared.operand.Valued.{Valued}
 use Rattle.expr_type.specs.Expressions as E
-use Rattle.expr_type.specs.Expressions.{Meaning, if_all, joined_targets, meaning, select_meaning}
+use Rattle.expr_type.specs.Expressions.{Meaning, if_all, meaning, select_meaning}
 use Rattle.expr_type.specs.Names.{Context}
 use Rattle.expr_type.specs.Operators.{concat_of, exprs}
 use Rattle.expr_type.specs.TargetNames.{actual_target, packed_target}
