@@ -1,4 +1,4 @@
 pub mod Painting
 pub mod Uses
 pub mod Before
-pub mod Homes
+pub mod Outwards
