@@ -31,7 +31,7 @@ module _ (tree : SourceTree) (t : Table) where
 
   -- a home from a scope: there, no further out, and one scope further out
   module _ (h : Home) (more s to : ℕ) where
-    further : Home
+    abbrev pub further : Home
     further = home_from tree t more (record h { path = shorter tree t h.path }) (outer t.scopes s) to
 
     pub home-here : nat_eq s to ≡ true → home_from tree t (suc more) h s to ≡ h

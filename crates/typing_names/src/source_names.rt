@@ -1,6 +1,8 @@
 //! The names of a source text, with what finds them in near constant time.
 
 ghost use Rattle.std.specs.Prelude.{◌≡◌, ◌<◌, ℕ, length, slice_index, IfOk};
+ghost use Rattle.std.proofs.Props.{props};
+ghost use Rattle.std.specs.Coded.{Coded-set};
 ghost use Rattle.std.specs.Option.{option_copied, option_map};
 ghost use Rattle.expr_type.specs.Names.{formal_count};
 ghost use Rattle.expr_type.specs.Routines.{named_at, routines as means_routines};
@@ -9,6 +11,8 @@ ghost use Rattle.frame_things.specs.Places.{place_from, places_in};
 ghost use Rattle.package_scope.specs.Rules as rules;
 ghost use Rattle.package_scope.specs.Tables as tables;
 ghost use Rattle.source_routines.specs.Texts.{routine_in, text_of};
+ghost use Rattle.sv_tree.specs.contracts.functions.Function as function_row;
+ghost use Rattle.sv_tree.specs.contracts.functions.Task as task_row;
 ghost use Rattle.typing_names.specs.Counts.{before_token};
 ghost use Rattle.typing_names.specs.Scopes.{AreInnermost, declaration_number, use_number, routine_text};
 
@@ -44,7 +48,7 @@ pub struct SourceNames<'t> {
     ghost scoped: { AreInnermost names.now.scopes scopes },
     ghost used: { (q : ℕ) → places_in uses q ≡ place_from use_number 0 q names.now.uses },
     ghost declared: { (q : ℕ) → places_in declarations q ≡ place_from declaration_number 0 q names.now.declared },
-    ghost counted: { (q : ℕ) → option_map formal_count (routine_in routines q) ≡ option_map formal_count (named_at q (means_routines tree.now)) },
+    ghost routed: { (q : ℕ) → routine_in routines q ≡ named_at q (means_routines tree.now) } by { Prim.hlevel (props, Coded-set, function_row.the_row.coded, task_row.the_row.coded) },
     ghost placed: { (q : ℕ) → q < length before → slice_index before q ≡ before_token q names.now.declared },
     ghost ended: { end ≡ length tree.now.tokens },
     ghost few: { length names.now.declared < 4294967296 },
