@@ -1,7 +1,8 @@
 //! Nets of a source text, and the numbers of its declarations.
 
-ghost use Rattle.std.specs.Prelude.{◌≡◌, ◌-◌};
+ghost use Rattle.std.specs.Prelude.{◌≡◌, ◌-◌, length};
 ghost use Rattle.frame_texts.specs.Frames as means;
+ghost use Rattle.package_scope.specs.Lookup as lookup;
 ghost use Rattle.package_scope.specs.Rules as rules;
 
 use crate::counting::count_before;
@@ -53,13 +54,20 @@ impl<'t> SourceNames<'t> {
         }
     }
 
+    /// What an interface declares under a name.
+    fn declared_in(&self, interface: u32, name: &Text) -> Option<u32>
+        ensures { result ≡ lookup.own self.now.names.now interface name.now (length self.now.tree.now.tokens) }
+    {
+        self.names.own(interface, name, self.end)
+    }
+
     /// Whether what an interface declares under a name is a net.
     fn is_net_in(&self, interface: Option<u32>, name: &Text) -> bool
         ensures { result ≡ means.is_net_in self.now.tree.now self.now.names.now interface name.now }
     {
         match interface {
             None => false,
-            Some(scope) => match self.names.own(scope, name, self.end) {
+            Some(scope) => match self.declared_in(scope, name) {
                 None => false,
                 Some(member) => self.is_net(member),
             },
