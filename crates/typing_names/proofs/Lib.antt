@@ -1,2 +1,4 @@
 pub mod Painting
 pub mod Uses
+pub mod Before
+pub mod Outwards

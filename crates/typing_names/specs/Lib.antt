@@ -1,2 +1,4 @@
 pub mod Scopes
 pub mod Texts
+pub mod Counts
+pub mod Homes

@@ -14,8 +14,9 @@ use frame_things::{FrameThings, Things};
 use std::alloc::Global;
 use sv_source::Text;
 use sv_tree::QualifiedName;
-use sv_types::SignalId;
+use sv_types::{SignalId, SvType};
 use typing_parts::{Names, Thing};
+use typing_scopes::Base;
 
 impl<'a, 't> FrameText<'a, 't> {
     /// The text of a frame whose items begin at a token. It takes no memory.
@@ -93,5 +94,30 @@ impl<'a, 't> Names for FrameText<'a, 't> {
 
     fn stands(&self, declaration: u32) -> bool {
         self.source.stands(declaration)
+    }
+}
+
+impl<'a, 't> Base for FrameText<'a, 't> {
+    fn is_net(&self, declaration: u32) -> bool {
+        self.source.is_net(declaration)
+    }
+
+    fn is_net_member(&self, interface: u32, name: u32) -> bool {
+        self.source.is_net_member(interface, self.source.word(name))
+    }
+
+    fn declaration(&self, at: u32) -> u32 {
+        self.source.number(at)
+    }
+
+    fn start(&self) -> u32 {
+        match self.start {
+            Start::Items => self.source.last_before(self.at),
+            Start::Routine(declaration) => declaration,
+        }
+    }
+
+    fn given(&self) -> Option<&SvType> {
+        self.result
     }
 }

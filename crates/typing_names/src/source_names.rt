@@ -1,6 +1,8 @@
 //! The names of a source text, with what finds them in near constant time.
 
-ghost use Rattle.std.specs.Prelude.{◌≡◌, ℕ, IfOk};
+ghost use Rattle.std.specs.Prelude.{◌≡◌, ◌<◌, ℕ, length, slice_index, IfOk};
+ghost use Rattle.std.proofs.Props.{props};
+ghost use Rattle.std.specs.Coded.{Coded-set};
 ghost use Rattle.std.specs.Option.{option_copied, option_map};
 ghost use Rattle.expr_type.specs.Names.{formal_count};
 ghost use Rattle.expr_type.specs.Routines.{named_at, routines as means_routines};
@@ -8,14 +10,18 @@ ghost use Rattle.frame_texts.specs.Frames as means;
 ghost use Rattle.frame_things.specs.Places.{place_from, places_in};
 ghost use Rattle.package_scope.specs.Rules as rules;
 ghost use Rattle.package_scope.specs.Tables as tables;
-ghost use Rattle.source_routines.specs.Texts.{routine_in};
+ghost use Rattle.source_routines.specs.Texts.{routine_in, text_of};
+ghost use Rattle.sv_tree.specs.contracts.functions.Function as function_row;
+ghost use Rattle.sv_tree.specs.contracts.functions.Task as task_row;
+ghost use Rattle.typing_names.specs.Counts.{before_token};
 ghost use Rattle.typing_names.specs.Scopes.{AreInnermost, declaration_number, use_number, routine_text};
 
+use crate::counting::{Counts, counts_before};
 use crate::token_scopes::{TokenScopes, innermost_of, scope_of};
 use frame_things::Places;
 use name_events::Declared;
 use package_scope::{DeclKind, Declaration, Found, NameTable, Use};
-use source_routines::{RoutineTable, routines_of};
+use source_routines::{Routine, RoutineTable, routines_of};
 use std::alloc::{AllocError, Global};
 use sv_source::{Text, at};
 use sv_tree::{QualifiedName, SourceTree};
@@ -35,10 +41,17 @@ pub struct SourceNames<'t> {
     pub declarations: Places,
     /// The functions and tasks by the tokens of their names.
     pub routines: RoutineTable<'t>,
+    /// How many declarations stand before each token.
+    pub before: Counts,
+    /// How many tokens there are.
+    pub end: u32,
     ghost scoped: { AreInnermost names.now.scopes scopes },
     ghost used: { (q : ℕ) → places_in uses q ≡ place_from use_number 0 q names.now.uses },
     ghost declared: { (q : ℕ) → places_in declarations q ≡ place_from declaration_number 0 q names.now.declared },
-    ghost counted: { (q : ℕ) → option_map formal_count (routine_in routines q) ≡ option_map formal_count (named_at q (means_routines tree.now)) },
+    ghost routed: { (q : ℕ) → routine_in routines q ≡ named_at q (means_routines tree.now) } by { Prim.hlevel (props, Coded-set, function_row.the_row.coded, task_row.the_row.coded) },
+    ghost placed: { (q : ℕ) → q < length before → slice_index before q ≡ before_token q names.now.declared },
+    ghost ended: { end ≡ length tree.now.tokens },
+    ghost few: { length names.now.declared < 4294967296 },
 }
 
 /// At which place of a list the first use at each token stands.
@@ -102,6 +115,13 @@ impl<'t> SourceNames<'t> {
         let uses = uses_of(alloc, names.table().uses.as_slice())?;
         let declarations = declarations_of(alloc, names.table().declared.as_slice())?;
         let routines = routines_of(alloc, tree)?;
+        let before = counts_before(alloc, names.table().declared.as_slice(), tree.tokens.len())?;
+        let Ok(end) = u32::try_from(tree.tokens.len()) else {
+            return Err(AllocError);
+        };
+        let Ok(_count) = u32::try_from(names.table().declared.len()) else {
+            return Err(AllocError);
+        };
         Ok(SourceNames {
             tree,
             names,
@@ -109,6 +129,8 @@ impl<'t> SourceNames<'t> {
             uses,
             declarations,
             routines,
+            before,
+            end,
         })
     }
 
@@ -157,7 +179,7 @@ impl<'t> SourceNames<'t> {
     }
 
     /// The declaration that the use at a token finds.
-    fn declaration_at(&self, token: u32) -> Option<&Declaration>
+    pub(crate) fn declaration_at(&self, token: u32) -> Option<&Declaration>
         ensures { option_copied result ≡ rules.declaration_at self.now.tree.now.tokens self.now.names.now token }
     {
         match self.use_at(token) {
@@ -224,16 +246,23 @@ impl<'t> SourceNames<'t> {
         }
     }
 
+    /// The function or task with a declaration, if it is one.
+    pub fn routine(&self, declaration: u32) -> Option<Routine<'t>>
+        ensures { option_map text_of result ≡ routine_text self.now.tree.now self.now.names.now declaration }
+    {
+        match self.names.declaration(declaration) {
+            None => None,
+            Some(declaration) => self.routines.at(declaration.at),
+        }
+    }
+
     /// How many formals the function or task with a declaration has, if it is one.
     pub fn formal_count(&self, declaration: u32) -> Option<usize>
         ensures { result ≡ option_map formal_count (routine_text self.now.tree.now self.now.names.now declaration) }
     {
-        match self.names.declaration(declaration) {
+        match self.routine(declaration) {
             None => None,
-            Some(declaration) => match self.routines.at(declaration.at) {
-                None => None,
-                Some(routine) => Some(routine.formal_count()),
-            },
+            Some(routine) => Some(routine.formal_count()),
         }
     }
 }
