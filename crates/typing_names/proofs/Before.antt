@@ -1,6 +1,6 @@
 -- How many declarations stand before a token, by how many stand at each.
 use Rattle.std.proofs.Common.{◌≡◌, ◌≢◌, ℕ, zero, suc, ◌+◌, ◌<◌, ◌≤◌, ◌⊎◌, inl, inr, Bool, true, false, nat_eq, nat_lt, if◌then◌else◌, cond, List, [], ◌∷◌, ◌++◌, length, drop, get_or, drop-cons, refl, sym, ap, ◌∙◌, arith}
-use Rattle.std.specs.Prelude.{filter, slice_index}
+use Rattle.std.specs.Prelude.{filter}
 use Rattle.std.proofs.Math.ListN.{set}
 use Rattle.std.proofs.Math.Numerals.{add-one}
 use Rattle.std.proofs.lemmas.Bool.Decides.{nat_tests}

@@ -1,5 +1,5 @@
 use Rattle.std.proofs.Common.{◌≡◌, ◌<◌, ℕ, get_or, length}
-use Rattle.typing_names.specs.Counts.{at_token, before_token}
+use Rattle.typing_names.specs.Counts.{before_token}
 use Rattle.typing_names.proofs.counting.counts_before.Given as goal
 
 abbrev pub invariant-loop-token : goal.invariant-loop-token

@@ -1,4 +1,4 @@
-use Rattle.std.proofs.Common.{◌≡◌, ◌-◌, ℕ, suc, nat_eq, true, false, List, length, take, Some, sym, ap, ◌∙◌, arith}
+use Rattle.std.proofs.Common.{◌≡◌, ◌-◌, ℕ, suc, nat_eq, true, false, List, take, Some, sym, ap, ◌∙◌, arith}
 use Rattle.std.proofs.lemmas.Bool.Decides.{nat_tests}
 use Rattle.frame_texts.specs.Frames.{shorter, is_generate_scope, home_from}
 use Rattle.typing_names.specs.Homes.{home_at}
@@ -16,7 +16,7 @@ loop-left-preserved c =
     let other : nat_eq inner c.args.scope ≡ false = grind (arith, nat_tests, c.if-inner-scope.false) in
     let generate : is_generate_scope tree t inner ≡ true = sym c.is_generate_scope.ensures ∙ c.if-not-is_generate_scope.false in
     let path : take c.last_stop-end.result f.path ≡ shorter tree t (take c.loop-left.end f.path) =
-        ap (take c.last_stop-end.result) (sym c.as_bytes-path.ensures) ∙ c.last_stop-end.ensures.shorter ∙ ap (λ (p : List ℕ). shorter tree t (take c.loop-left.end p)) c.as_bytes-path.ensures in
+    ap (take c.last_stop-end.result) (sym c.as_bytes-path.ensures) ∙ c.last_stop-end.ensures.shorter ∙ ap (λ (p : List ℕ). shorter tree t (take c.loop-left.end p)) c.as_bytes-path.ensures in
     record {
       inside = omega (arith, c.last_stop-end.ensures.bound, c.loop-left.invariant.inside);
       home = ap (λ (p : List ℕ). home_from tree t more (record { instance = f.instance; path = p }) c.outer-inner.result c.args.scope) path
