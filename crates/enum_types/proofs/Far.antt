@@ -73,7 +73,35 @@ far-holds t s v some far = by (known v) refl
         ∙ sym (ap is_some (known-value t s v k) ∙ far-by (length v) (width_of t) v refl some far k (sign_of t) s)
     by false k = ap (λ b. b && (sign_of t || (not s || not (is_one (top_bit v))))) k ∙ sym (unknown-none t s v false k refl)
 
-pub ruleset far = (far-holds)
+-- as the tests tell it
+module _ (t : SvType) (s : Bool) (v : List Bit4) (some : 0 < length v) (far : length v < width_of t) where
+  pub far-unknown : (k : Bool) → k ≡ known v → k ≡ false → false ≡ is_some (value_in t s v)
+  far-unknown k e f = ap (λ b. b && (sign_of t || (not s || not (is_one (top_bit v))))) (sym f ∙ e) ∙ far-holds t s v some far
+
+  pub far-base : (k b : Bool) → k ≡ known v → k ≡ true → b ≡ sign_of t → b ≡ true → true ≡ is_some (value_in t s v)
+  far-base k b e f g h =
+      ap (λ x. true && (x || (not s || not (is_one (top_bit v))))) (sym h)
+      ∙ ap (λ x. x && (b || (not s || not (is_one (top_bit v))))) (sym f ∙ e)
+      ∙ ap (λ x. known v && (x || (not s || not (is_one (top_bit v))))) g ∙ far-holds t s v some far
+
+  either : (b : Bool) → true ≡ (b || true)
+  either true = refl
+  either false = refl
+
+  pub far-plainly : (k : Bool) → k ≡ known v → k ≡ true → s ≡ false → true ≡ is_some (value_in t s v)
+  far-plainly k e f g =
+      either (sign_of t)
+      ∙ ap (λ x. sign_of t || (not x || not (is_one (top_bit v)))) (sym g)
+      ∙ ap (λ x. x && (sign_of t || (not s || not (is_one (top_bit v))))) (sym f ∙ e) ∙ far-holds t s v some far
+
+  pub far-top : (k b o : Bool) → k ≡ known v → k ≡ true → b ≡ sign_of t → b ≡ false → s ≡ true → o ≡ is_one (top_bit v) → not o ≡ is_some (value_in t s v)
+  far-top k b o e f g h i j =
+      ap (λ x. not x) j
+      ∙ ap (λ x. not x || not (is_one (top_bit v))) (sym i)
+      ∙ ap (λ x. x || (not s || not (is_one (top_bit v)))) (sym h ∙ g)
+      ∙ ap (λ x. x && (sign_of t || (not s || not (is_one (top_bit v))))) (sym f ∙ e) ∙ far-holds t s v some far
+
+pub ruleset far = (far-unknown, far-base, far-plainly, far-top)
 
 -- whether there are bits of it
 pub some-bits : (t : SvType) (o : Option (List Bit4)) (p : Option ℤ) → BitsOf t o p → is_some o ≡ is_some p

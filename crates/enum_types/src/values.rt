@@ -81,7 +81,16 @@ fn holds_far(base: &SvType, v: &Vec4, signed: bool) -> bool
     requires far { length v.now < width_of base.now }
     ensures { result ≡ is_some (value_in base.now signed v.now) }
 {
-    is_known(v) && (is_signed(base) || !signed || !is_top_one(v))
+    if !is_known(v) {
+        return false;
+    }
+    if is_signed(base) {
+        return true;
+    }
+    if !signed {
+        return true;
+    }
+    !is_top_one(v)
 }
 
 /// Whether a base holds the number of a constant with this value and sign: no bit of it is x or z.

@@ -1,5 +1,5 @@
 -- Types as they are written, part by part: the arms of `expr_type` over whole texts.
-use Rattle.std.specs.Prelude.{◌≡◌, ⊤, Bool, List, [], ◌∷◌, ◌++◌, map, Option, Some, None, Result, Ok, Err}
+use Rattle.std.specs.Prelude.{Bool, List, [], ◌∷◌, ◌++◌, map, Option, Some, None, Result, Ok, Err}
 use Rattle.sv_tree.specs.declared.expressions.Dimension.{Dimension}
 use Rattle.sv_tree.specs.declared.types.Aggregate.{Aggregate}
 use Rattle.sv_tree.specs.declared.types.DimensionedName.{DimensionedName}
@@ -15,7 +15,6 @@ use Rattle.expr_type.specs.Forms.{dimensioned}
 use Rattle.expr_type.specs.Names.{Context, Source, with_values}
 use Rattle.expr_type.specs.Types.{Field, Fields, FieldsMeaning, TypeFound, TypeMeaning, aggregate, all_fields, dims, field, member_step, type_step}
 use Rattle.expr_type.specs.Typings.{Typed, Typing, all, both_by, broken, checked, rule, whole}
-use Rattle.typing_fits.specs.Operands.{AllValuesSound}
 use Rattle.typing_walks.specs.Written as W
 use Rattle.typing_walks.specs.WrittenTypes as R
 use Rattle.typing_walks.specs.WrittenTypes.{name_written}
@@ -78,12 +77,3 @@ under_by k f ds = checked (dims (with_values f.names k) ds) (λ d. checked (dime
 
 abbrev pub packed_by : Context → Typing TypeFound → List Dimension → Typing TypeFound
 packed_by k x ds = both_by x (λ o. dims (behind_found k o) ds) (λ f d. checked (dimensioned k.source f.of (whole d)) (λ t. whole (record f { of = t })))
-
--- names that are declared are sound constants
-abbrev pub IsSoundIfOk : Result TypeFound Halt → Type 0
-IsSoundIfOk (Ok f) = AllValuesSound f.names
-IsSoundIfOk (Err h) = ⊤
-
-abbrev pub SoundIfOk : Result Fields Halt → Type 0
-SoundIfOk (Ok f) = AllValuesSound f.names
-SoundIfOk (Err h) = ⊤

@@ -1,6 +1,6 @@
 //! Members of structs and unions, one text after the other (IEEE 1800-2017 clauses 7.2 and 7.3).
 
-ghost use Rattle.std.specs.Prelude.{◌≡◌, ◌∷◌, [], List, false, true, OnOk};
+ghost use Rattle.std.specs.Prelude.{◌≡◌, ◌∷◌, [], List, false, true, OnOk, IfOk};
 ghost use Rattle.sv_types.specs.declared.statement.Function.{Function};
 ghost use Rattle.expr_type.specs.Answers.{Gives, source};
 ghost use Rattle.expr_type.specs.Types as means;
@@ -13,7 +13,7 @@ ghost use Rattle.typing_parts.specs.Typists.{IsReady, MakesKnown};
 ghost use Rattle.typing_scopes.specs.Scopes.{context_of, own_values};
 ghost use Rattle.typing_steps.specs.Steps.{TypesTo};
 ghost use Rattle.typing_enums.specs.Naming.{Reaches};
-ghost use Rattle.typing_texts.specs.Texts.{FieldsAhead, IsSoundIfOk, SoundIfOk, fields_written, member_by, struct_by};
+ghost use Rattle.typing_texts.specs.Texts.{FieldsAhead, fields_written, member_by, struct_by};
 
 use crate::fields::named_fields;
 use expr_type::{Halt, Source};
@@ -73,11 +73,11 @@ pub(crate) fn member_of<B: Base, C: Fn(u32, &mut Known) -> Result<u32, Halt>>(
 ) -> Result<FieldsFound, Halt>
     requires needs { MakesKnown _ (C.IsAlwaysCallable needs.now) (λ k. k.now) (C.post needs.now) (context_of B.context names.now) }
     requires names { Surrounded AllSoundFunctions (context_of B.context names.now) }
-    requires sound { IsSoundIfOk found }
+    requires sound { IfOk found (λ f. AllValuesSound f.names) }
     requires written { fields_written list.now ≡ true }
     requires ready { IsReady known.old }
     ensures value { (x : Typing means.TypeFound) (fs : List Function) → TypesTo found (x fs) known.old.functions → TypesTo result (member_by (context_of B.context names.now) inside_packed x list.now fs) known.new.functions }
-    ensures sound { SoundIfOk result }
+    ensures sound { IfOk result (λ f. AllValuesSound f.names) }
     ensures ready { IsReady known.new }
     ensures keeps { Extends known.old.functions known.new.functions }
 {
@@ -122,7 +122,7 @@ pub(crate) fn put_members<B: Base>(
 ) -> Result<(), Halt>
     requires names { Surrounded AllSoundFunctions (context_of B.context names.old) }
     requires own { AllValuesSound (own_values names.old) }
-    requires sound { SoundIfOk found }
+    requires sound { IfOk found (λ f. AllValuesSound f.names) }
     ensures value { (inside : _) (m : means.FieldsMeaning) (ms : List means.FieldsMeaning) (row : Typed means.Fields) (fs gs : List Function) → TypesTo found (m (context_of B.context names.old) inside fs) gs → FieldsAhead (context_of B.context names.old) inside made.old (own_values names.old) (m ∷ ms) row fs → Reaches result (FieldsAhead (context_of B.context names.new) inside made.new (own_values names.new) ms row gs) row gs }
     ensures routine { OnOk result ((context_of B.context names.new).routine ≡ (context_of B.context names.old).routine) }
     ensures names { OnOk result (Surrounded AllSoundFunctions (context_of B.context names.new)) }
@@ -171,9 +171,9 @@ pub(crate) fn structure(
     packing: Option<Packing>,
     found: Result<FieldsFound, Halt>,
 ) -> Result<TypeFound, Halt>
-    requires sound { SoundIfOk found }
+    requires sound { IfOk found (λ f. AllValuesSound f.names) }
     ensures value { (x : Typing means.Fields) (fs gs : List Function) → TypesTo found (x fs) gs → TypesTo result (struct_by (source text.entry) of packing x fs) gs }
-    ensures sound { IsSoundIfOk result }
+    ensures sound { IfOk result (λ f. AllValuesSound f.names) }
 {
     let FieldsFound {
         fields,

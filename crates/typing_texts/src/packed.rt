@@ -13,7 +13,7 @@ ghost use Rattle.typing_walks.specs.WrittenTypes.{dims_written};
 ghost use Rattle.typing_parts.specs.Typists.{IsReady, MakesKnown};
 ghost use Rattle.typing_scopes.specs.Scopes.{context_of};
 ghost use Rattle.typing_steps.specs.Steps.{TypesTo};
-ghost use Rattle.typing_texts.specs.Texts.{IsSoundIfOk, packed_by, under_by};
+ghost use Rattle.typing_texts.specs.Texts.{packed_by, under_by};
 
 use expr_type::{Halt, Source};
 use std::alloc::Global;
@@ -40,7 +40,7 @@ fn dims_behind<B: Base, C: Fn(u32, &mut Known) -> Result<u32, Halt>>(
     requires written { dims_written packed.now ≡ true }
     requires ready { IsReady known.old }
     ensures value { TypesTo result (under_by (context_of B.context names.now) found packed.now known.old.functions) known.new.functions }
-    ensures sound { IsSoundIfOk result }
+    ensures sound { IfOk result (λ f. AllValuesSound f.names) }
     ensures ready { IsReady known.new }
     ensures keeps { Extends known.old.functions known.new.functions }
 {
@@ -70,11 +70,11 @@ pub(crate) fn with_packed<B: Base, C: Fn(u32, &mut Known) -> Result<u32, Halt>>(
 ) -> Result<TypeFound, Halt>
     requires needs { MakesKnown _ (C.IsAlwaysCallable needs.now) (λ k. k.now) (C.post needs.now) (context_of B.context names.now) }
     requires names { Surrounded AllSoundFunctions (context_of B.context names.now) }
-    requires sound { IsSoundIfOk found }
+    requires sound { IfOk found (λ f. AllValuesSound f.names) }
     requires written { dims_written packed.now ≡ true }
     requires ready { IsReady known.old }
     ensures value { (x : Typing means.TypeFound) (fs : List Function) → TypesTo found (x fs) known.old.functions → TypesTo result (packed_by (context_of B.context names.now) x packed.now fs) known.new.functions }
-    ensures sound { IsSoundIfOk result }
+    ensures sound { IfOk result (λ f. AllValuesSound f.names) }
     ensures ready { IsReady known.new }
     ensures keeps { Extends known.old.functions known.new.functions }
 {

@@ -1,15 +1,16 @@
 //! The walk over types that stand in one another.
 
-ghost use Rattle.std.specs.Prelude.{◌≡◌, map, true};
+ghost use Rattle.std.specs.Prelude.{◌≡◌, map, true, IfOk};
 ghost use Rattle.expr_type.specs.Types as means;
 ghost use Rattle.routine_fits.specs.Sound.{AllSoundFunctions};
+ghost use Rattle.typing_fits.specs.Operands.{AllValuesSound};
 ghost use Rattle.typing_fits.specs.Sound.{Extends};
 ghost use Rattle.typing_walks.specs.Keeps.{Surrounded};
 ghost use Rattle.typing_walks.specs.WrittenTypes.{type_written};
 ghost use Rattle.typing_parts.specs.Typists.{IsReady, MakesKnown};
 ghost use Rattle.typing_scopes.specs.Scopes.{context_of};
 ghost use Rattle.typing_steps.specs.Steps.{TypesTo};
-ghost use Rattle.typing_texts.specs.Texts.{IsSoundIfOk, SoundIfOk, member_meaning, member_written, members_written};
+ghost use Rattle.typing_texts.specs.Texts.{member_meaning, member_written, members_written};
 
 use crate::members::{FieldsFound, member_of, none_made, put_members, structure};
 use crate::packed::with_packed;
@@ -35,7 +36,7 @@ fn member<B: Base, C: Fn(u32, &mut Known) -> Result<u32, Halt>>(
     requires written { member_written m.now ≡ true }
     requires ready { IsReady known.old }
     ensures value { TypesTo result (member_meaning m.now (context_of B.context names.now) inside_packed known.old.functions) known.new.functions }
-    ensures sound { SoundIfOk result }
+    ensures sound { IfOk result (λ f. AllValuesSound f.names) }
     ensures ready { IsReady known.new }
     ensures keeps { Extends known.old.functions known.new.functions }
 {
@@ -59,7 +60,7 @@ fn members<B: Base, C: Fn(u32, &mut Known) -> Result<u32, Halt>>(
     requires written { members_written list.now ≡ true }
     requires ready { IsReady known.old }
     ensures value { TypesTo result (means.all_fields (context_of B.context names.now) inside_packed (map member_meaning list.now) known.old.functions) known.new.functions }
-    ensures sound { SoundIfOk result }
+    ensures sound { IfOk result (λ f. AllValuesSound f.names) }
     ensures ready { IsReady known.new }
     ensures keeps { Extends known.old.functions known.new.functions }
 {
@@ -93,7 +94,7 @@ pub fn typed_text<B: Base, C: Fn(u32, &mut Known) -> Result<u32, Halt>>(
     requires written { type_written t.now ≡ true }
     requires ready { IsReady known.old }
     ensures value { TypesTo result (means.typed_text t.now (context_of B.context names.now) known.old.functions) known.new.functions }
-    ensures sound { IsSoundIfOk result }
+    ensures sound { IfOk result (λ f. AllValuesSound f.names) }
     ensures ready { IsReady known.new }
     ensures keeps { Extends known.old.functions known.new.functions }
 {

@@ -1,0 +1,4 @@
+pub mod Written
+pub mod Named
+pub mod Rows
+pub mod Found
