@@ -21,9 +21,9 @@ use Rattle.expr_type.specs.Typings.{Checked, refused, where_whole}
 use Rattle.enum_types.specs.Bits.{BitsOf}
 use Rattle.enum_types.specs.Naming as N
 use Rattle.enum_types.specs.Naming.{IsInside, named}
-use Rattle.enum_types.specs.Taken.{Holds}
+use Rattle.enum_types.specs.Taken.{Holds, IsValue}
 use Rattle.enum_types.specs.declared.taken.Taken.{Taken}
-use Rattle.enum_types.proofs.Ranges.{least, largest, le-true}
+use Rattle.enum_types.proofs.Ranges.{least, largest, le-true, there, within}
 use Rattle.enum_values.specs.Values.{AreInBase, IsInBase, Names, distinct, in_order, last_number, unwritten}
 use Rattle.enum_values.proofs.Written.{is-inside, named-is}
 
@@ -33,6 +33,12 @@ last-long t v b = ap length b.bits ∙ length-vec (width_of t) (number (sign_of 
 
 pub last-known : (t : SvType) (v : List Bit4) → IsInBase t v → known v ≡ true
 last-known t v b = ap known b.bits ∙ known-vec (width_of t) (number (sign_of t) v)
+
+-- it is one that the base holds
+pub value-inside : (t : SvType) (v : List Bit4) → 0 < width_of t → IsInBase t v → IsValue t (number (sign_of t) v)
+value-inside t v h b =
+    let i = within (sign_of t) (width_of t) v (last-long t v b) h (last-known t v b) in
+    there (least_value t) (most_value t) (number (sign_of t) v) i.low i.high
 
 pub last-of : (t : SvType) (o : Option (List Bit4)) (v : List Bit4) → o ≡ Some v → AreInBase t o → IsInBase t v
 last-of t o v e b = subst (λ (x : Option (List Bit4)). AreInBase t x) e b

@@ -23,7 +23,7 @@ use eval_parts::{own_sign, own_width};
 use eval_runs::run_call;
 use expr_type::{Halt, Source, Valued};
 use std::alloc::Global;
-use sv_types::{Expr, Function};
+use sv_types::{Expr, Function, Functions};
 use type_kinds::is_unpacked;
 
 // How many statements the value of a constant may run.
@@ -96,7 +96,7 @@ fn constant_rules(
     alloc: Global,
     text: Source<'_>,
     v: &Valued,
-    functions: &[Function],
+    functions: &Functions,
     marks: &[bool],
 ) -> Result<(), Halt>
     requires { marks.now ≡ stream_marks functions.now }
@@ -132,7 +132,7 @@ pub fn constant_bits(
     alloc: Global,
     text: Source<'_>,
     v: &Valued,
-    functions: &[Function],
+    functions: &Functions,
     marks: &[bool],
 ) -> Result<Vec4, Halt>
     requires functions { AllCanRun functions.now }
@@ -145,7 +145,7 @@ pub fn constant_bits(
         Err(halt) => Err(halt),
         Ok(()) => {
             let env = nothing_held(alloc);
-            match alone(alloc, &v.expr, functions, &env) {
+            match alone(alloc, &v.expr, functions.as_slice(), &env) {
                 Ok(bits) => Ok(bits),
                 Err(halt) => Err(halt_for(v.first, halt)),
             }

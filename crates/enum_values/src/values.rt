@@ -23,7 +23,7 @@ use enum_types::{Taken, holds, in_base, is_long, named_value, value_after};
 use eval_parts::own_sign;
 use expr_type::{Halt, Source, Valued};
 use std::alloc::{AllocError, Global};
-use sv_types::{Function, SvType};
+use sv_types::{Functions, SvType};
 
 // What stops at the name of a constant where the base has more bits than a constant: E701 at the name, or E411 at the constant's first
 // token where the base doesn't hold it.
@@ -50,7 +50,7 @@ pub fn written_value(
     base: &SvType,
     taken: &Taken,
     v: &Valued,
-    functions: &[Function],
+    functions: &Functions,
     marks: &[bool],
 ) -> Result<Vec4, Halt>
     requires whole { 0 < width_of base.now }

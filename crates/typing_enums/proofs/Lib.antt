@@ -1,4 +1,4 @@
 pub mod Written
-pub mod Named
+pub mod Valuing
 pub mod Rows
-pub mod Found
+pub mod Declaring

@@ -1,5 +1,5 @@
 -- Names in a row, one more after the other.
-use Rattle.std.proofs.Common.{◌≡◌, ℕ, suc, ℤ, ◌<◌, ◌≤◌, ◌+◌, Bool, true, false, ◌&&◌, not, cond, List, [], ◌∷◌, ◌++◌, map, length, drop, get_or, drop-cons, Option, Some, None, refl, sym, ap, ◌∙◌, subst, append_assoc, arith}
+use Rattle.std.proofs.Common.{◌≡◌, ℕ, zero, suc, ℤ, ◌<◌, ◌≤◌, ◌+◌, Bool, true, false, ◌&&◌, not, cond, List, [], ◌∷◌, ◌++◌, map, length, drop, get_or, drop-cons, Option, Some, None, refl, sym, ap, ◌∙◌, subst, append_assoc, length-append, arith}
 use Rattle.std.specs.Prelude.{Result, Ok, Err, slice_get, ◌-◌, is_some}
 use Rattle.std.proofs.Math.Numerals.{add-one}
 use Rattle.b4_core.specs.declared.bit.Bit4.{Bit4}
@@ -62,10 +62,15 @@ map-more : (t : SvType) (xs ys : List Named) → values_of t (xs ++ ys) ≡ valu
 map-more t [] ys = refl
 map-more t (x ∷ xs) ys = ap (λ (vs : List NameValue). value_by t x ∷ vs) (map-more t xs ys)
 
+behind-all : (xs : List Named) (x : Named) → slice_get (xs ++ x ∷ []) (length xs) ≡ Some x
+behind-all [] x = refl
+behind-all (y ∷ xs) x = behind-all xs x
+
+one-less : (xs : List Named) (x : Named) → length (xs ++ x ∷ []) - 1 ≡ length xs
+one-less xs x = (let e = length-append xs (x ∷ []) in omega arith)
+
 last-at : (xs : List Named) (x : Named) → slice_get (xs ++ x ∷ []) (length (xs ++ x ∷ []) - 1) ≡ Some x
-last-at [] x = refl
-last-at (y ∷ []) x = refl
-last-at (y ∷ z ∷ xs) x = last-at (z ∷ xs) x
+last-at xs x = ap (λ (n : ℕ). slice_get (xs ++ x ∷ []) n) (one-less xs x) ∙ behind-all xs x
 
 last-by : (t : SvType) (lost : Bool) (vs xs : List Named) (x : Named) → lost ≡ false → vs ≡ xs ++ x ∷ []
     → last_number t (cond lost None (bits_in (slice_get vs (length vs - 1)))) ≡ Some (number (sign_of t) x.bits)
@@ -131,8 +136,9 @@ quiet-by k t true m row fs e so = behind-end [] row fs so
 quiet-by k t false m row fs e so = absurd (cc)
 
 none-left : (ns : List W.EnumName) (i : ℕ) → length ns ≤ i → drop i ns ≡ []
-none-left [] i h = grind arith
-none-left (n ∷ ns) 0 h = absurd (omega arith)
+none-left [] zero h = refl
+none-left [] (suc i) h = refl
+none-left (n ∷ ns) zero h = absurd (omega arith)
 none-left (n ∷ ns) (suc i) h = none-left ns i (omega arith)
 
 module _ (k : Context) (t : SvType) (m : Met) (ns : List W.EnumName) (i : ℕ) (row : Typed (List NameValue)) (fs : List Function) (h : length ns ≤ i) (so : NamesAhead k t m (drop i ns) row fs) where
@@ -151,6 +157,12 @@ from-place ns i n d h is =
     drop-cons ns i d h ∙ ap (λ (x : W.EnumName). x ∷ drop (suc i) ns) (sym is) ∙ ap (λ (j : ℕ). n ∷ drop j ns) (sym (add-one i))
 
 -- what was met stays in order
+pub nothing-met : (m : Met) → m.names ≡ [] → ((t : SvType) → Holds t m.taken []) → (t : SvType) → IsMet t m
+nothing-met m none held t = record {
+  held = subst (λ (vs : List NameValue). Holds t m.taken vs) (sym (ap (values_of t) none)) (held t);
+  names = record { bits = subst (λ (vs : List Named). AllInBase t vs) (sym none) tt; short = λ long. none };
+}
+
 in-base-more : (t : SvType) (vs : List Named) (v : Named) → AllInBase t vs → IsInBase t v.bits → AllInBase t (vs ++ v ∷ [])
 in-base-more t [] v a b = (b, tt)
 in-base-more t (w ∷ vs) v a b = (a.0, in-base-more t vs v a.1 b)

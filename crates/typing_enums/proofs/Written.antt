@@ -19,7 +19,11 @@ use Rattle.typing_values.specs.Children.{in_dimensions}
 use Rattle.typing_walks.specs.Written as W
 use Rattle.typing_walks.specs.Written.{all, is_written, cast_written, dimension_written, pattern_written, item_written, select_written, slice_written, range_written}
 use Rattle.typing_walks.specs.WrittenTypes.{dims_written}
-use Rattle.walk_laws.specs.Children.{AllWritten}
+
+-- each expression of a list
+abbrev AllWritten : List Expr → Type 0
+AllWritten [] = Unit {0}
+AllWritten (e ∷ es) = (is_written e ≡ true) × AllWritten es
 
 written-append : (xs ys : List Expr) → AllWritten xs → AllWritten ys → AllWritten (xs ++ ys)
 written-append [] ys p q = q
@@ -33,7 +37,7 @@ dimension_layer z = elim z [
 
 dimension-by : (z : Dimension-F Cast Dimension Expr Pattern PatternItem Select SliceSize ValueRange) → W.dimension_step (map-Dimension Cast Dimension Expr Pattern PatternItem Select SliceSize ValueRange Bool Bool Bool Bool Bool Bool Bool Bool cast_written dimension_written is_written pattern_written item_written select_written slice_written range_written z) ≡ true → AllWritten (dimension_layer z)
 dimension-by (Dimension-F.Size opening size closing) w = (w, tt)
-dimension-by (Dimension-F.«Dimension::Range» opening left colon right closing) w = (and-left (is_written left) (is_written right) w, (and-right (is_written left) (is_written right) w, tt))
+dimension-by (Dimension-F.«Dimension::Range» opening left colon right closing) w = (and-left (is_written left) (is_written right) w, and-right (is_written left) (is_written right) w, tt)
 
 dimension : (x : Dimension) → dimension_written x ≡ true → AllWritten (dimension_layer (out-Dimension x))
 dimension x w = dimension-by (out-Dimension x) (sym (fold_out-Dimension Bool Bool Bool Bool Bool Bool Bool Bool W.cast_step W.dimension_step W.expr_step W.pattern_step W.item_step W.select_step W.slice_step W.range_step x) ∙ w)

@@ -100,9 +100,9 @@ HaveWidth w [] = ⊤
 HaveWidth w (v ∷ vs) = (length v.bits ≡ w) × (w ≤ 4194304) × HaveWidth w vs
 
 -- an enum before the dimensions behind it
-abbrev pub names_by : Context → List W.EnumName → Option SvType → Typing (List NameValue)
-names_by k ns None = broken Quiet
-names_by k ns (Some b) = name_values k b false [] None ns
+abbrev pub values_by : Context → Option SvType → List W.EnumName → Typing (List NameValue)
+values_by k None ns = broken Quiet
+values_by k (Some b) ns = name_values k b false [] None ns
 
 abbrev pub enum_of : Context → ℕ → Option EnumBase → List W.EnumName → Typing TypeFound
-enum_of k at base ns = both_by (base_type k base) (λ o. names_by k ns o) (λ b vs. whole (enum_found k at b vs))
+enum_of k at base ns = both_by (base_type k base) (λ o. values_by k o ns) (λ b vs. whole (enum_found k at b vs))

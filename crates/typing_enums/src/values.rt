@@ -61,6 +61,7 @@ fn constant<S: Names, C: Fn(u32, &mut Known) -> Result<u32, Halt>>(
 }
 
 // The bits of a value that is written.
+#[tactic(auto, using(crate::proofs::Valuing::valuing))]
 fn written<S: Names, C: Fn(u32, &mut Known) -> Result<u32, Halt>>(
     alloc: Global,
     names: &S,
@@ -84,7 +85,6 @@ fn written<S: Names, C: Fn(u32, &mut Known) -> Result<u32, Halt>>(
     ensures keeps { Extends known.old.functions known.new.functions }
 {
     let v = constant(alloc, names, needs, e, known)?;
-    let (functions, marks) = (known.functions.as_slice(), known.marks.as_slice());
     written_value(
         alloc,
         names.text(),
@@ -92,8 +92,8 @@ fn written<S: Names, C: Fn(u32, &mut Known) -> Result<u32, Halt>>(
         base,
         &met.taken,
         &v,
-        functions,
-        marks,
+        &known.functions,
+        known.marks.as_slice(),
     )
 }
 
@@ -111,6 +111,7 @@ fn last_bits(met: &Met) -> Option<&Vec4>
 }
 
 /// The bits in the base of a name's value. One that isn't written behind a name that has no value has none.
+#[tactic(auto, using(crate::proofs::Valuing::naming))]
 pub(crate) fn name_value<S: Names, C: Fn(u32, &mut Known) -> Result<u32, Halt>>(
     alloc: Global,
     names: &S,

@@ -1,5 +1,5 @@
 -- Types as they are written, part by part: the arms of `expr_type` over whole texts.
-use Rattle.std.specs.Prelude.{Bool, List, [], ◌∷◌, ◌++◌, map, Option, Some, None, Result, Ok, Err}
+use Rattle.std.specs.Prelude.{◌≡◌, Bool, List, [], ◌∷◌, ◌++◌, map, Option, Some, None, Result, Ok, Err}
 use Rattle.sv_tree.specs.declared.expressions.Dimension.{Dimension}
 use Rattle.sv_tree.specs.declared.types.Aggregate.{Aggregate}
 use Rattle.sv_tree.specs.declared.types.DimensionedName.{DimensionedName}
@@ -38,14 +38,13 @@ abbrev pub AddsTo : List Field → Result Field Halt → Result (List Field) Hal
 AddsTo fs (Ok f) r = Gives r (Ok (fs ++ f ∷ []))
 AddsTo fs (Err h) r = r ≡ Err h
 
--- the type of one that is found, if it is
-abbrev pub type_in : Option TypeFound → Option SvType
-type_in None = None
-type_in (Some f) = Some f.of
-
 -- members of one type
+abbrev pub field_found : Context → Bool → Option TypeFound → DimensionedName → Typing Field
+field_found k inside None n = checked (dims k n.unpacked) (λ ds. broken Quiet)
+field_found k inside (Some f) n = field k inside f.of n
+
 abbrev pub member_by : Context → Bool → Typing TypeFound → List DimensionedName → Typing Fields
-member_by k inside x ns = both_by x (λ o. fields_by k inside (type_in o) ns) (λ f fs. whole (record { fields = fs; names = f.names }))
+member_by k inside x ns = both_by x (λ o. all (map (field_found k inside o) ns)) (λ f fs. whole (record { fields = fs; names = f.names }))
 
 abbrev pub member_meaning : Member → FieldsMeaning
 member_meaning = fold-Member TypeMeaning FieldsMeaning type_step member_step

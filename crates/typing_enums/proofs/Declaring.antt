@@ -38,7 +38,7 @@ use Rattle.typing_scopes.proofs.Turning.{broken-turn, quiet-turn, whole-turn}
 use Rattle.typing_steps.specs.Steps.{TypesTo}
 use Rattle.enum_values.specs.Values.{IsInBase, named_by}
 use Rattle.typing_enums.specs.declared.names.Named.{Named}
-use Rattle.typing_enums.specs.Naming.{AllInBase, AreMet, HaveWidth, as_values, enum_name, enum_of, names_by, value_by, valued, values_of, with_name}
+use Rattle.typing_enums.specs.Naming.{AllInBase, AreMet, HaveWidth, as_values, enum_name, enum_of, values_by, value_by, valued, values_of, with_name}
 
 abbrev pub the_constant : Context → SvType → ℕ → List Bit4 → ParamValue
 the_constant k t at bits = record { decl = k.declared at; of = t; value = value_of_bits t bits }
@@ -90,17 +90,17 @@ constants-by k t base (v ∷ vs) w a =
 
 pub have-width : (w : ℕ) (base : SvType) (vs : List Named) → width_of base ≡ w → w ≤ 4194304 → AllInBase base vs → HaveWidth w vs
 have-width w base [] e h a = tt
-have-width w base (v ∷ vs) e h a = (bits-long base v.bits a.0 ∙ e, (h, have-width w base vs e h a.1))
+have-width w base (v ∷ vs) e h a = (bits-long base v.bits a.0 ∙ e, h, have-width w base vs e h a.1)
+
+short-width : (w : ℕ) → (65536 < w → ⊥) → w ≤ 4194304
+short-width w f = grind arith
+
+short-by : (base t : SvType) (v : Named) (vs : List Named) → width_of t ≡ width_of base → (65536 < width_of base → v ∷ vs ≡ []) → width_of t ≤ 4194304
+short-by base t v vs e f = short-width (width_of t) (λ h. let g : v ∷ vs ≡ [] = f (subst (λ (n : ℕ). 65536 < n) e h) in absurd (cc))
 
 pub met-width : (base t : SvType) (vs : List Named) → width_of t ≡ width_of base → AreMet base vs → HaveWidth (width_of t) vs
 met-width base t [] e a = tt
-met-width base t (v ∷ vs) e a = have-width (width_of t) base (v ∷ vs) (sym e) (short-by a.short) a.bits
-  where
-    short-by : (65536 < width_of base → v ∷ vs ≡ []) → width_of t ≤ 4194304
-    short-by f = short-width (width_of t) (λ h. let g : v ∷ vs ≡ [] = f (subst (λ (n : ℕ). 65536 < n) e h) in absurd (cc))
-
-    short-width : (w : ℕ) → (65536 < w → ⊥) → w ≤ 4194304
-    short-width w f = grind arith
+met-width base t (v ∷ vs) e a = have-width (width_of t) base (v ∷ vs) (sym e) (short-by base t v vs e a.short) a.bits
 
 pub found-is : (k : Context) (id : ℕ) (base t : SvType) (list : List EnumName) (vs : List Named) (names : List ParamValue) → list ≡ map (enum_name k.source) vs → t ≡ V.Enum id base list
     → names ≡ latest_first (map (valued k t) vs) → AllInBase base vs → the_found t names ≡ T.enum_found k id base (values_of base vs)
@@ -116,23 +116,26 @@ latest-more f [] v = refl
 latest-more f (w ∷ vs) v = ap (λ (xs : List ParamValue). xs ++ f w ∷ []) (latest-more f vs v)
 
 -- a base and the names behind it
+abbrev rest_by : Context → List W.EnumName → Option SvType → Typing (List NameValue)
+rest_by k ns o = values_by k o ns
+
 abbrev found_of : Context → ℕ → SvType → List NameValue → TypeFound
 found_of k at b vs = T.enum_found k at b vs
 
 pub base-stops : (k : Context) (at : ℕ) (base : Option EnumBase) (ns : List W.EnumName) (h : Halt) (fs gs : List Function) → TypesTo {A = SvType} (Err h) (base_type k base fs) gs
     → TypesTo {A = TypeFound} (Err h) (enum_of k at base ns fs) gs
 base-stops k at base ns H.Memory fs gs p = tt
-base-stops k at base ns (H.Breaks n r) fs gs p = broken-turn (base_type k base) (names_by k ns) (found_of k at) n r fs gs gs p
-base-stops k at base ns H.Quiet fs gs p = quiet-turn (base_type k base) (names_by k ns) (found_of k at) (Err H.Quiet) fs gs gs p (record { quiet = refl; functions = refl })
+base-stops k at base ns (H.Breaks n r) fs gs p = broken-turn (base_type k base) (rest_by k ns) (found_of k at) n r fs gs gs p
+base-stops k at base ns H.Quiet fs gs p = quiet-turn (base_type k base) (rest_by k ns) (found_of k at) (Err H.Quiet) fs gs gs p (record { quiet = refl; functions = refl })
 
 pub names-stop : (k : Context) (at : ℕ) (base : Option EnumBase) (b : SvType) (ns : List W.EnumName) (h : Halt) (fs gs hs : List Function) → TypesTo (Ok b) (base_type k base fs) gs
     → TypesTo {A = List NameValue} (Err h) (name_values k b false [] None ns gs) hs → TypesTo {A = TypeFound} (Err h) (enum_of k at base ns fs) hs
-names-stop k at base b ns h fs gs hs p q = whole-turn (base_type k base) (names_by k ns) (found_of k at) b (Err h) fs gs hs p q
+names-stop k at base b ns h fs gs hs p q = whole-turn (base_type k base) (rest_by k ns) (found_of k at) b (Err h) fs gs hs p q
 
 pub enum-types : (k : Context) (at : ℕ) (base : Option EnumBase) (b : SvType) (ns : List W.EnumName) (vs : List NameValue) (f : TypeFound) (fs gs hs : List Function) → TypesTo (Ok b) (base_type k base fs) gs
     → TypesTo (Ok vs) (name_values k b false [] None ns gs) hs → f ≡ T.enum_found k at b vs → TypesTo (Ok f) (enum_of k at base ns fs) hs
 enum-types k at base b ns vs f fs gs hs p q is =
-    subst (λ (x : TypeFound). TypesTo (Ok x) (enum_of k at base ns fs) hs) (sym is) (whole-turn (base_type k base) (names_by k ns) (found_of k at) b (Ok vs) fs gs hs p q)
+    subst (λ (x : TypeFound). TypesTo (Ok x) (enum_of k at base ns fs) hs) (sym is) (whole-turn (base_type k base) (rest_by k ns) (found_of k at) b (Ok vs) fs gs hs p q)
 
 -- what is found of a sound text is sound
 module _ (Q : List Function → Type 0) where
@@ -140,13 +143,13 @@ module _ (Q : List Function → Type 0) where
   AllShort b vs gs = AllHold (Short b) vs gs
 
   names-kept : (k : Context) (ns : List W.EnumName) → Surrounded Q k → names_written ns ≡ true → (o : Option SvType) (gs : List Function) → Q gs → IfKnown FullType o gs
-      → Kept (List NameValue) Q (N.KnownWith Q AllShort o) gs (names_by k ns o gs)
+      → Kept (List NameValue) Q (N.KnownWith Q AllShort o) gs (values_by k o ns gs)
   names-kept k ns r w None gs q s = K.broken-keeps Q (N.KnownWith Q AllShort None) Quiet gs q
   names-kept k ns r w (Some b) gs q s = X.names-keep Q ns k b false [] None r s w gs q
 
   enum-keeps : (k : Context) (at : ℕ) (base : Option EnumBase) (ns : List W.EnumName) → Surrounded Q k → base_written base ≡ true → names_written ns ≡ true → Keeps Q SoundFound (enum_of k at base ns)
   enum-keeps k at base ns r v w =
-      N.with-keeps Q FullType AllShort SoundFound (base_type k base) (names_by k ns) (λ b vs. whole (T.enum_found k at b vs)) full-lasts (X.base-keeps Q k base r v) (names-kept k ns r w)
+      N.with-keeps Q FullType AllShort SoundFound (base_type k base) (rest_by k ns) (λ b vs. whole (T.enum_found k at b vs)) full-lasts (X.base-keeps Q k base r v) (names-kept k ns r w)
       (λ b vs js q full a. K.whole-kept Q SoundFound (T.enum_found k at b vs) js q (enum-sound k at b vs js full a))
 
   pub enum-sounds : (k : Context) (at : ℕ) (base : Option EnumBase) (ns : List W.EnumName) (f : TypeFound) (fs gs : List Function) → Surrounded Q k → base_written base ≡ true → names_written ns ≡ true → Q fs

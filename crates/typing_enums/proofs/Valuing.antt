@@ -1,37 +1,48 @@
 -- The value of a name behind others.
-use Rattle.std.proofs.Common.{◌≡◌, ℕ, suc, ℤ, Bool, true, false, ◌&&◌, cond, List, [], ◌∷◌, ◌++◌, length, Option, Some, None, refl, sym, ap, ◌∙◌, subst}
-use Rattle.std.specs.Prelude.{Result, Ok, Err, slice_get, ◌-◌}
+use Rattle.std.proofs.Common.{◌≡◌, ℕ, zero, suc, ℤ, Bool, true, false, ◌&&◌, cond, List, [], ◌∷◌, ◌++◌, length, Option, Some, None, refl, sym, ap, ◌∙◌, subst}
+use Rattle.std.specs.Prelude.{Result, Ok, Err, IfOk, slice_get, ◌-◌, ◌<◌, ◌≤◌}
 use Rattle.b4_core.specs.declared.bit.Bit4.{Bit4}
 use Rattle.sv_tree.specs.declared.declarations.Initializer.{Initializer}
 use Rattle.sv_tree.specs.declared.expressions.Expr.{Expr}
 use Rattle.sv_tree.specs.declared.types.EnumName as W
 use Rattle.sv_types.specs.declared.statement.Function.{Function}
 use Rattle.sv_types.specs.declared.types.SvType.{SvType}
+use Rattle.sv_types.specs.Layouts.{width_of}
 use Rattle.expr_type.specs.declared.halt.Halt.{Halt}
 use Rattle.expr_type.specs.declared.halt.Halt.TheVariants as H
 use Rattle.expr_type.specs.declared.operand.Number.{Number}
 use Rattle.expr_type.specs.declared.operand.Valued.{Valued}
 use Rattle.expr_type.specs.Breaks.{Quiet}
 use Rattle.expr_type.specs.Expressions.{operand}
-use Rattle.expr_type.specs.Names.{Context}
+use Rattle.expr_type.specs.Names.{Context, Source}
 use Rattle.expr_type.specs.Operands.{constant_in, is_number_in}
 use Rattle.expr_type.specs.Types.{NameValue, least_value, most_value, name_value}
 use Rattle.expr_type.specs.Types as T
 use Rattle.expr_type.specs.Typings.{Checked, Typed, Typing, applied, broken, by_functions, checked, rule, whole, where_whole}
 use Rattle.typing_steps.specs.Steps.{TypesTo}
 use Rattle.typing_steps.proofs.Combining.{checked-is, checked-stops, rule-types}
+use Rattle.enum_types.specs.Taken.{Holds}
 use Rattle.enum_values.specs.Values.{AreInBase, IsInBase, Names, distinct, in_order, last_number, named_by, unwritten, written}
 use Rattle.typing_enums.specs.declared.names.Met.{Met}
 use Rattle.typing_enums.specs.declared.names.Named.{Named}
-use Rattle.typing_enums.specs.Naming.{AllInBase, as_named, bits_in, last_bits, name_of, values_of, written_name}
+use Rattle.typing_enums.specs.Naming.{AllInBase, IsMet, as_named, bits_in, last_bits, name_of, values_of, written_name}
 
 -- the bits of a name are what the rules give
 pub named-types : (t : SvType) (at : ℕ) (r : Result (List Bit4) Halt) (m : Checked NameValue) (fs : List Function) → Names t at r m → TypesTo (as_named t at r) (rule m fs) fs
 named-types t at (Ok v) m fs n = rule-types (Ok (named_by t at v)) m fs n.value
 named-types t at (Err h) m fs n = rule-types {A = NameValue} (Err h) m fs n
 
-pub named-bits : (t : SvType) (at : ℕ) (v : List Bit4) (m : Checked NameValue) → Names t at (Ok v) m → IsInBase t v
-named-bits t at v m n = n.bits
+pub names-bits : (t : SvType) (at : ℕ) (r : Result (List Bit4) Halt) (m : Checked NameValue) → Names t at r m → IfOk r (IsInBase t)
+names-bits t at (Ok v) m n = n.bits
+names-bits t at (Err h) m n = tt
+
+pub names-short : (t : SvType) (at : ℕ) (r : Result (List Bit4) Halt) (m : Checked NameValue) → Names t at r m → IfOk r (λ (v : List Bit4). width_of t ≤ 65536)
+names-short t at (Ok v) m n = n.short
+names-short t at (Err h) m n = tt
+
+-- names that were met in a long base are none
+pub none-met : (t : SvType) (m : Met) → IsMet t m → 65536 < width_of t → values_of t m.names ≡ []
+none-met t m met h = ap (values_of t) (met.names.short h)
 
 -- a value that is written
 abbrev number_by : Context → SvType → Valued → Typing ℤ
@@ -45,16 +56,32 @@ by-number : (k : Context) (t : SvType) (m : Met) (at : ℕ) (x : Checked Number)
 by-number k t m at (Ok n) gs = refl
 by-number k t m at (Err b) gs = refl
 
-pub written-is : (k : Context) (t : SvType) (m : Met) (at : ℕ) (e : Expr) (v : Valued) (fs gs : List Function) → TypesTo (Ok v) (constant_in k.source (operand k e) fs) gs
+written-is : (k : Context) (t : SvType) (m : Met) (at : ℕ) (e : Expr) (v : Valued) (fs gs : List Function) → TypesTo (Ok v) (constant_in k.source (operand k e) fs) gs
     → written_name k t m at e fs ≡ rule (written k.source t at (values_of t m.names) v gs) gs
 written-is k t m at e v fs gs p =
     ap (λ (r : Typed ℤ). applied r.result (put_name k t m at) r.functions) (checked-is (constant_in k.source (operand k e)) (number_by k t) fs gs v p)
     ∙ by-number k t m at (is_number_in k.source (least_value t) (most_value t) v gs) gs
 
-pub written-types : (k : Context) (t : SvType) (m : Met) (at : ℕ) (e : Expr) (v : Valued) (r : Result (List Bit4) Halt) (fs gs : List Function) → TypesTo (Ok v) (constant_in k.source (operand k e) fs) gs
+written-types : (k : Context) (t : SvType) (m : Met) (at : ℕ) (e : Expr) (v : Valued) (r : Result (List Bit4) Halt) (fs gs : List Function) → TypesTo (Ok v) (constant_in k.source (operand k e) fs) gs
     → Names t at r (written k.source t at (values_of t m.names) v gs) → TypesTo (as_named t at r) (written_name k t m at e fs) gs
 written-types k t m at e v r fs gs p n =
     subst (λ (x : Typed NameValue). TypesTo (as_named t at r) x gs) (sym (written-is k t m at e v fs gs p)) (named-types t at r (written k.source t at (values_of t m.names) v gs) gs n)
+
+abbrev pub Written : Source → SvType → Met → ℕ → Valued → Result (List Bit4) Halt → List Function → Type 0
+Written s t m at v r gs = (before : List NameValue) → Holds t m.taken before → (65536 < width_of t → before ≡ []) → Names t at r (written s t at before v gs)
+
+pub written-bits : (s : Source) (t : SvType) (m : Met) (at : ℕ) (v : Valued) (r : Result (List Bit4) Halt) (gs : List Function) → IsMet t m → Written s t m at v r gs → IfOk r (IsInBase t)
+written-bits s t m at v r gs met told = names-bits t at r (written s t at (values_of t m.names) v gs) (told (values_of t m.names) met.held (none-met t m met))
+
+pub written-short : (s : Source) (t : SvType) (m : Met) (at : ℕ) (v : Valued) (r : Result (List Bit4) Halt) (gs : List Function) → IsMet t m → Written s t m at v r gs → IfOk r (λ (v : List Bit4). width_of t ≤ 65536)
+written-short s t m at v r gs met told = names-short t at r (written s t at (values_of t m.names) v gs) (told (values_of t m.names) met.held (none-met t m met))
+
+-- where the rules are said of the source as the code has it
+pub written-given : (k : Context) (s : Source) (t : SvType) (m : Met) (at : ℕ) (e : Expr) (v : Valued) (r : Result (List Bit4) Halt) (fs gs : List Function) → s ≡ k.source → IsMet t m → TypesTo (Ok v) (constant_in k.source (operand k e) fs) gs
+    → Written s t m at v r gs → TypesTo (as_named t at r) (written_name k t m at e fs) gs
+written-given k s t m at e v r fs gs is met p told =
+    written-types k t m at e v r fs gs p
+    (subst (λ (z : Source). Names t at r (written z t at (values_of t m.names) v gs)) is (told (values_of t m.names) met.held (none-met t m met)))
 
 pub written-stops : (k : Context) (t : SvType) (m : Met) (at : ℕ) (e : Expr) (h : Halt) (fs gs : List Function) → TypesTo {A = Valued} (Err h) (constant_in k.source (operand k e) fs) gs
     → TypesTo {A = NameValue} (Err h) (written_name k t m at e fs) gs
@@ -80,9 +107,32 @@ unwritten-name k t m n r fs false None e f g =
 unwritten-name k t m n r fs false (Some i) e f g = absurd (cc)
 unwritten-name k t m n r fs true i e f g = absurd (cc)
 
-pub unwritten-types : (k : Context) (t : SvType) (m : Met) (n : W.EnumName) (r : Result (List Bit4) Halt) (fs : List Function) → m.lost ≡ false → n.value ≡ None
+unwritten-types : (k : Context) (t : SvType) (m : Met) (n : W.EnumName) (r : Result (List Bit4) Halt) (fs : List Function) → m.lost ≡ false → n.value ≡ None
     → Names t n.name r (unwritten k.source t n.name (values_of t m.names) (last_number t (last_bits m))) → TypesTo (as_named t n.name r) (name_of k t m n fs) fs
 unwritten-types k t m n r fs e f g = unwritten-name k t m n r fs m.lost n.value e f g
+
+-- as the rules are told of each source
+abbrev pub Unwritten : SvType → Met → ℕ → Result (List Bit4) Halt → Option (List Bit4) → Type 0
+Unwritten t m at r last =
+    (s : Source) (before : List NameValue) → Holds t m.taken before → (65536 < width_of t → before ≡ []) → Names t at r (unwritten s t at before (last_number t last))
+
+of-met : (s : Source) (t : SvType) (m : Met) (at : ℕ) (r : Result (List Bit4) Halt) (last : Option (List Bit4)) → last ≡ last_bits m → IsMet t m → Unwritten t m at r last
+    → Names t at r (unwritten s t at (values_of t m.names) (last_number t (last_bits m)))
+of-met s t m at r last is met told =
+    subst (λ (o : Option (List Bit4)). Names t at r (unwritten s t at (values_of t m.names) (last_number t o))) is (told s (values_of t m.names) met.held (none-met t m met))
+
+pub unwritten-told : (k : Context) (t : SvType) (m : Met) (n : W.EnumName) (r : Result (List Bit4) Halt) (fs : List Function) (last : Option (List Bit4)) → m.lost ≡ false → n.value ≡ None → last ≡ last_bits m → IsMet t m
+    → Unwritten t m n.name r last → TypesTo (as_named t n.name r) (name_of k t m n fs) fs
+unwritten-told k t m n r fs last e f is met told = unwritten-types k t m n r fs e f (of-met k.source t m n.name r last is met told)
+
+pub unwritten-bits : (k : Context) (t : SvType) (m : Met) (at : ℕ) (r : Result (List Bit4) Halt) (last : Option (List Bit4)) → last ≡ last_bits m → IsMet t m → Unwritten t m at r last → IfOk r (IsInBase t)
+unwritten-bits k t m at r last is met told =
+    names-bits t at r (unwritten k.source t at (values_of t m.names) (last_number t (last_bits m))) (of-met k.source t m at r last is met told)
+
+pub unwritten-short : (k : Context) (t : SvType) (m : Met) (at : ℕ) (r : Result (List Bit4) Halt) (last : Option (List Bit4)) → last ≡ last_bits m → IsMet t m → Unwritten t m at r last
+    → IfOk r (λ (v : List Bit4). width_of t ≤ 65536)
+unwritten-short k t m at r last is met told =
+    names-short t at r (unwritten k.source t at (values_of t m.names) (last_number t (last_bits m))) (of-met k.source t m at r last is met told)
 
 lost-name : (k : Context) (t : SvType) (m : Met) (at : ℕ) (fs : List Function) (lost : Bool) (i : Option Initializer) → lost ≡ true → i ≡ None
     → TypesTo {A = NameValue} (Err H.Quiet) (name_by k t m at lost i fs) fs
@@ -106,7 +156,7 @@ given-types k t m n i r fs gs e p =
 -- the bits of the last name
 in-base-at : (t : SvType) (vs : List Named) (n : ℕ) → AllInBase t vs → AreInBase t (bits_in (slice_get vs n))
 in-base-at t [] n a = tt
-in-base-at t (v ∷ vs) 0 a = a.0
+in-base-at t (v ∷ vs) zero a = a.0
 in-base-at t (v ∷ vs) (suc n) a = in-base-at t vs n a.1
 
 last-by : (t : SvType) (lost : Bool) (o : Option Named) → AreInBase t (bits_in o) → AreInBase t (cond lost None (bits_in o))
@@ -123,3 +173,12 @@ none-by false (v ∷ vs) e = absurd (cc)
 
 pub last-none : (m : Met) → m.names ≡ [] → last_bits m ≡ None
 last-none m e = none-by m.lost m.names e
+
+pub last-known : (t : SvType) (m : Met) (o : Option (List Bit4)) → o ≡ last_bits m → IsMet t m → AreInBase t o
+last-known t m o is met = subst (λ (x : Option (List Bit4)). AreInBase t x) (sym is) (last-in-base t m met.names.bits)
+
+pub last-absent : (t : SvType) (m : Met) (o : Option (List Bit4)) → o ≡ last_bits m → IsMet t m → 65536 < width_of t → o ≡ None
+last-absent t m o is met h = is ∙ last-none m (met.names.short h)
+
+pub ruleset valuing = (written-given, written-stops, written-bits, written-short)
+pub ruleset naming = (unwritten-told, unwritten-bits, unwritten-short, lost-types, given-types, last-known, last-absent)
