@@ -1,6 +1,6 @@
 -- Numbers of fewer bits than a base has.
-use Rattle.std.proofs.Common.{◌≡◌, ℕ, suc, ◌+◌, ◌-◌, ◌^◌, ◌<◌, ◌≤◌, ℤ, pos, negsuc, neg_ℤ, ◌-ℤ◌, Bool, true, false, ◌&&◌, cond, not, List, length, Option, Some, None, refl, sym, ap, ◌∙◌, arith}
-use Rattle.std.specs.Prelude.{◌||◌, int_le, is_some, ◌≤ℤ◌}
+use Rattle.std.proofs.Common.{◌≡◌, ℕ, ◌-◌, ◌^◌, ◌<◌, ◌≤◌, ℤ, pos, negsuc, ◌-ℤ◌, Bool, true, false, ◌&&◌, cond, not, List, length, Option, Some, None, refl, sym, ap, ◌∙◌, arith}
+use Rattle.std.specs.Prelude.{◌||◌, is_some, ◌≤ℤ◌}
 use Rattle.std.proofs.lemmas.Int.{ints}
 use Rattle.std.proofs.Math.Nat.{pow-le-pow_right}
 use Rattle.b4_core.specs.declared.bit.Bit4.{Bit4}
@@ -13,8 +13,8 @@ use Rattle.lowering_laws.proofs.SignedNumbers.{snum-of}
 use Rattle.expr_type.specs.Operands.{in_range}
 use Rattle.expr_type.specs.Shapes.{sign_of}
 use Rattle.expr_type.specs.Types.{least_value, most_value}
-use Rattle.enum_types.specs.Bits.{value_in, HasBits, BitsOf}
-use Rattle.enum_types.proofs.Ranges.{Within, known-value, le-tells, least, largest, there, within}
+use Rattle.enum_types.specs.Bits.{value_in, BitsOf}
+use Rattle.enum_types.proofs.Ranges.{Within, known-value, least, largest, there, within}
 
 more-bits : (i j : ℕ) → i ≤ j → 2 ^ i ≤ 2 ^ j
 more-bits i j h = pow-le-pow_right (omega arith) h

@@ -1,8 +1,7 @@
 -- The bits of constants, by what valuing them answers.
-use Rattle.std.proofs.Common.{◌≡◌, ℕ, ℤ, Bool, true, List, Option, Some, refl, sym, ap, ◌∙◌, subst}
-use Rattle.std.specs.Prelude.{Result, Ok, Err}
+use Rattle.std.proofs.Common.{◌≡◌, ℤ, true, List, Some, sym, ap, ◌∙◌, subst}
+use Rattle.std.specs.Prelude.{Ok, Err}
 use Rattle.b4_core.specs.declared.bit.Bit4.{Bit4}
-use Rattle.sv_types.specs.declared.expression.Expr.{Expr}
 use Rattle.sv_types.specs.declared.statement.Function.{Function}
 use Rattle.sv_types.specs.Expressions.{meaning}
 use Rattle.sv_types.specs.Meanings.{signed}
@@ -11,16 +10,15 @@ use Rattle.eval_parts.specs.declared.halt.Halt as E
 use Rattle.eval_parts.specs.declared.halt.Halt.TheVariants as V
 use Rattle.eval_stmts.specs.declared.env.Env.{Env}
 use Rattle.const_eval.specs.Numbers.{number_if_known}
-use Rattle.const_eval.specs.Values.{AloneGives, run_of}
+use Rattle.const_eval.specs.Values.{AloneGives}
 use Rattle.const_eval.proofs.Valuing.{alone-long}
 use Rattle.expr_type.specs.declared.halt.Halt.{Halt}
-use Rattle.expr_type.specs.declared.operand.Number.{Number}
 use Rattle.expr_type.specs.declared.operand.Valued.{Valued}
 use Rattle.expr_type.specs.Answers.{HaltsBy, reason}
 use Rattle.expr_type.specs.Names.{Source, position}
 use Rattle.expr_type.specs.Operands.{in_range, is_number_in, number_of, number_or, stops}
-use Rattle.expr_type.specs.Typings.{Checked, refused}
-use Rattle.constant_types.specs.Known.{constant_rules, known_number, HasNoSlots}
+use Rattle.expr_type.specs.Typings.{refused}
+use Rattle.constant_types.specs.Known.{constant_rules, HasNoSlots}
 use Rattle.constant_types.proofs.Sizes.{constant-halts, constant-number, goes-on, has-stopped, the-number}
 use Rattle.enum_values.specs.Constants.{HasBits, halt_for}
 

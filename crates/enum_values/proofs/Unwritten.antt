@@ -1,18 +1,18 @@
 -- Values of names that aren't written.
-use Rattle.std.proofs.Common.{◌≡◌, ℕ, suc, ◌-◌, ◌^◌, ℤ, pos, neg_ℤ, ◌-ℤ◌, ◌<◌, ◌≤◌, Bool, true, false, ◌&&◌, cond, not, List, [], length, Option, Some, None, refl, sym, ap, ◌∙◌, subst, arith}
-use Rattle.std.specs.Prelude.{Result, Ok, Err, int_le, nat_lt, ◌≤ℤ◌}
+use Rattle.std.proofs.Common.{◌≡◌, ℕ, ◌-◌, ◌^◌, ℤ, pos, ◌<◌, Bool, true, false, ◌&&◌, cond, not, List, [], length, Option, Some, None, refl, sym, ap, ◌∙◌, subst, arith}
+use Rattle.std.specs.Prelude.{Result, Ok, Err, int_le, nat_lt}
 use Rattle.std.proofs.lemmas.Bool.Decides.{nat_tests}
 use Rattle.std.proofs.lemmas.Int.{ints}
 use Rattle.std.proofs.lemmas.Nat.{pow_pos}
 use Rattle.b4_core.specs.declared.bit.Bit4.{Bit4}
-use Rattle.b4_core.specs.Vectors.{known, number, vec}
+use Rattle.b4_core.specs.Vectors.{known, number}
 use Rattle.sv_types.specs.declared.types.SvType.{SvType}
 use Rattle.sv_types.specs.Layouts.{width_of}
 use Rattle.sv_types.proofs.OperatorLengths.{length-vec}
 use Rattle.lowering_laws.proofs.SignedNumbers.{known-vec}
 use Rattle.expr_type.specs.declared.halt.Halt.{Halt}
 use Rattle.expr_type.specs.declared.halt.Halt.TheVariants as H
-use Rattle.expr_type.specs.Answers.{HaltsBy, reason}
+use Rattle.expr_type.specs.Answers.{reason}
 use Rattle.expr_type.specs.Names.{Source, position}
 use Rattle.expr_type.specs.Operands.{in_range}
 use Rattle.expr_type.specs.Shapes.{sign_of}
@@ -24,7 +24,7 @@ use Rattle.enum_types.specs.Naming.{IsInside, named}
 use Rattle.enum_types.specs.Taken.{Holds, IsValue}
 use Rattle.enum_types.specs.declared.taken.Taken.{Taken}
 use Rattle.enum_types.proofs.Ranges.{least, largest, le-true, there, within}
-use Rattle.enum_values.specs.Values.{AreInBase, IsInBase, Names, distinct, in_order, last_number, unwritten}
+use Rattle.enum_values.specs.Values.{AreInBase, IsInBase, Names, distinct, last_number, unwritten}
 use Rattle.enum_values.proofs.Written.{is-inside, named-is}
 
 -- the bits of the last value
@@ -98,8 +98,5 @@ behind-named k t at x before last long o r l m bits told holds =
     let p = in_range (least_value t) (most_value t) (Some n) in
     subst (λ (c : Checked NameValue). Names t at r c) (sym (unwritten-is k t at before (last_number t last)))
     (named-is t at r (named k at at t before p) (sym l ∙ m) (told k before p bits (is-inside t (Some n) p refl) holds))
-
-pub short-base : (w : ℕ) (long : Bool) → long ≡ nat_lt 65536 w → long ≡ false → w ≤ 65536
-short-base w long l m = (let e : nat_lt 65536 w ≡ false = sym l ∙ m in grind (arith, nat_tests))
 
 pub ruleset unwritings = (long-breaks, behind-named)

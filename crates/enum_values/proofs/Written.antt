@@ -1,9 +1,8 @@
 -- Values of names that are written.
-use Rattle.std.proofs.Common.{◌≡◌, ℕ, ℤ, ◌<◌, ◌≤◌, Bool, true, false, ◌&&◌, cond, List, [], length, Option, Some, None, refl, sym, ap, ◌∙◌, subst, arith}
+use Rattle.std.proofs.Common.{◌≡◌, ℕ, ℤ, ◌<◌, ◌≤◌, Bool, true, false, ◌&&◌, cond, List, [], Option, Some, None, refl, sym, ap, ◌∙◌, subst, arith}
 use Rattle.std.specs.Prelude.{Result, Ok, Err, int_le, nat_lt, is_some}
 use Rattle.std.proofs.lemmas.Bool.Decides.{nat_tests}
 use Rattle.b4_core.specs.declared.bit.Bit4.{Bit4}
-use Rattle.b4_core.specs.Vectors.{number}
 use Rattle.sv_types.specs.declared.statement.Function.{Function}
 use Rattle.sv_types.specs.declared.types.SvType.{SvType}
 use Rattle.sv_types.specs.Expressions.{meaning}
@@ -11,15 +10,12 @@ use Rattle.sv_types.specs.Layouts.{width_of}
 use Rattle.sv_types.specs.Meanings.{signed}
 use Rattle.const_eval.specs.Numbers.{number_if_known}
 use Rattle.expr_type.specs.declared.halt.Halt.{Halt}
-use Rattle.expr_type.specs.declared.halt.Halt.TheVariants as H
 use Rattle.expr_type.specs.declared.operand.Number.{Number}
 use Rattle.expr_type.specs.declared.operand.Valued.{Valued}
 use Rattle.expr_type.specs.Answers.{HaltsBy, reason}
 use Rattle.expr_type.specs.Names.{Source, position}
-use Rattle.expr_type.specs.Operands.{in_range, is_number_in, number_or}
-use Rattle.expr_type.specs.Operators.{not_too_long}
-use Rattle.expr_type.specs.Shapes.{sign_of}
-use Rattle.expr_type.specs.Types.{NameValue, is_taken, least_value, most_value}
+use Rattle.expr_type.specs.Operands.{in_range, is_number_in}
+use Rattle.expr_type.specs.Types.{NameValue, least_value, most_value}
 use Rattle.expr_type.specs.Typings.{Checked, refused, where_whole}
 use Rattle.constant_types.proofs.Sizes.{none-stops}
 use Rattle.enum_types.specs.Bits.{BitsOf, HasBits, value_in}
@@ -28,7 +24,7 @@ use Rattle.enum_types.specs.Naming.{IsInside, named}
 use Rattle.enum_types.specs.Taken.{Holds, IsValue}
 use Rattle.enum_types.specs.declared.taken.Taken.{Taken}
 use Rattle.enum_values.specs.Constants as C
-use Rattle.enum_values.specs.Values.{IsInBase, IsNamed, Names, distinct, long_halt, named_by, written}
+use Rattle.enum_values.specs.Values.{Names, distinct, long_halt, written}
 
 -- what a part breaks, the whole does
 pub halts-on : {A B : Type 0} (h : Halt) (x : Checked A) (f : A → Checked B) → HaltsBy h (reason x) → HaltsBy h (reason (where_whole x f))
@@ -55,7 +51,7 @@ short-base : (w : ℕ) → nat_lt 65536 w ≡ false → w ≤ 65536
 short-base w e = grind (arith, nat_tests)
 
 pub named-is : (t : SvType) (at : ℕ) (r : Result (List Bit4) Halt) (m : Checked NameValue) → nat_lt 65536 (width_of t) ≡ false → N.Names t at r m → Names t at r m
-named-is t at (Ok v) m e (n, (is, b)) = record {
+named-is t at (Ok v) m e (n, is, b) = record {
   value = is ∙ ap (λ (x : ℤ). Ok (record { at = at; number = x })) (sym b.number);
   bits = subst (λ (x : ℤ). HasBits t v x) (sym b.number) b;
   short = short-base (width_of t) e;
@@ -102,8 +98,5 @@ short-named k t at x before v fs b s long o r g sign l m bits told holds =
     subst (λ (c : Checked NameValue). Names t at r c) (sym (given-is k t at before v fs b g ∙ ap (λ (p : Option ℤ). named k v.first at t before p) (sym same)))
     (named-is t at r (named k v.first at t before (value_in t s b)) (sym l ∙ m)
     (told k before (value_in t s b) bits (is-inside t (number_if_known s b) (value_in t s b) refl) holds))
-
-some-by : (b : List Bit4) (w n : ℕ) → length b ≡ w → 0 < w → 0 < length b
-some-by b w n e h = omega arith
 
 pub ruleset writing = (constant-stops, long-stops, short-named)

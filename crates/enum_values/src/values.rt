@@ -8,7 +8,7 @@ ghost use Rattle.eval_parts.specs.Limits.{FitsAlone};
 ghost use Rattle.eval_forms.specs.Callees.{formals_in};
 ghost use Rattle.eval_runs.specs.Functions.{AllCanRun};
 ghost use Rattle.expr_type.specs.Answers.{Gives, HaltsBy, reason, source};
-ghost use Rattle.expr_type.specs.Names.{Source};
+ghost use Rattle.expr_type.specs.Names as names;
 ghost use Rattle.expr_type.specs.Operands.{in_range};
 ghost use Rattle.expr_type.specs.Types.{NameValue, least_value, most_value};
 ghost use Rattle.expr_type.specs.Types as types;
@@ -87,7 +87,7 @@ fn bits_behind(
 ) -> Result<Option<Vec4>, AllocError>
     requires short { width_of base.now ≤ 65536 }
     requires whole { 0 < width_of base.now }
-    requires last { AreInBase base.now (option_copied last.entry) }
+    requires last { AreInBase base.now (option_copied last) }
     ensures { IfOk result (λ o. BitsOf base.now o (in_range (least_value base.now) (most_value base.now) (Some (types.next_value (last_number base.now (option_copied last.entry)))))) }
 {
     match last {
@@ -108,9 +108,9 @@ pub fn unwritten_value(
     last: Option<&Vec4>,
 ) -> Result<Vec4, Halt>
     requires whole { 0 < width_of base.now }
-    requires last { AreInBase base.now (option_copied last.entry) }
-    requires none { 65536 < width_of base.now → option_copied last.entry ≡ None }
-    ensures { (k : Source) (before : List NameValue) → Holds base.now taken.now before → (65536 < width_of base.now → before ≡ []) → Names base.now at result (unwritten k base.now at before (last_number base.now (option_copied last.entry))) }
+    requires last { AreInBase base.now (option_copied last) }
+    requires none { 65536 < width_of base.now → option_copied last ≡ None }
+    ensures { (k : names.Source) (before : List NameValue) → Holds base.now taken.now before → (65536 < width_of base.now → before ≡ []) → Names base.now at result (unwritten k base.now at before (last_number base.now (option_copied last.entry))) }
 {
     if is_long(base) {
         return Err(Halt::Breaks { at, rule: 701 });

@@ -16,6 +16,8 @@ use Rattle.expr_type.specs.Shapes.{sign_of}
 use Rattle.expr_type.specs.Types.{NameValue, goes_on_from, name_behind, name_value, name_values, unwritten}
 use Rattle.expr_type.specs.Types as T
 use Rattle.expr_type.specs.Typings.{Typed, Typing, broken}
+use Rattle.typing_fits.proofs.Full.{and-left, and-right}
+use Rattle.typing_walks.specs.WrittenTypes.{initial_written, names_written}
 use Rattle.enum_types.specs.Taken.{Holds}
 use Rattle.enum_types.specs.declared.taken.Taken.{Taken}
 use Rattle.enum_values.specs.Values.{IsInBase, last_number, named_by}
@@ -155,6 +157,11 @@ module _ (k : Context) (t : SvType) (m : Met) (ns : List W.EnumName) (i : ℕ) (
 pub from-place : (ns : List W.EnumName) (i : ℕ) (n d : W.EnumName) → i < length ns → n ≡ get_or ns i d → drop i ns ≡ n ∷ drop (i + 1) ns
 from-place ns i n d h is =
     drop-cons ns i d h ∙ ap (λ (x : W.EnumName). x ∷ drop (suc i) ns) (sym is) ∙ ap (λ (j : ℕ). n ∷ drop j ns) (sym (add-one i))
+
+pub name-written : (ns : List W.EnumName) (i : ℕ) (n d : W.EnumName) → i < length ns → n ≡ get_or ns i d → names_written ns ≡ true → initial_written n.value ≡ true
+name-written [] i n d h is w = absurd (omega arith)
+name-written (m ∷ ns) zero n d h is w = ap (λ (x : W.EnumName). initial_written x.value) is ∙ and-left (initial_written m.value) (names_written ns) w
+name-written (m ∷ ns) (suc i) n d h is w = name-written ns i n d (omega arith) is (and-right (initial_written m.value) (names_written ns) w)
 
 -- what was met stays in order
 pub nothing-met : (m : Met) → m.names ≡ [] → ((t : SvType) → Holds t m.taken []) → (t : SvType) → IsMet t m
