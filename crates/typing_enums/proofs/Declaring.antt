@@ -158,3 +158,9 @@ module _ (Q : List Function → Type 0) where
 
   pub base-full : (k : Context) (base : Option EnumBase) (b : SvType) (fs gs : List Function) → Surrounded Q k → base_written base ≡ true → Q fs → TypesTo (Ok b) (base_type k base fs) gs → is_full b ≡ true
   base-full k base b fs gs r w q p = (X.base-keeps Q k base r w fs q).sound b (ap (λ (t : Typed SvType). t.result) p)
+
+pub ruleset declaring = (base-value, name-surrounded, bits-long)
+
+pub ruleset founding = (found-is, met-width, enum-width, latest-more)
+
+pub ruleset enumerating = (base-full, base-stops, names-stop, enum-types, enum-sounds)

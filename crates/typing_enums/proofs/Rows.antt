@@ -20,6 +20,7 @@ use Rattle.typing_fits.proofs.Full.{and-left, and-right}
 use Rattle.typing_walks.specs.WrittenTypes.{initial_written, names_written}
 use Rattle.enum_types.specs.Taken.{Holds}
 use Rattle.enum_types.specs.declared.taken.Taken.{Taken}
+use Rattle.enum_values.proofs.Unwritten.{value-inside}
 use Rattle.enum_values.specs.Values.{IsInBase, last_number, named_by}
 use Rattle.typing_scopes.specs.Ahead.{Ahead, AheadQuiet, AheadWhole}
 use Rattle.typing_scopes.proofs.Turning.{ahead-alike, ahead-breaks, ahead-end, ahead-quiet, ahead-start, ahead-whole, behind-breaks, behind-end, behind-quiet, behind-whole}
@@ -183,3 +184,11 @@ met-more t m o x names met short bits held = record {
     short = λ long. absurd (omega arith);
   };
 }
+
+pub ruleset meeting = (nothing-met)
+
+pub ruleset putting = (met-more, value-inside)
+
+pub ruleset reaching = (lost-reaches, breaks-reach)
+
+pub ruleset ending = (names-start, names-end, names-quiet)

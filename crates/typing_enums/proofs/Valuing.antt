@@ -181,4 +181,5 @@ pub last-absent : (t : SvType) (m : Met) (o : Option (List Bit4)) → o ≡ last
 last-absent t m o is met h = is ∙ last-none m (met.names.short h)
 
 pub ruleset valuing = (written-given, written-stops, written-bits, written-short)
+
 pub ruleset naming = (unwritten-told, unwritten-bits, unwritten-short, lost-types, given-types, last-known, last-absent)

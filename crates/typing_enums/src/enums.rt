@@ -64,6 +64,7 @@ fn enum_names(alloc: Global, text: Source<'_>, met: &[Named]) -> Result<EnumName
 }
 
 // The names as constants of the enum.
+#[tactic(auto, using(crate::proofs::Declaring::founding))]
 fn constants<B: Base>(
     alloc: Global,
     names: &Scope<'_, B>,
@@ -83,6 +84,7 @@ fn constants<B: Base>(
 }
 
 // An enum by its first word, its base and its names.
+#[tactic(auto, using(crate::proofs::Declaring::founding))]
 fn enum_found<B: Base>(
     alloc: Global,
     names: &Scope<'_, B>,
@@ -104,6 +106,7 @@ fn enum_found<B: Base>(
 }
 
 /// An enum, before the dimensions behind it, with its names as constants. Where its base isn't whole, its names aren't looked at.
+#[tactic(auto, using(crate::proofs::Declaring::enumerating))]
 pub fn enumeration<B: Base, C: Fn(u32, &mut Known) -> Result<u32, Halt>>(
     alloc: Global,
     names: &Scope<'_, B>,

@@ -69,6 +69,7 @@ pub(crate) fn constant_by(
 }
 
 // No names.
+#[tactic(auto, using(crate::proofs::Rows::meeting))]
 fn none_met(alloc: Global) -> Met
     ensures names { result.names ≡ [] }
     ensures lost { result.lost ≡ false }
@@ -84,6 +85,7 @@ fn none_met(alloc: Global) -> Met
 }
 
 // One more name that has a value.
+#[tactic(auto, using(crate::proofs::Rows::putting))]
 fn put(alloc: Global, base: &SvType, met: &mut Met, named: Named) -> Result<(), AllocError>
     requires whole { 0 < width_of base.now }
     requires short { width_of base.now ≤ 65536 }
@@ -101,6 +103,7 @@ fn put(alloc: Global, base: &SvType, met: &mut Met, named: Named) -> Result<(), 
 }
 
 // One more name that has a value, which is a constant of the base behind it.
+#[tactic(auto, using(crate::proofs::Declaring::declaring))]
 fn declare<B: Base>(
     alloc: Global,
     names: &mut Scope<'_, B>,
@@ -120,6 +123,7 @@ fn declare<B: Base>(
 }
 
 // One more name. One that has no value isn't whole, and what stands behind it is looked at for its breaks.
+#[tactic(auto, using(crate::proofs::Rows::reaching))]
 fn next_name<B: Base, C: Fn(u32, &mut Known) -> Result<u32, Halt>>(
     alloc: Global,
     names: &mut Scope<'_, B>,
@@ -163,6 +167,7 @@ fn next_name<B: Base, C: Fn(u32, &mut Known) -> Result<u32, Halt>>(
 }
 
 /// The names of an enum that have values, if all have. Each is a constant of the base behind it.
+#[tactic(auto, using(crate::proofs::Rows::ending))]
 pub(crate) fn names_of<B: Base, C: Fn(u32, &mut Known) -> Result<u32, Halt>>(
     alloc: Global,
     names: &Scope<'_, B>,

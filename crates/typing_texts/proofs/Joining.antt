@@ -191,3 +191,9 @@ pub struct-breaks : (k : Source) (of : Aggregate) (packing : Option Packing) (x 
 struct-breaks k of packing x o f h fs gs is p g =
     checked-fine x (typed_struct k of packing) fs gs gs f (Err h) (subst (λ (y : Result Fields Halt). TypesTo y (x fs) gs) is p)
     (checked-stops (rule (aggregate k of packing f.fields)) (λ t. whole (record { of = t; names = f.names })) gs gs h (rule-types {A = SvType} (Err h) (aggregate k of packing f.fields) gs g))
+
+pub ruleset members = (member-whole, member-stops, member-quiet, member-breaks)
+
+pub ruleset structures = (struct-stops, struct-types, struct-breaks)
+
+pub ruleset joining = (lost-reaches, breaks-reach)

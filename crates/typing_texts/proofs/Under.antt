@@ -95,3 +95,5 @@ pub packed-breaks : (k : Context) (x : Typing TypeFound) (ds : List Dimension) (
 packed-breaks k x ds o at n fs gs hs is p =
     checked-stops (beside_by x (λ o. dims (behind_found k o) ds)) (put_both k) fs hs (H.Breaks at n)
     (by-breaks x (λ o. dims (behind_found k o) ds) fs gs hs at n (subst (λ (y : Result TypeFound Halt). TypesTo y (x fs) gs) is p))
+
+pub ruleset under = (dims-stop, dims-types, under-stops, values-surrounded, routine-kept)

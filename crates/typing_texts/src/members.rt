@@ -62,6 +62,7 @@ pub(crate) struct Made {
 }
 
 /// Members of one type: where that isn't whole and breaks nothing, the dimensions behind the names are looked at.
+#[tactic(auto, using(crate::proofs::Joining::members))]
 pub(crate) fn member_of<B: Base, C: Fn(u32, &mut Known) -> Result<u32, Halt>>(
     alloc: Global,
     names: &Scope<'_, B>,
@@ -115,6 +116,7 @@ pub(crate) fn none_made(alloc: Global) -> Made
 
 /// Members behind others: what their type declares stands for its value behind them. Where they aren't whole, what stands behind is
 /// looked at for its breaks.
+#[tactic(auto, using(crate::proofs::Joining::joining))]
 pub(crate) fn put_members<B: Base>(
     names: &mut Scope<'_, B>,
     made: &mut Made,
@@ -164,6 +166,7 @@ fn aggregate(
 }
 
 /// A struct or a union of members, before the dimensions behind it.
+#[tactic(auto, using(crate::proofs::Joining::structures))]
 pub(crate) fn structure(
     alloc: Global,
     text: Source<'_>,

@@ -26,6 +26,7 @@ use typing_scopes::{Base, Scope};
 use typing_values::behind_quiet;
 
 // Dimensions of a text in which these constants stand for their values, and the constants.
+#[tactic(auto, using(crate::proofs::Under::under))]
 fn dims_behind<B: Base, C: Fn(u32, &mut Known) -> Result<u32, Halt>>(
     alloc: Global,
     names: &Scope<'_, B>,
