@@ -2,7 +2,7 @@
 
 ghost use Rattle.std.specs.Prelude.{◌≡◌, map, true, IfOk};
 ghost use Rattle.expr_type.specs.Answers.{source};
-ghost use Rattle.expr_type.specs.Names as text;
+ghost use Rattle.expr_type.specs.Names.{word};
 ghost use Rattle.expr_type.specs.Types as types;
 ghost use Rattle.sv_types.specs.Layouts.{width_of};
 ghost use Rattle.routine_fits.specs.Sound.{AllSoundFunctions};
@@ -30,7 +30,7 @@ use typing_scopes::{Base, Scope};
 
 // The word of a token.
 fn word_at(alloc: Global, text: Source<'_>, at: u32) -> Result<Text, AllocError>
-    ensures { IfOk result (λ w. w ≡ text.word (source text.entry) at) }
+    ensures { IfOk result (λ w. w ≡ word (source text.entry) at) }
 {
     match sv_source::at(text.tokens, at as usize) {
         Some(token) => token.text.copy(alloc),

@@ -2,14 +2,14 @@
 //! 6.11, 6.18, 6.19 and 7.4).
 #![tactic(auto)]
 
-mod dims;
+mod dimensions;
 mod enums;
 mod found;
 mod names;
 mod types;
 mod values;
 
-pub use dims::dims;
+pub use dimensions::dims;
 pub use enums::enumeration;
 pub use found::TypeFound;
 pub use types::{base_type, declared_type, implicit, keyword, named_with};

@@ -11,7 +11,7 @@ ghost use Rattle.typing_parts.specs.Typists.{IsReady, MakesKnown};
 ghost use Rattle.typing_steps.specs.Steps.{TypesTo};
 ghost use Rattle.typing_enums.specs.Types.{base_keyword, base_named, implicit_of, keyword_of};
 
-use crate::dims::dims;
+use crate::dimensions::dims;
 use expr_type::Halt;
 use std::alloc::{AllocError, Global};
 use sv_source::Boxed;

@@ -5,7 +5,7 @@ use Rattle.typing_parts.specs.Operands.{as_operand}
 use Rattle.typing_steps.specs.Steps.{TypesTo}
 use Rattle.typing_walks.specs.Written.{is_written}
 use Rattle.typing_enums.proofs.Written.{dimensions-can}
-use Rattle.typing_enums.proofs.dims.dims.Goals as goal
+use Rattle.typing_enums.proofs.dimensions.dims.Goals as goal
 
 pub dimensions-requires-clause-can : goal.dimensions-requires-clause-can
 dimensions-requires-clause-can g c =
