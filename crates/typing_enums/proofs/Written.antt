@@ -37,7 +37,7 @@ dimension_layer z = elim z [
 
 dimension-by : (z : Dimension-F Cast Dimension Expr Pattern PatternItem Select SliceSize ValueRange) → W.dimension_step (map-Dimension Cast Dimension Expr Pattern PatternItem Select SliceSize ValueRange Bool Bool Bool Bool Bool Bool Bool Bool cast_written dimension_written is_written pattern_written item_written select_written slice_written range_written z) ≡ true → AllWritten (dimension_layer z)
 dimension-by (Dimension-F.Size opening size closing) w = (w, tt)
-dimension-by (Dimension-F.«Dimension::Range» opening left colon right closing) w = (and-left (is_written left) (is_written right) w, and-right (is_written left) (is_written right) w, tt)
+dimension-by (Dimension-F.«Dimension::Range» opening left colon right closing) w = (and-left (is_written left) (is_written right) w, (and-right (is_written left) (is_written right) w, tt))
 
 dimension : (x : Dimension) → dimension_written x ≡ true → AllWritten (dimension_layer (out-Dimension x))
 dimension x w = dimension-by (out-Dimension x) (sym (fold_out-Dimension Bool Bool Bool Bool Bool Bool Bool Bool W.cast_step W.dimension_step W.expr_step W.pattern_step W.item_step W.select_step W.slice_step W.range_step x) ∙ w)
