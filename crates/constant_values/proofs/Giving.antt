@@ -114,7 +114,7 @@ module _ (k : Source) (first : ℕ) (e : Expr) (f : Expr → Checked ParamValue)
 pub stands-then : (k : Source) (p : Place) (first : ℕ) (t : SvType) (fs : List Function) (e : Expr) (other : Result (Unit {0}) Halt) (m : Checked Expr) (r : Result ParamValue Halt) → IsFree fs e other → Admits other e m
     → Gives r (limited k p first t fs e) → Gives r (where_whole (is_constant k first fs e m) (short k p t fs))
 stands-then k p first t fs e other m r free a g =
-    let fine : m ≡ Ok e = subst (λ (o : Result (Unit {0}) Halt). Admits o e m) free.other a in
+    let fine : m ≡ Ok e = subst (λ (o : Result (Unit {0}) Halt). Admits o e m) free.fine a in
     subst (λ (c : Checked ParamValue). Gives r c) (sym (free-by k first e (short k p t fs) (names_any e) (holds_stream fs e) (stops fs e) m free.names free.stream fine)) g
 
 -- it holds no stream by itself
@@ -126,7 +126,7 @@ pub free-plain : (fs : List Function) (e : Expr) (other : Result (Unit {0}) Halt
 free-plain fs e other f = no-left (uses e nothing).streams (list_any (λ n. slice_index_or (stream_marks fs) n false) (uses e nothing).calls) f.stream
 
 pub free-given : (fs : List Function) (e : Expr) (t : SvType) (other : Result (Unit {0}) Halt) → IsFree fs e other → IsGivenIf other e t fs → IsGiven e t fs
-free-given fs e t other f g = subst (λ (o : Result (Unit {0}) Halt). IsGivenIf o e t fs) f.other g
+free-given fs e t other f g = subst (λ (o : Result (Unit {0}) Halt). IsGivenIf o e t fs) f.fine g
 
 pub ruleset standings = (stands-then, free-plain, free-given)
 

@@ -9,15 +9,15 @@ use Rattle.sv_types.specs.declared.expression.Expr.{Expr}
 use Rattle.sv_types.specs.declared.statement.Function.{Function}
 use Rattle.sv_types.specs.declared.types.SvType.{SvType, the_lemmas}
 use Rattle.sv_types.specs.declared.types.SvType.TheVariants as T
-use Rattle.sv_types.specs.declared.types.Value.{Value}
-use Rattle.sv_types.specs.declared.types.Value.TheVariants.{Bits}
+use Rattle.sv_types.specs.declared.types.Value.{Value, Value-F, fold-roll-Value}
+use Rattle.sv_types.specs.declared.types.Value.TheVariants.{Bits, rolls-Bits}
 use Rattle.sv_types.specs.Expressions.{meaning}
 use Rattle.sv_types.specs.Functions.{callees}
 use Rattle.sv_types.specs.Layouts.{Layout, layout, stored, width_of}
 use Rattle.sv_types.specs.Meanings.{Meaning}
 use Rattle.sv_types.specs.Operators.{assigned_to}
 use Rattle.sv_types.specs.Surroundings.{Around, Stop, is_signal}
-use Rattle.sv_types.specs.Values.{Shape, bits, flat, shape, value_of_bits}
+use Rattle.sv_types.specs.Values.{Shape, bits, flat, shape, value_of_bits, value_step}
 use Rattle.sv_types.proofs.Lengths.{layout-Enum}
 use Rattle.eval_parts.specs.declared.halt.Halt as E
 use Rattle.eval_parts.specs.declared.halt.Halt.TheVariants as V
@@ -100,7 +100,7 @@ piece-shape : (t : SvType) → shape (piece t) ≡ flat (shape t).width
 piece-shape t = search (rules, the_lemmas)
 
 bits-Bits : (v : List Bit4) → bits (Bits v) ≡ v
-bits-Bits v = search (rules, Value.the_lemmas)
+bits-Bits v = ap bits (sym (rolls-Bits v)) ∙ fold-roll-Value (List Bit4) value_step (Value-F.Bits v)
 
 piece-bits : (t : SvType) (v : List Bit4) → bits (value_of_bits (piece t) v) ≡ stored (layout (piece t)).two_state v
 piece-bits t v = ap (λ (s : Shape). bits (s.value (stored (layout (piece t)).two_state v))) (piece-shape t) ∙ bits-Bits (stored (layout (piece t)).two_state v)

@@ -67,18 +67,18 @@ module _ (k : Source) (first : ℕ) (stop : Bool) (e : Expr) where
 record Frees (n s : Bool) (other : Result (Unit {0}) Halt) : Type 0 where
   pub names : n ≡ false
   pub stream : s ≡ false
-  pub other : other ≡ Ok tt
+  pub fine : other ≡ Ok tt
 
 frees : (n s : Bool) (first : ℕ) (other : Result (Unit {0}) Halt) (u : Unit {0}) → ruled n s first other ≡ Ok u → Frees n s other
 frees true s first other u is = absurd (cc)
 frees false true first other u is = absurd (cc)
-frees false false first other u is = record { names = refl; stream = refl; other = is }
+frees false false first other u is = record { names = refl; stream = refl; fine = is }
 
 pub stands-by : (k : Source) (first : ℕ) (fs : List Function) (e : Expr) (other r : Result (Unit {0}) Halt) (n s : Bool) → r ≡ ruled n s first other → n ≡ names_any e → s ≡ holds_stream fs e
     → MayStand k first fs e other r
 stands-by k first fs e other (Ok u) n s is a b =
     let f = frees n s first other u (sym is) in
-    record { names = sym a ∙ f.names; stream = sym b ∙ f.stream; other = f.other }
+    record { names = sym a ∙ f.names; stream = sym b ∙ f.stream; fine = f.fine }
 stands-by k first fs e other (Err h) n s is a b = λ m here admits.
     subst (λ (x : Bool). HaltsBy h (reason (all_rules k first (stops fs e) e x (holds_stream fs e) m))) a
     (subst (λ (y : Bool). HaltsBy h (reason (all_rules k first (stops fs e) e n y m))) b (halts k first (stops fs e) e n s other m h here admits (sym is)))

@@ -33,7 +33,7 @@ ruled false false first other = other
 pub record IsFree (fs : List Function) (e : Expr) (other : Result (Unit {0}) Halt) : Type 0 where
   pub names : names_any e ≡ false
   pub stream : holds_stream fs e ≡ false
-  pub other : other ≡ Ok tt
+  pub fine : other ≡ Ok tt
 
 -- whatever the other rule is on, whose breaks stand in this text
 abbrev pub MayStand : Source → ℕ → List Function → Expr → Result (Unit {0}) Halt → Result (Unit {0}) Halt → Type 0

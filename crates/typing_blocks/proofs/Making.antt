@@ -28,6 +28,7 @@ use Rattle.expr_type.specs.Targets.{simple_name}
 use Rattle.expr_type.specs.Types.{TypeFound, declared_type, only, typed_text}
 use Rattle.expr_type.specs.Typings.{Checked, Typed, Typing, applied, broken, by_functions, checked, maybe, refused, rule, where_whole, whole}
 use Rattle.pattern_laws.proofs.Reasons.{where-fine}
+use Rattle.pattern_types.specs.Meaning.{operand_of}
 use Rattle.pattern_types.specs.declared.operand.Operand as O
 use Rattle.typing_steps.specs.Steps.{IsQuiet, StopsBy, TypesTo}
 use Rattle.typing_steps.proofs.Combining.{checked-fine, checked-is, checked-stops, rule-types}
@@ -47,7 +48,7 @@ quiet-here : {A : Type 0} (gs : List Function) → IsQuiet (broken {A = A} Quiet
 quiet-here gs = record { quiet = refl; functions = refl }
 
 pub looks : {A : Type 0} (k : Source) (x : Typing Operand) (r : Result O.Operand Halt) (fs gs : List Function) → TypesTo (as_operand k r) (x fs) gs → StopsBy (looked_by r) (checked {B = A} x (λ o. broken Quiet) fs) gs
-looks {A = A} k x (Ok o) fs gs h = checked-fine {B = A} x (λ v. broken Quiet) fs gs gs _ (Err H.Quiet) h (quiet-here gs)
+looks {A = A} k x (Ok o) fs gs h = checked-fine {B = A} x (λ v. broken Quiet) fs gs gs (operand_of k o) (Err H.Quiet) h (quiet-here gs)
 looks {A = A} k x (Err g) fs gs h = checked-stops {B = A} x (λ v. broken Quiet) fs gs g h
 
 alike-by : {A B C : Type 0} (h : Halt) (r : Checked C) (fs gs : List Function) → StopsBy h (applied {B = A} r (λ o. broken Quiet) fs) gs → StopsBy h (applied {B = B} r (λ o. broken Quiet) fs) gs

@@ -46,7 +46,7 @@ module _ {B : Type 0} (of : B → Context) (old new : Block B) (row : Typed Decl
   added : (w v : Bool) (d : Declared) (rest : Context → Typing Declared) → v ≡ w → Adds of old new d → AheadBy w (and_then (declared old) d) (rest (behind before d)) row gs → AheadBy v (declared new) (rest after) row gs
   added w v d rest same a h =
       subst (λ (u : Bool). AheadBy u (declared new) (rest after) row gs) (sym same)
-      (subst (λ (e : Declared). AheadBy w e (rest after) row gs) (sym a.declared) (subst (λ (k : Context). AheadBy w (and_then (declared old) d) (rest k) row gs) (sym a.context) h))
+      (subst (λ (e : Declared). AheadBy w e (rest after) row gs) (sym a.brings) (subst (λ (k : Context). AheadBy w (and_then (declared old) d) (rest k) row gs) (sym a.context) h))
 
   stayed : (v : Bool) (rest : Context → Typing Declared) → v ≡ false → Stays of old new → AheadBy false (declared new) (rest before) row gs → AheadBy v (declared new) (rest after) row gs
   stayed v rest same s h =

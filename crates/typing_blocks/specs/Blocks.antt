@@ -34,11 +34,11 @@ declared b = record {
 -- one more behind others: what it brings in stands behind them, and nothing changes where it isn't whole
 pub record Adds {B : Type 0} (of : B → Context) (old new : Block B) (d : Declared) : Type 0 where
   pub context : context_of of new.scope ≡ behind (context_of of old.scope) d
-  pub declared : declared new ≡ and_then (declared old) d
+  pub brings : declared new ≡ and_then (declared old) d
 
 pub record Stays {B : Type 0} (of : B → Context) (old new : Block B) : Type 0 where
   pub context : context_of of new.scope ≡ context_of of old.scope
-  pub declared : declared new ≡ declared old
+  pub brings : declared new ≡ declared old
 
 abbrev pub Takes : {B : Type 0} → (B → Context) → Block B → Block B → Bool → Result Part Halt → Result Bool Halt → Type 0
 Takes of old new whole (Ok p) (Ok w) = (w ≡ whole) × Adds of old new (declares p)

@@ -19,6 +19,9 @@ abbrev pub looked : {A : Type 0} → Context → Option Initializer → Typing A
 looked k None = broken Quiet
 looked k (Some i) = checked (operand k i.value) (λ o. broken Quiet)
 
+abbrev pub looked_alone : Context → Option Initializer → Typing (Unit {0})
+looked_alone k i = looked k i
+
 abbrev pub looked_by : Result O.Operand Halt → Halt
 looked_by (Ok o) = H.Quiet
 looked_by (Err h) = h

@@ -38,7 +38,7 @@ impl<'s, B: Base> Block<'s, B> {
     /// Behind the names of a type in a scope. It takes no memory.
     pub fn new(alloc: Global, outer: &'s Scope<'s, B>, names: Rows<ParamValue>) -> Block<'s, B>
         ensures context { context_of B.context result.scope ≡ with_values names (context_of B.context outer.now) }
-        ensures declared { declared result ≡ named names }
+        ensures brings { declared result ≡ named names }
     {
         Block {
             scope: Scope {
@@ -59,7 +59,7 @@ impl<'s, B: Base> Block<'s, B> {
     /// One declaration more.
     pub fn add(&mut self, part: Part) -> Result<(), AllocError>
         ensures context { OnOk result (context_of B.context self.new.scope ≡ behind (context_of B.context self.old.scope) (declares part)) }
-        ensures declared { OnOk result (declared self.new ≡ and_then (declared self.old) (declares part)) }
+        ensures brings { OnOk result (declared self.new ≡ and_then (declared self.old) (declares part)) }
     {
         match part {
             Part::Value(value) => self.scope.level.values.push(value),

@@ -28,6 +28,7 @@ use typing_scopes::{Base, Scope};
 
 /// A constant of a type, or of that of its value, at its name: E405 where it has no value, the rules of `constant_values` on the value,
 /// and E701 where it has more than 65,536 bits.
+#[tactic(auto, using(typing_parts::proofs::Keeping::keepings))]
 pub(crate) fn constant<B: Base, C: Fn(u32, &mut Known) -> Result<u32, Halt>>(
     alloc: Global,
     names: &Scope<'_, B>,
@@ -66,6 +67,7 @@ pub(crate) fn constant<B: Base, C: Fn(u32, &mut Known) -> Result<u32, Halt>>(
 }
 
 /// A constant of a type with the dimensions behind its name. Where that isn't whole and breaks nothing, its value is looked at by itself.
+#[tactic(auto, using(typing_parts::proofs::Keeping::keepings))]
 pub(crate) fn constant_under<B: Base, C: Fn(u32, &mut Known) -> Result<u32, Halt>>(
     alloc: Global,
     names: &Scope<'_, B>,
@@ -92,6 +94,7 @@ pub(crate) fn constant_under<B: Base, C: Fn(u32, &mut Known) -> Result<u32, Halt
 }
 
 /// A parameter that is a type, at its name: E405 where it has none.
+#[tactic(auto, using(typing_parts::proofs::Keeping::keepings))]
 pub(crate) fn named_type<B: Base, C: Fn(u32, &mut Known) -> Result<u32, Halt>>(
     alloc: Global,
     names: &Scope<'_, B>,

@@ -30,6 +30,7 @@ use typing_scopes::{Base, Scope};
 use typing_texts::declared_type;
 
 // The type of a local, which has at most 65,536 bits (E701).
+#[tactic(auto, using(typing_steps::proofs::Combining::steps))]
 fn type_of_local<S: Names, C: Fn(u32, &mut Known) -> Result<u32, Halt>>(
     alloc: Global,
     names: &S,
@@ -52,6 +53,7 @@ fn type_of_local<S: Names, C: Fn(u32, &mut Known) -> Result<u32, Halt>>(
 }
 
 // The value with which a local starts, if one is written.
+#[tactic(auto, using(typing_parts::proofs::Keeping::keepings))]
 fn initial_value<S: Names, C: Fn(u32, &mut Known) -> Result<u32, Halt>>(
     alloc: Global,
     names: &S,
@@ -103,6 +105,7 @@ fn local_of<B: Base>(
 
 /// A variable of a type, if that is whole, with the dimensions behind its name and its first value. Where its type isn't whole and
 /// breaks nothing, its value is looked at by itself.
+#[tactic(auto, using(typing_parts::proofs::Keeping::keepings))]
 pub(crate) fn variable<B: Base, C: Fn(u32, &mut Known) -> Result<u32, Halt>>(
     alloc: Global,
     names: &Scope<'_, B>,

@@ -13,7 +13,7 @@ ghost use Rattle.typing_values.specs.Parts as part;
 ghost use Rattle.typing_walks.specs.Written as written;
 ghost use Rattle.typing_walks.specs.Written.{is_written};
 ghost use Rattle.typing_walks.specs.WrittenTypes.{initial_written};
-ghost use Rattle.typing_blocks.specs.Declaring.{looked, looked_by};
+ghost use Rattle.typing_blocks.specs.Declaring.{looked_alone, looked_by};
 
 use expr_type::Halt;
 use pattern_types::Operand;
@@ -39,6 +39,7 @@ fn halt_of(o: Result<Operand, Halt>) -> Halt
 }
 
 /// Why nothing is made of a value whose type isn't whole: the first break of the value by itself, if it has one.
+#[tactic(auto, using(typing_parts::proofs::Keeping::keepings))]
 pub(crate) fn looked_at<S: Names, C: Fn(u32, &mut Known) -> Result<u32, Halt>>(
     alloc: Global,
     names: &S,
@@ -50,7 +51,7 @@ pub(crate) fn looked_at<S: Names, C: Fn(u32, &mut Known) -> Result<u32, Halt>>(
     requires names { Surrounded AllSoundFunctions (S.context names.now) }
     requires written { initial_written initial.now ≡ true }
     requires ready { IsReady known.old }
-    ensures value { StopsBy result (looked {A = Unit {0}} (S.context names.now) initial.now known.old.functions) known.new.functions }
+    ensures value { StopsBy result (looked_alone (S.context names.now) initial.now known.old.functions) known.new.functions }
     ensures ready { IsReady known.new }
     ensures keeps { Extends known.old.functions known.new.functions }
 {

@@ -72,6 +72,7 @@ fn type_parameter<B: Base, C: Fn(u32, &mut Known) -> Result<u32, Halt>>(
 }
 
 // A parameter that is a value.
+#[tactic(auto, using(typing_parts::proofs::Keeping::keepings))]
 fn value_parameter<B: Base, C: Fn(u32, &mut Known) -> Result<u32, Halt>>(
     alloc: Global,
     names: &Scope<'_, B>,
@@ -100,7 +101,7 @@ fn value_parameter<B: Base, C: Fn(u32, &mut Known) -> Result<u32, Halt>>(
 }
 
 // A parameter by its text and what the one before is.
-fn parameter<B: Base, C: Fn(u32, &mut Known) -> Result<u32, Halt>>(
+fn one_parameter<B: Base, C: Fn(u32, &mut Known) -> Result<u32, Halt>>(
     alloc: Global,
     names: &Scope<'_, B>,
     needs: &C,
@@ -146,6 +147,7 @@ fn parted(p: Result<Parameter, Halt>) -> (Kind, Result<Part, Halt>)
 }
 
 // Parameters behind others, each with what the one before it is.
+#[tactic(auto, using(typing_parts::proofs::Keeping::keepings))]
 fn all_parameters<'s, B: Base, C: Fn(u32, &mut Known) -> Result<u32, Halt>>(
     alloc: Global,
     block: Block<'s, B>,
@@ -165,7 +167,7 @@ fn all_parameters<'s, B: Base, C: Fn(u32, &mut Known) -> Result<u32, Halt>>(
     let mut before = Kind::Value(None);
     let mut whole = true;
     for body in bodies {
-        let p = parameter(alloc, &block.scope, needs, before, body, known);
+        let p = one_parameter(alloc, &block.scope, needs, before, body, known);
         let (kind, part) = parted(p);
         before = kind;
         whole = block.take(whole, part)?;

@@ -26,6 +26,7 @@ use typing_scopes::{Base, Scope};
 use typing_texts::{TypeFound, dims, typed_text};
 
 /// A named type with selects in the place of dimensions. A name that stands for no type isn't whole and breaks nothing here.
+#[tactic(auto, using(typing_parts::proofs::Keeping::keepings))]
 pub(crate) fn selected_type<S: Names, C: Fn(u32, &mut Known) -> Result<u32, Halt>>(
     alloc: Global,
     names: &S,
@@ -83,6 +84,7 @@ pub(crate) fn is_unwritten(of: &TypeText) -> bool
 
 /// The type of a parameter that is written, or that of the parameter before where it is left out; none where the value gives it
 /// (IEEE 1800-2017 clause 6.20.2).
+#[tactic(auto, using(typing_parts::proofs::Keeping::keepings))]
 pub(crate) fn type_or_before<B: Base, C: Fn(u32, &mut Known) -> Result<u32, Halt>>(
     alloc: Global,
     names: &Scope<'_, B>,
@@ -128,6 +130,7 @@ fn copied(alloc: Global, t: Option<&SvType>) -> Result<Option<SvType>, AllocErro
 }
 
 /// The type of a parameter with the dimensions behind its name, if there are any: under them stand four-state bits where it has none.
+#[tactic(auto, using(typing_steps::proofs::Combining::steps, typing_parts::proofs::Keeping::keepings))]
 pub(crate) fn with_dimensions<S: Names, C: Fn(u32, &mut Known) -> Result<u32, Halt>>(
     alloc: Global,
     names: &S,

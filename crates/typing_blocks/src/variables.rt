@@ -34,6 +34,7 @@ use typing_scopes::{Base, Declared, Scope};
 use typing_texts::{TypeFound, typed_text};
 
 // Variables of a type, if that is whole, behind other declarations.
+#[tactic(auto, using(typing_parts::proofs::Keeping::keepings))]
 fn all_variables<'s, B: Base, C: Fn(u32, &mut Known) -> Result<u32, Halt>>(
     alloc: Global,
     block: Block<'s, B>,
@@ -61,6 +62,7 @@ fn all_variables<'s, B: Base, C: Fn(u32, &mut Known) -> Result<u32, Halt>>(
 }
 
 // Variables of what was found for their type.
+#[tactic(auto, using(typing_parts::proofs::Keeping::keepings))]
 fn variables_of<B: Base, C: Fn(u32, &mut Known) -> Result<u32, Halt>>(
     alloc: Global,
     names: &Scope<'_, B>,
@@ -100,6 +102,7 @@ fn variables_of<B: Base, C: Fn(u32, &mut Known) -> Result<u32, Halt>>(
 /// Variables of a written type, each behind those before it (IEEE 1800-2017 clauses 6.8 and 6.21): what they and the names of enums in
 /// the type bring in, the latest first, with the locals in the order of the text; or the first break in that order. A local has at most
 /// 65,536 bits (E701).
+#[tactic(auto, using(typing_parts::proofs::Keeping::keepings))]
 pub fn variables<B: Base, C: Fn(u32, &mut Known) -> Result<u32, Halt>>(
     alloc: Global,
     names: &Scope<'_, B>,
@@ -122,6 +125,7 @@ pub fn variables<B: Base, C: Fn(u32, &mut Known) -> Result<u32, Halt>>(
 }
 
 /// Variables of a type that is a name with selects in the place of dimensions, each behind those before it.
+#[tactic(auto, using(typing_parts::proofs::Keeping::keepings))]
 pub fn named_variables<B: Base, C: Fn(u32, &mut Known) -> Result<u32, Halt>>(
     alloc: Global,
     names: &Scope<'_, B>,
