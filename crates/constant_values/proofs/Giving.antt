@@ -8,7 +8,10 @@ use Rattle.sv_types.specs.declared.statement.Function.{Function}
 use Rattle.sv_types.specs.declared.types.SvType.{SvType}
 use Rattle.sv_types.specs.declared.types.Value.{Value}
 use Rattle.sv_types.specs.Expressions.{meaning}
-use Rattle.sv_types.specs.Layouts.{width_of}
+use Rattle.sv_types.specs.Layouts.{layout, width_of}
+use Rattle.sv_types.specs.Operators.{assigned_width}
+use Rattle.eval_forms.specs.Callees.{formals_in}
+use Rattle.eval_parts.specs.Limits.{Fits, FitsAlone}
 use Rattle.expr_type.specs.declared.halt.Halt.{Halt}
 use Rattle.expr_type.specs.declared.halt.Halt.TheVariants as H
 use Rattle.expr_type.specs.declared.operand.Valued.{Valued}
@@ -30,7 +33,7 @@ use Rattle.pattern_types.proofs.Levels.{operand-Pattern, operand-Plain, operand-
 use Rattle.typing_fits.specs.Operands.{SoundOperand, SoundPattern}
 use Rattle.typing_fits.specs.Sound.{LimitedAt, Sound}
 use Rattle.typing_fits.specs.Types.{is_full}
-use Rattle.typing_fits.proofs.Given.{pattern-for, plain-given, sound-alone}
+use Rattle.typing_fits.proofs.Given.{alone-fits, for-fits, knows-itself, pattern-for, plain-given, sound-alone}
 use Rattle.typing_fits.proofs.Limits.{at-width}
 use Rattle.stmt_laws.proofs.Values.{NoStream}
 use Rattle.constant_values.specs.declared.parameters.Place.{Place}
@@ -85,7 +88,14 @@ value-halts k p first t fs e H.Quiet false wide s = absurd (cc)
 pub limit-stops : (k : Source) (p : Place) (first : ℕ) (t : SvType) (fs : List Function) (e : Expr) (h : Halt) → HaltsBy h (reason (valued k first fs t e)) → HaltsBy h (reason (limited k p first t fs e))
 limit-stops k p first t fs e h s = value-halts k p first t fs e h (stops fs e) (nat_lt 65536 (width_of t)) s
 
-pub ruleset limits = (limit-halts, limit-wide, limit-value, limit-stops)
+-- what may be valued
+pub alone-fit : (e : Expr) (t : SvType) (fs : List Function) → IsGiven e t fs → FitsAlone (meaning e) (formals_in fs)
+alone-fit e t fs g = alone-fits e fs (formals_in fs) g.alone (knows-itself fs)
+
+pub given-fit : (e : Expr) (t : SvType) (fs : List Function) → IsGiven e t fs → Fits (meaning e) (formals_in fs) (assigned_width (layout t).two_state (meaning e))
+given-fit e t fs g = for-fits e t fs (formals_in fs) g.given (knows-itself fs)
+
+pub ruleset limits = (limit-halts, limit-wide, limit-value, limit-stops, alone-fit, given-fit)
 
 -- what is made of something that isn't whole
 pub where-stops : {A B : Type 0} (c : Checked A) (f : A → Checked B) (h : Halt) → HaltsBy h (reason c) → HaltsBy h (reason (where_whole c f))

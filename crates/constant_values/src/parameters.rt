@@ -41,6 +41,7 @@ pub struct Place {
 
 // The value of a parameter of a type, which begins with the token `first`: valued within its limits (E608), and of at most 65,536
 // bits (E701).
+#[tactic(auto, using(crate::proofs::Giving::limits))]
 fn limited(
     alloc: Global,
     text: Source<'_>,

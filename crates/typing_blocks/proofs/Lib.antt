@@ -1,4 +1,5 @@
 pub mod Joining
+pub mod Lists
 pub mod Taking
 pub mod Making
 pub mod Written

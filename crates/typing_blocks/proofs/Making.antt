@@ -44,28 +44,28 @@ use Rattle.constant_values.proofs.Giving.{short-is, short_value}
 use Rattle.typing_blocks.specs.Declaring.{as_value, looked, looked_by, typed_param}
 
 -- a value that is looked at by itself
-quiet-here : {A : Type 0} (gs : List Function) → IsQuiet (broken {A = A} Quiet gs) gs
+pub quiet-here : {A : Type 0} (gs : List Function) → IsQuiet (broken {A = A} Quiet gs) gs
 quiet-here gs = record { quiet = refl; functions = refl }
 
-pub looks : {A : Type 0} (k : Source) (x : Typing Operand) (r : Result O.Operand Halt) (fs gs : List Function) → TypesTo (as_operand k r) (x fs) gs → StopsBy (looked_by r) (checked {B = A} x (λ o. broken Quiet) fs) gs
-looks {A = A} k x (Ok o) fs gs h = checked-fine {B = A} x (λ v. broken Quiet) fs gs gs (operand_of k o) (Err H.Quiet) h (quiet-here gs)
-looks {A = A} k x (Err g) fs gs h = checked-stops {B = A} x (λ v. broken Quiet) fs gs g h
+pub looks : (A : Type 0) (k : Source) (x : Typing Operand) (r : Result O.Operand Halt) (fs gs : List Function) → TypesTo (as_operand k r) (x fs) gs → StopsBy (looked_by r) (checked {B = A} x (λ o. broken Quiet) fs) gs
+looks A k x (Ok o) fs gs h = checked-fine {B = A} x (λ v. broken Quiet) fs gs gs (operand_of k o) (Err H.Quiet) h (quiet-here gs)
+looks A k x (Err g) fs gs h = checked-stops {B = A} x (λ v. broken Quiet) fs gs g h
 
-alike-by : {A B C : Type 0} (h : Halt) (r : Checked C) (fs gs : List Function) → StopsBy h (applied {B = A} r (λ o. broken Quiet) fs) gs → StopsBy h (applied {B = B} r (λ o. broken Quiet) fs) gs
-alike-by H.Memory r fs gs s = tt
-alike-by (H.Breaks at n) (Ok c) fs gs s = s
-alike-by (H.Breaks at n) (Err b) fs gs s = s
-alike-by H.Quiet (Ok c) fs gs s = record { quiet = s.quiet; functions = s.functions }
-alike-by H.Quiet (Err b) fs gs s = record { quiet = s.quiet; functions = s.functions }
+alike-by : (A B : Type 0) {C : Type 0} (h : Halt) (r : Checked C) (fs gs : List Function) → StopsBy h (applied {B = A} r (λ o. broken Quiet) fs) gs → StopsBy h (applied {B = B} r (λ o. broken Quiet) fs) gs
+alike-by A B H.Memory r fs gs s = tt
+alike-by A B (H.Breaks at n) (Ok c) fs gs s = s
+alike-by A B (H.Breaks at n) (Err b) fs gs s = s
+alike-by A B H.Quiet (Ok c) fs gs s = record { quiet = s.quiet; functions = s.functions }
+alike-by A B H.Quiet (Err b) fs gs s = record { quiet = s.quiet; functions = s.functions }
 
-none-alike : {A B : Type 0} (h : Halt) (fs gs : List Function) → StopsBy h (broken {A = A} Quiet fs) gs → StopsBy h (broken {A = B} Quiet fs) gs
-none-alike H.Memory fs gs s = tt
-none-alike (H.Breaks at n) fs gs s = s
-none-alike H.Quiet fs gs s = record { quiet = s.quiet; functions = s.functions }
+none-alike : (A B : Type 0) (h : Halt) (fs gs : List Function) → StopsBy h (broken {A = A} Quiet fs) gs → StopsBy h (broken {A = B} Quiet fs) gs
+none-alike A B H.Memory fs gs s = tt
+none-alike A B (H.Breaks at n) fs gs s = s
+none-alike A B H.Quiet fs gs s = record { quiet = s.quiet; functions = s.functions }
 
-looked-alike : {A B : Type 0} (h : Halt) (k : Context) (i : Option Initializer) (fs gs : List Function) → StopsBy h (looked {A = A} k i fs) gs → StopsBy h (looked {A = B} k i fs) gs
-looked-alike {A = A} {B = B} h k None fs gs s = none-alike {A = A} {B = B} h fs gs s
-looked-alike {A = A} {B = B} h k (Some i) fs gs s = alike-by {A = A} {B = B} h (operand k i.value fs).result (operand k i.value fs).functions gs s
+looked-alike : (A B : Type 0) (h : Halt) (k : Context) (i : Option Initializer) (fs gs : List Function) → StopsBy h (looked {A = A} k i fs) gs → StopsBy h (looked {A = B} k i fs) gs
+looked-alike A B h k None fs gs s = none-alike A B h fs gs s
+looked-alike A B h k (Some i) fs gs s = alike-by A B h (operand k i.value fs).result (operand k i.value fs).functions gs s
 
 -- what is made of something that is whole
 abbrev with_some : {B : Type 0} → Typed B → Typed (Option B)
@@ -97,8 +97,8 @@ module _ (k : Context) (of : Option SvType) (d : Declarator) (fs gs hs : List Fu
   variable-whole t r p q = whole-turn the_type (λ o. with_type k o d.initial) (λ u e. local_of k d.name u e) t r fs gs hs p q
 
   with-none : (h : Halt) (i : Option Initializer) → StopsBy h (looked {A = Unit {0}} k i gs) hs → StopsBy h (with_type k None i gs) hs
-  with-none h None s = looked-alike {A = Unit {0}} {B = Option Expr} h k None gs hs s
-  with-none h (Some i) s = looked-alike {A = Unit {0}} {B = Option Expr} h k (Some i) gs hs s
+  with-none h None s = looked-alike (Unit {0}) (Option Expr) h k None gs hs s
+  with-none h (Some i) s = looked-alike (Unit {0}) (Option Expr) h k (Some i) gs hs s
 
   pub variable-quiet : (h : Halt) → TypesTo {A = SvType} (Err H.Quiet) (the_type fs) gs → StopsBy h (looked {A = Unit {0}} k d.initial gs) hs → StopsBy h (variable of d k fs) hs
   variable-quiet h p s = quiet-turn the_type (λ o. with_type k o d.initial) (λ u e. local_of k d.name u e) (Err h) fs gs hs p (with-none h d.initial s)
@@ -232,7 +232,7 @@ module _ (k : Context) (d : Declarator) (t : Option SvType) (fs gs hs : List Fun
 
   pub under-quiet : (h : Halt) → TypesTo {A = Option SvType} (Err H.Quiet) (with_dimensions k t d.unpacked fs) gs → StopsBy h (looked {A = Unit {0}} k d.initial gs) hs → StopsBy h (by_dimensions k d t fs) hs
   under-quiet h p s =
-      quiet-turn (with_dimensions k t d.unpacked) (λ o. value_by_type k d o) (λ w v. v) (Err h) fs gs hs p (looked-alike {A = Unit {0}} {B = Declared} h k d.initial gs hs s)
+      quiet-turn (with_dimensions k t d.unpacked) (λ o. value_by_type k d o) (λ w v. v) (Err h) fs gs hs p (looked-alike (Unit {0}) Declared h k d.initial gs hs s)
 
   pub under-breaks : (at n : ℕ) → TypesTo {A = Option SvType} (Err (H.Breaks at n)) (with_dimensions k t d.unpacked fs) gs → StopsBy (H.Breaks at n) (by_dimensions k d t fs) hs
   under-breaks at n p = broken-turn (with_dimensions k t d.unpacked) (λ o. value_by_type k d o) (λ w v. v) at n fs gs hs p

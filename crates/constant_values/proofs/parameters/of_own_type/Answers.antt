@@ -1,0 +1,37 @@
+use Rattle.std.proofs.Common.{◌≡◌, refl, sym, subst}
+use Rattle.std.specs.Prelude.{Ok, Err}
+use Rattle.sv_types.specs.declared.frame.ParamValue.{ParamValue}
+use Rattle.expr_type.specs.declared.halt.Halt.TheVariants as H
+use Rattle.expr_type.specs.Answers.{Gives, source}
+use Rattle.pattern_types.specs.Meaning.{operand_of}
+use Rattle.pattern_types.specs.declared.operand.Operand as O
+use Rattle.typing_fits.specs.Operands.{SoundOperand}
+use Rattle.constant_values.specs.Parameters.{of_own_type}
+use Rattle.constant_values.proofs.Giving.{own-given, own-pattern, own-plain, own-stream, plain-sound}
+use Rattle.constant_values.proofs.parameters.of_own_type.Goals as goal
+
+pub value_as-requires-clause-given : goal.value_as-requires-clause-given
+value_as-requires-clause-given c =
+    let k = source c.args.text in
+    own-given c.in-Plain.v c.args.functions.now
+    (plain-sound k c.in-Plain.v c.args.functions.now (subst (λ (x : O.Operand). SoundOperand (operand_of k x) c.args.functions.now) c.in-Plain.is c.requires.sound))
+
+pub returns-in-Plain : goal.returns-in-Plain
+returns-in-Plain c =
+    let k = source c.args.text in
+    let r = c.value_as.result in
+    subst (λ (x : O.Operand). Gives r (of_own_type k c.args.of (operand_of k x) c.args.functions.now)) (sym c.in-Plain.is)
+    (own-plain k c.args.of c.args.functions.now c.in-Plain.v r (c.value_as.ensures (Ok c.in-Plain.v.expr) tt refl))
+
+pub returns-in-Pattern : goal.returns-in-Pattern
+returns-in-Pattern c =
+    let k = source c.args.text in
+    subst (λ (x : O.Operand). Gives {A = ParamValue} (Err (H.Breaks c.in-Pattern.tick 505)) (of_own_type k c.args.of (operand_of k x) c.args.functions.now)) (sym c.in-Pattern.is)
+    (own-pattern k c.args.of c.args.functions.now c.in-Pattern.tick c.in-Pattern.times c.in-Pattern.items)
+
+pub returns-in-Stream : goal.returns-in-Stream
+returns-in-Stream c =
+    let k = source c.args.text in
+    let r = c.stream_value.result in
+    subst (λ (x : O.Operand). Gives r (of_own_type k c.args.of (operand_of k x) c.args.functions.now)) (sym c.in-Stream.is)
+    (own-stream k c.args.of c.args.functions.now c.in-Stream.v r c.stream_value.ensures)
