@@ -11,7 +11,7 @@ pub value_as-requires-clause-given : goal.value_as-requires-clause-given
 value_as-requires-clause-given c = subst (λ (r : Result Expr Halt). AllGiven r c.args.t.now c.args.functions.now) c.in_ok-e.was c.requires.given
 
 pub returns-in_err-e : goal.returns-in_err-e
-returns-in_err-e c = λ m g. pattern-stops (source c.args.text) c.args.of c.args.tick c.args.t.now c.args.functions.now c.args.made m c.in_err-e.halt c.in_err-e.was g
+returns-in_err-e c = λ m g. pattern-stops (source c.args.text) c.args.of c.args.tick c.args.t.now c.args.functions.now c.args.made m c.in_err-e.field-0 c.in_err-e.was g
 
 pub returns : goal.returns
 returns c = λ m g.

@@ -13,7 +13,7 @@ limited-requires-clause-plain c = free-plain c.args.functions.now c.args.e.now c
 
 pub returns-in_err-may_stand : goal.returns-in_err-may_stand
 returns-in_err-may_stand c = λ m here a.
-    where-stops (is_constant (source c.args.text) c.args.first c.args.functions.now c.args.e.now m) (short (source c.args.text) c.args.of c.args.t.now c.args.functions.now) c.in_err-may_stand.halt
+    where-stops (is_constant (source c.args.text) c.args.first c.args.functions.now c.args.e.now m) (short (source c.args.text) c.args.of c.args.t.now c.args.functions.now) c.in_err-may_stand.field-0
     (c.in_err-may_stand.ensures m here a)
 
 pub returns : goal.returns
