@@ -89,8 +89,10 @@ fn value_as(
     requires given { IsGivenIf other e.now t.now functions.now }
     ensures { (m : Checked AnExpr) → HereIf (source text.entry) m → Admits other e.now m → Gives result (where_whole (rule.is_constant (source text.entry) first functions.now e.now m) (short (source text.entry) of t.now functions.now)) }
 {
-    may_stand(alloc, text, first, e, other, functions, marks)?;
-    limited(alloc, text, of, first, t, e, functions)
+    match may_stand(alloc, text, first, e, other, functions, marks) {
+        Err(halt) => Err(halt),
+        Ok(()) => limited(alloc, text, of, first, t, e, functions),
+    }
 }
 
 // The value of a parameter that is given a value.
@@ -130,8 +132,10 @@ fn pattern_value(
     requires given { AllGiven made t.now functions.now }
     ensures { (m : Checked AnExpr) → Gives made m → Gives result (where_whole (rule.constant_pattern (source text.entry) tick m functions.now) (short (source text.entry) of t.now functions.now)) }
 {
-    let e = made?;
-    value_as(alloc, text, of, tick, t, &e, Ok(()), functions, marks)
+    match made {
+        Err(halt) => Err(halt),
+        Ok(e) => value_as(alloc, text, of, tick, t, &e, Ok(()), functions, marks),
+    }
 }
 
 // A stream, which is no value of a parameter: E406 where it names a signal or a local, else E512, at its `{`.
