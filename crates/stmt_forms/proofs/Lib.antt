@@ -1,0 +1,4 @@
+pub mod Wholes
+pub mod Returning
+pub mod Looping
+pub mod Zeros

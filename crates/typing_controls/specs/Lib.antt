@@ -1,0 +1,4 @@
+pub mod Written
+pub mod Conditions
+pub mod Loops
+pub mod Branches
