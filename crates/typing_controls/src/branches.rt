@@ -10,8 +10,8 @@ ghost use Rattle.typing_controls.specs.Branches.{chosen};
 ghost use Rattle.typing_steps.specs.Steps.{TypesTo};
 
 use expr_type::{Halt, Valued};
-use sv_source::Boxed;
 use std::alloc::{AllocError, Global};
+use sv_source::Boxed;
 use sv_types::{Expr, Stmt};
 use typing_lvalues::beside;
 

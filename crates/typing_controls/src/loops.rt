@@ -57,6 +57,7 @@ fn short(at: u32, found: TypeFound) -> Result<TypeFound, Halt>
 }
 
 // The type of a loop's variable.
+#[tactic(auto, using(typing_values::proofs::Putting::steps))]
 fn loop_type<B: Base, C: Fn(u32, &mut Known) -> Result<u32, Halt>>(
     alloc: Global,
     names: &Scope<'_, B>,
@@ -95,6 +96,7 @@ fn given_first<S: Names>(
 }
 
 // The first value of a loop's variable: where its type isn't whole, it is looked at for its breaks.
+#[tactic(auto, using(crate::proofs::Looping::firsts))]
 fn first_value<S: Names, C: Fn(u32, &mut Known) -> Result<u32, Halt>>(
     alloc: Global,
     names: &S,

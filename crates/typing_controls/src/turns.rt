@@ -98,6 +98,7 @@ pub fn control<S: Nets, C: Fn(u32, &mut Known) -> Result<u32, Halt>>(
 
 /// A `for` loop at its word, of a variable that stands in a scope and of what has been looked at there (IEEE 1800-2017 clause 12.7.1).
 /// The first break in the order of the text counts.
+#[tactic(auto, using(crate::proofs::Looping::loops))]
 pub fn loop_of(
     alloc: Global,
     text: Source<'_>,
