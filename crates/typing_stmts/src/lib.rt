@@ -7,9 +7,3 @@ mod parts;
 mod walk;
 
 pub use walk::{block, statement};
-
-#[cfg(test)]
-mod tests {
-    #[test]
-    fn builds() {}
-}
