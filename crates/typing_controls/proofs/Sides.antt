@@ -59,7 +59,7 @@ same-stop m (Ok a) = refl
 same-stop m (Err h) = refl
 
 -- two things that have been looked at, as what they are together
-pub together : {A B C D E : Type 0} (m : A → C) (x : Typing C) (y : Typing D) (f : C → D → E) (fs gs hs : List Function) (a : Result A Halt) (b : Result D Halt) (r : Result (A × D) Halt) → Besides a b r
+pub together : {A C D E : Type 0} (m : A → C) (x : Typing C) (y : Typing D) (f : C → D → E) (fs gs hs : List Function) (a : Result A Halt) (b : Result D Halt) (r : Result (A × D) Halt) → Besides a b r
     → TypesTo (as_meant m a) (x fs) gs → TypesTo b (y gs) hs → TypesTo (as_meant (λ (p : A × D). f (m p.0) p.1) r) (both x y (λ c d. whole (f c d)) fs) hs
 together {A = A} {D = D} m x y f fs gs hs a b (Ok p) s t u =
     both-fine x y (λ c d. whole (f c d)) fs gs hs (m p.0) p.1 (Ok (f (m p.0) p.1)) (subst (λ (z : Result A Halt). TypesTo (as_meant m z) (x fs) gs) s.0 t) (subst (λ (z : Result D Halt). TypesTo z (y gs) hs) s.1 u) refl

@@ -31,12 +31,18 @@ pub left-at : (xs : List BlockItem) (i : ℕ) (x : BlockItem) → i < length xs 
 left-at xs i x within is = drop_more xs i x within ∙ ap (λ (y : BlockItem). y ∷ drop (i + 1) xs) (sym is)
 
 -- before the first item
-pub block-starts : (v : Vec BlockPart Global) (k : Context) (items : List BlockItem) (fs : List Function) → v.items ≡ [] → MadeOf (Some v) k items (made_row k items fs) fs
+block-starts : (v : Vec BlockPart Global) (k : Context) (items : List BlockItem) (fs : List Function) → v.items ≡ [] → MadeOf (Some v) k items (made_row k items fs) fs
 block-starts v k items fs none r gs p = subst (λ (bs : List BlockPart). TypesTo (mapped (put_behind bs) r) (made_row k items fs) gs) (sym none) (by r p)
   where
     by : (r : Result (List D.BlockPart) Halt) → TypesTo r (rest_of k items fs) gs → TypesTo (mapped (put_behind []) r) (made_row k items fs) gs
     by (Ok qs) p = checked-fine (rest_of k items) (λ qs. whole (as_parts qs)) fs gs gs qs (Ok (as_parts qs)) p refl
     by (Err h) p = checked-stops (rest_of k items) (λ qs. whole (as_parts qs)) fs gs h p
+
+at-text : (made : Option (Vec BlockPart Global)) (k j : Context) (xs : List BlockItem) (row : Typed (List BlockPart)) (gs : List Function) → j ≡ k → MadeOf made k xs row gs → MadeOf made j xs row gs
+at-text made k j xs row gs e m = subst (λ (c : Context). MadeOf made c xs row gs) (sym e) m
+
+pub block-begins : (v : Vec BlockPart Global) (k j : Context) (items : List BlockItem) (fs : List Function) → j ≡ k → v.items ≡ [] → MadeOf (Some v) j items (made_row k items fs) fs
+block-begins v k j items fs same none = at-text (Some v) k j items (made_row k items fs) fs same (block-starts v k items fs none)
 
 -- one item more
 abbrev then : Context → List BlockItem → Option D.BlockPart → Typing (List D.BlockPart)
@@ -53,9 +59,6 @@ ok-is o p e = cc
 
 moved : (b : BlockPart) (as' bs : List BlockPart) (ws : List BlockPart) → ws ≡ as' ++ b ∷ [] → as' ++ (b ∷ bs) ≡ ws ++ bs
 moved b as' bs ws e = sym (ap (λ (cs : List BlockPart). cs ++ bs) e ∙ append_assoc as' (b ∷ []) bs)
-
-at-text : (made : Option (Vec BlockPart Global)) (k j : Context) (xs : List BlockItem) (row : Typed (List BlockPart)) (gs : List Function) → j ≡ k → MadeOf made k xs row gs → MadeOf made j xs row gs
-at-text made k j xs row gs e m = subst (λ (c : Context). MadeOf made c xs row gs) (sym e) m
 
 part-goes : (k : Context) (x : BlockItem) (xs : List BlockItem) (row : Typed (List BlockPart)) (fs gs : List Function) (made r : Option (Vec BlockPart Global)) (a : D.BlockPart) → AddsPart made (part_of a) (Ok r)
     → MadeOf made k (x ∷ xs) row fs → TypesTo (Ok a) (item_meaning x k fs) gs → MadeOf r (behind_part k (Some a)) xs row gs

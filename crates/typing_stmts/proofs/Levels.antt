@@ -1,22 +1,28 @@
 -- Statements and their items by their forms.
-use Rattle.std.proofs.Common.{◌≡◌, ◌<◌, Bool, true, ℕ, zero, suc, List, [], ◌∷◌, length, get_or, map, Option, Some, None, refl, arith, sym, ap, ◌∙◌, subst}
+use Rattle.std.proofs.Common.{◌≡◌, ◌<◌, ◌&&◌, Bool, true, ℕ, zero, suc, List, [], ◌∷◌, length, get_or, map, Option, Some, None, refl, arith, sym, ap, ◌∙◌, subst}
 use Rattle.std.specs.Prelude.{Result}
+use Rattle.sv_tree.specs.declared.expressions.Expr.{Expr}
 use Rattle.sv_tree.specs.declared.statements.BlockItem.{BlockItem, BlockItem-F, roll-BlockItem, map-BlockItem, fold-roll-BlockItem}
 use Rattle.sv_tree.specs.declared.statements.CaseItem.{CaseItem, CaseItem-F, roll-CaseItem, map-CaseItem, fold-roll-CaseItem}
 use Rattle.sv_tree.specs.declared.statements.Else.{Else, map-Else, out-Else, fold_out-Else}
 use Rattle.sv_tree.specs.declared.statements.Stmt.{Stmt, Stmt-F, roll-Stmt, map-Stmt, fold-roll-Stmt}
+use Rattle.sv_tree.specs.declared.statements.Stmt.TheVariants as V
+use Rattle.sv_tree.specs.declared.statements.UniquePriority.{UniquePriority}
 use Rattle.sv_types.specs.declared.statement.Function.{Function}
 use Rattle.sv_types.specs.declared.statement.Stmt as R
 use Rattle.expr_type.specs.declared.halt.Halt.{Halt}
 use Rattle.expr_type.specs.Names.{Context}
 use Rattle.expr_type.specs.Statements as D
 use Rattle.expr_type.specs.Statements.{BlockPart, CaseMeaning, PartMeaning, StmtMeaning, item_meaning, stmt_meaning}
+use Rattle.expr_type.specs.Typings.{Typing}
 use Rattle.stmt_laws.specs.Written as W
 use Rattle.stmt_laws.specs.Written.{case_written, else_written, item_written, items_written, stmt_written}
+use Rattle.typing_controls.specs.Branches.{chosen}
 use Rattle.typing_fits.proofs.Full.{and-left, and-right}
 use Rattle.typing_steps.specs.Steps.{TypesTo}
+use Rattle.typing_walks.specs.Written.{is_written}
 use Rattle.typing_stmts.specs.Meanings.{case_meaning, else_meaning}
-use Rattle.typing_stmts.specs.Written.{cases_written, else_if_written}
+use Rattle.typing_stmts.specs.Written.{cases_written, else_if_written, else_of}
 
 abbrev pub StmtLevel : Type 0
 StmtLevel = Stmt-F BlockItem CaseItem Stmt Else
@@ -53,6 +59,28 @@ stmt-meant z k s fs gs r is h =
 
 pub stmt-written : (z : StmtLevel) (s : Stmt) → s ≡ roll-Stmt z → stmt_written s ≡ true → stmt_parts z ≡ true
 stmt-written z s is w = sym (ap stmt_written is ∙ fold-roll-Stmt Bool Bool Bool Bool W.item_step W.case_step W.stmt_step W.else_step z) ∙ w
+
+-- an `if`, with what may stand behind its `else`
+module _ (promise : Option UniquePriority) (keyword opening : ℕ) (test : Expr) (closing : ℕ) (body : Stmt) where
+  if-parts : (other : Option Else) → stmt_parts (Stmt-F.If promise keyword opening test closing body other) ≡ (is_written test && (stmt_written body && else_if_written other))
+  if-parts None = refl
+  if-parts (Some e) = refl
+
+  abbrev if_level : Context → Option Else → Typing R.Stmt
+  if_level k other = chosen (D.condition k test) (stmt_meaning body k) (else_of k other)
+
+  if-level : (k : Context) (other : Option Else) → stmt_level (Stmt-F.If promise keyword opening test closing body other) k ≡ if_level k other
+  if-level k None = refl
+  if-level k (Some e) = refl
+
+  pub if-written : (s : Stmt) (other : Option Else) → s ≡ V.If promise keyword opening test closing body other → stmt_written s ≡ true → (is_written test && (stmt_written body && else_if_written other)) ≡ true
+  if-written s other is w =
+      sym (if-parts other) ∙ stmt-written (Stmt-F.If promise keyword opening test closing body other) s (is ∙ sym (V.rolls-If promise keyword opening test closing body other)) w
+
+  pub if-meant : (k : Context) (s : Stmt) (other : Option Else) (fs gs : List Function) (r : Result R.Stmt Halt) → s ≡ V.If promise keyword opening test closing body other → TypesTo r (if_level k other fs) gs → TypesTo r (D.typed_stmt k s fs) gs
+  if-meant k s other fs gs r is h =
+      stmt-meant (Stmt-F.If promise keyword opening test closing body other) k s fs gs r (is ∙ sym (V.rolls-If promise keyword opening test closing body other))
+      (subst (λ (x : Typing R.Stmt). TypesTo r (x fs) gs) (sym (if-level k other)) h)
 
 -- items of blocks
 pub item-meant : (z : ItemLevel) (k : Context) (x : BlockItem) (fs gs : List Function) (r : Result BlockPart Halt) → x ≡ roll-BlockItem z → TypesTo r (item_level z k fs) gs → TypesTo r (item_meaning x k fs) gs

@@ -1,14 +1,8 @@
 //! Items of `case` statements.
 
-ghost use Rattle.std.specs.Prelude.{◌≡◌, ◌≤◌, List, length, take, true};
-ghost use Rattle.expr_type.specs.Statements as statement;
-ghost use Rattle.expr_type.specs.Typings.{Typing};
+ghost use Rattle.std.specs.Prelude.{◌≡◌, ◌≤◌, Ok, [], length, take};
 ghost use Rattle.routine_fits.specs.Sound.{AllSoundFunctions};
-ghost use Rattle.sv_types.specs.declared.statement.Function.{Function};
-ghost use Rattle.sv_types.specs.declared.statement.Stmt as s;
-ghost use Rattle.typing_fits.specs.Sound.{Extends};
 ghost use Rattle.typing_parts.specs.Typists.{IsReady};
-ghost use Rattle.typing_steps.specs.Steps.{TypesTo};
 ghost use Rattle.typing_stmts.specs.Items.{Ends, GoesOn, IsItem, Kept, NotLacking, is_loud};
 ghost use Rattle.stmt_types.specs.Lists.{listed};
 
@@ -67,6 +61,13 @@ fn forgotten(alloc: Global, before: usize, body: &Result<Stmt, Halt>, known: &mu
         Ok(_) => {}
         Err(_) => cut(alloc, known, before),
     }
+}
+
+/// The values of `default`.
+pub(crate) fn no_values(alloc: Global) -> Result<Vec<Valued>, Halt>
+    ensures { listed result ≡ Ok [] }
+{
+    Ok(Vec::new(alloc))
 }
 
 /// An item whose values break a rule: nothing is looked at behind them.

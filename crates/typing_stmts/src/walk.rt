@@ -14,7 +14,7 @@ ghost use Rattle.typing_stmts.specs.Parts.{SoundIn, part_meant};
 ghost use Rattle.typing_stmts.specs.Written.{cases_written, else_if_written, else_of};
 ghost use Rattle.typing_walks.specs.Keeps.{Surrounded};
 
-use crate::items::{ended, ends, going_on, item_by};
+use crate::items::{ended, ends, going_on, item_by, no_values};
 use crate::parts::{Part, block_by, joined, of_declared, of_statement};
 use expr_type::Halt;
 use std::alloc::Global;
@@ -202,7 +202,8 @@ fn found_item<B: Base, C: Fn(u32, &mut Known) -> Result<u32, Halt>>(
         CaseItem::Default { body, .. } => {
             let count = known.functions.len();
             let other = statement(alloc, names, needs, body, known);
-            item_by(alloc, count, true, Ok(Vec::new(alloc)), other, known)
+            let none = no_values(alloc);
+            item_by(alloc, count, true, none, other, known)
         }
     }
 }
@@ -279,8 +280,9 @@ fn part<B: Base, C: Fn(u32, &mut Known) -> Result<u32, Halt>>(
             declarators,
             ..
         } => {
-            let (selects, declarators) = (selects.as_slice(), declarators.as_slice());
-            let declared = named_variables(alloc, names, needs, *of, selects, declarators, known);
+            let selects = selects.as_slice();
+            let declared_here = declarators.as_slice();
+            let declared = named_variables(alloc, names, needs, *of, selects, declared_here, known);
             of_declared(declared)
         }
     }

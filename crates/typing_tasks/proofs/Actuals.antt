@@ -67,10 +67,9 @@ pub target-types : (k : Context) (w : Option Way) (e : Expr) (fs gs : List Funct
     → TypesTo r (D.actual_by k w (meaning e) fs) gs
 target-types k w e fs gs b r is f p = subst (λ (t : Typing D.Actual). TypesTo r (t fs) gs) (sym (target-way k w (meaning e) (sym is ∙ f))) p
 
--- one more of them
-no-way : (n : ℕ) → slice_get {X = Way} [] n ≡ None
-no-way n = refl
+pub ruleset ways = (value-fine, value-stops, target-types)
 
+-- one more of them
 behind-way : (k : Context) (ws : List Way) (xs : List Expr) (e : Expr) → D.actuals k ws (map meaning (xs ++ e ∷ [])) ≡ D.actuals k ws (map meaning xs) ++ D.actual_by k (slice_get ws (length xs)) (meaning e) ∷ []
 behind-way k [] [] e = refl
 behind-way k (w ∷ ws) [] e = refl

@@ -1,5 +1,5 @@
 -- Calls of tasks and void functions, by what is needed and what is passed.
-use Rattle.std.proofs.Common.{◌≡◌, ⊥, ℕ, List, [], length, map, Option, Some, None, refl, sym, ap, ◌∙◌, subst}
+use Rattle.std.proofs.Common.{◌≡◌, ℕ, List, [], length, map, Option, Some, None, refl, sym, ap, ◌∙◌, subst}
 use Rattle.std.specs.Prelude.{Result, Ok, Err, Vec, slice_get}
 use Rattle.std.specs.declared.alloc.Global.{Global}
 use Rattle.std.proofs.lemmas.List.{length-map}
@@ -87,3 +87,22 @@ call-types k of es fs gs hs (Err h) ws as' r c w p e d =
     meant-stop : (b : Result (Vec Actual Global) Halt) → stop (all_meant (actual_of k.source) b) ≡ stop b
     meant-stop (Ok u) = refl
     meant-stop (Err g) = refl
+
+-- a call of what has been looked at
+same : (g h : Halt) → Some g ≡ Some h → h ≡ g
+same g h e = cc
+
+abbrev as_err : Halt → Result Stmt Halt
+as_err h = Err h
+
+pub called-stops : (k : Context) (at : ℕ) (place : Result ℕ Halt) (as' : Result (Vec Actual Global) Halt) (fs : List Function) (h : Halt) → first_stop (stop place) (stop as') ≡ Some h → Called k at place as' fs (Err h)
+called-stops k at (Ok n) (Ok v) fs h e = absurd (cc)
+called-stops k at (Ok n) (Err g) fs h e = ap as_err (same g h e)
+called-stops k at (Err g) as' fs h e = subst (λ (o : Option Halt). Stopped o (as_err h)) (sym e) refl
+
+pub called-fine : (k : Context) (at n : ℕ) (place : Result ℕ Halt) (as' : Result (Vec Actual Global) Halt) (v : Vec Actual Global) (fs : List Function) (r : Result Stmt Halt) → place ≡ Ok n → as' ≡ Ok v
+    → CallsTask k at n (slice_get fs n) (map (actual_of k.source) v.items) r → Called k at place as' fs r
+called-fine k at n place as' v fs r e f c =
+    subst (λ (p : Result ℕ Halt). Called k at p as' fs r) (sym e) (subst (λ (q : Result (Vec Actual Global) Halt). Called k at (Ok n) q fs r) (sym f) c)
+
+pub ruleset called = (called-stops, called-fine)

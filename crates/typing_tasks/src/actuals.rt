@@ -92,6 +92,7 @@ fn is_output(way: Option<&Way>) -> bool
 }
 
 // An actual by the way of its formal, if it has one.
+#[tactic(auto, using(crate::proofs::Actuals::ways))]
 fn actual<S: Nets, C: Fn(u32, &mut Known) -> Result<u32, Halt>>(
     alloc: Global,
     names: &S,

@@ -23,6 +23,7 @@ use typing_parts::{Known, Names};
 use typing_targets::Nets;
 
 // A call of what is known at a place, of actuals that have been looked at.
+#[tactic(auto, using(crate::proofs::Tasks::called))]
 fn called<S: Names>(
     alloc: Global,
     names: &S,
