@@ -1,5 +1,5 @@
 -- The first value of a loop's variable.
-use Rattle.std.specs.Prelude.{⊤, ℕ, pos, Ok}
+use Rattle.std.specs.Prelude.{⊤, ℕ, false, pos, Ok}
 use Rattle.b4_core.specs.Vectors.{vec}
 use Rattle.sv_types.specs.declared.expression.Expr.{Expr}
 use Rattle.sv_types.specs.declared.expression.Form.TheVariants as F
@@ -14,7 +14,7 @@ use Rattle.operand_types.specs.Allowed.{IsNarrow}
 use Rattle.pattern_types.specs.declared.operand.Operand.{Operand-F, out-Operand}
 use Rattle.pattern_types.specs.declared.operand.Operand as O
 
--- a value that is no pattern and no stream has at most 65,536 bits
+-- a value that is no pattern and no stream has at most 2^22 bits
 abbrev pub NarrowPlain : O.Operand → Type 0
 NarrowPlain v = elim (out-Operand v) as (λ w. Type 0) [ Operand-F.Plain u ↦ IsNarrow u | Operand-F.Pattern tick times items ↦ ⊤ | Operand-F.Stream u ↦ ⊤ ]
 

@@ -45,8 +45,8 @@ pub block-begins : (v : Vec BlockPart Global) (k j : Context) (items : List Bloc
 block-begins v k j items fs same none = at-text (Some v) k j items (made_row k items fs) fs same (block-starts v k items fs none)
 
 -- one item more
-abbrev then : Context → List BlockItem → Option D.BlockPart → Typing (List D.BlockPart)
-then k xs o = rest_of (behind_part k o) xs
+abbrev rest_behind : Context → List BlockItem → Option D.BlockPart → Typing (List D.BlockPart)
+rest_behind k xs o = rest_of (behind_part k o) xs
 
 abbrev cons : D.BlockPart → List D.BlockPart → List D.BlockPart
 cons q qs = q ∷ qs
@@ -63,21 +63,21 @@ moved b as' bs ws e = sym (ap (λ (cs : List BlockPart). cs ++ bs) e ∙ append_
 part-goes : (k : Context) (x : BlockItem) (xs : List BlockItem) (row : Typed (List BlockPart)) (fs gs : List Function) (made r : Option (Vec BlockPart Global)) (a : D.BlockPart) → AddsPart made (part_of a) (Ok r)
     → MadeOf made k (x ∷ xs) row fs → TypesTo (Ok a) (item_meaning x k fs) gs → MadeOf r (behind_part k (Some a)) xs row gs
 part-goes k x xs row fs gs (Some v) (Some w) a added m p =
-    ahead-alike (λ (qs : List D.BlockPart). put_behind v.items (a ∷ qs)) (put_behind w.items) (then k xs (Some a)) row gs (λ qs. moved (part_of a) v.items (as_parts qs) w.items added)
-    (ahead-whole (item_meaning x k) (then k xs) cons (put_behind v.items) row fs gs a m p)
+    ahead-alike (λ (qs : List D.BlockPart). put_behind v.items (a ∷ qs)) (put_behind w.items) (rest_behind k xs (Some a)) row gs (λ qs. moved (part_of a) v.items (as_parts qs) w.items added)
+    (ahead-whole (item_meaning x k) (rest_behind k xs) cons (put_behind v.items) row fs gs a m p)
 part-goes k x xs row fs gs (Some v) None a added m p = absurd added
 part-goes k x xs row fs gs None r a added m p =
-    subst (λ (o : Option (Vec BlockPart Global)). MadeOf o (behind_part k (Some a)) xs row gs) (sym (ok-is r None added)) (behind-whole (item_meaning x k) (then k xs) cons row fs gs a m p)
+    subst (λ (o : Option (Vec BlockPart Global)). MadeOf o (behind_part k (Some a)) xs row gs) (sym (ok-is r None added)) (behind-whole (item_meaning x k) (rest_behind k xs) cons row fs gs a m p)
 
 part-quiet : (k : Context) (x : BlockItem) (xs : List BlockItem) (row : Typed (List BlockPart)) (fs gs : List Function) (made : Option (Vec BlockPart Global)) → MadeOf made k (x ∷ xs) row fs
     → TypesTo {A = D.BlockPart} (Err H.Quiet) (item_meaning x k fs) gs → MadeOf None k xs row gs
-part-quiet k x xs row fs gs (Some v) m p = ahead-quiet (item_meaning x k) (then k xs) cons (put_behind v.items) row fs gs m p
-part-quiet k x xs row fs gs None m p = behind-quiet (item_meaning x k) (then k xs) cons row fs gs m p
+part-quiet k x xs row fs gs (Some v) m p = ahead-quiet (item_meaning x k) (rest_behind k xs) cons (put_behind v.items) row fs gs m p
+part-quiet k x xs row fs gs None m p = behind-quiet (item_meaning x k) (rest_behind k xs) cons row fs gs m p
 
 part-breaks : (k : Context) (x : BlockItem) (xs : List BlockItem) (row : Typed (List BlockPart)) (fs gs hs : List Function) (made : Option (Vec BlockPart Global)) (at n : ℕ) → MadeOf made k (x ∷ xs) row fs
     → TypesTo {A = D.BlockPart} (Err (H.Breaks at n)) (item_meaning x k fs) gs → StopsBy (H.Breaks at n) row hs
-part-breaks k x xs row fs gs hs (Some v) at n m p = ahead-breaks (item_meaning x k) (then k xs) cons (put_behind v.items) row fs gs at n m p hs
-part-breaks k x xs row fs gs hs None at n m p = behind-breaks (item_meaning x k) (then k xs) cons row fs gs at n m p hs
+part-breaks k x xs row fs gs hs (Some v) at n m p = ahead-breaks (item_meaning x k) (rest_behind k xs) cons (put_behind v.items) row fs gs at n m p hs
+part-breaks k x xs row fs gs hs None at n m p = behind-breaks (item_meaning x k) (rest_behind k xs) cons row fs gs at n m p hs
 
 pub joined-goes : (k j : Context) (x : BlockItem) (xs : List BlockItem) (row : Typed (List BlockPart)) (fs gs : List Function) (made r : Option (Vec BlockPart Global)) (part : Result Part Halt) → Joins made k j part (Ok r)
     → MadeOf made k (x ∷ xs) row fs → TypesTo (as_meant part_meant part) (item_meaning x k fs) gs → MadeOf r j xs row gs

@@ -1,6 +1,6 @@
 -- Statements and their items by their forms.
 use Rattle.std.proofs.Common.{◌≡◌, ◌<◌, ◌&&◌, Bool, true, ℕ, zero, suc, List, [], ◌∷◌, length, get_or, map, Option, Some, None, refl, arith, sym, ap, ◌∙◌, subst}
-use Rattle.std.specs.Prelude.{Result}
+use Rattle.std.specs.Prelude.{Result, Ok, Err}
 use Rattle.sv_tree.specs.declared.expressions.Expr.{Expr}
 use Rattle.sv_tree.specs.declared.statements.BlockItem.{BlockItem, BlockItem-F, roll-BlockItem, map-BlockItem, fold-roll-BlockItem}
 use Rattle.sv_tree.specs.declared.statements.CaseItem.{CaseItem, CaseItem-F, roll-CaseItem, map-CaseItem, fold-roll-CaseItem}
@@ -14,12 +14,13 @@ use Rattle.expr_type.specs.declared.halt.Halt.{Halt}
 use Rattle.expr_type.specs.Names.{Context}
 use Rattle.expr_type.specs.Statements as D
 use Rattle.expr_type.specs.Statements.{BlockPart, CaseMeaning, PartMeaning, StmtMeaning, item_meaning, stmt_meaning}
-use Rattle.expr_type.specs.Typings.{Typing}
+use Rattle.expr_type.specs.Typings.{Typing, checked, whole}
 use Rattle.stmt_laws.specs.Written as W
 use Rattle.stmt_laws.specs.Written.{case_written, else_written, item_written, items_written, stmt_written}
 use Rattle.typing_controls.specs.Branches.{chosen}
 use Rattle.typing_fits.proofs.Full.{and-left, and-right}
 use Rattle.typing_steps.specs.Steps.{TypesTo}
+use Rattle.typing_steps.proofs.Combining.{checked-fine, checked-stops}
 use Rattle.typing_walks.specs.Written.{is_written}
 use Rattle.typing_stmts.specs.Meanings.{case_meaning, else_meaning}
 use Rattle.typing_stmts.specs.Written.{cases_written, else_if_written, else_of}
@@ -98,12 +99,29 @@ pub case-written : (z : CaseLevel) (x : CaseItem) → x ≡ roll-CaseItem z → 
 case-written z x is w = sym (ap case_written is ∙ fold-roll-CaseItem Bool Bool Bool Bool W.item_step W.case_step W.stmt_step W.else_step z) ∙ w
 
 -- what stands behind `else`
-pub else-meant : (e : Else) → else_meaning e ≡ stmt_meaning (out-Else e).body
+else-meant : (e : Else) → else_meaning e ≡ stmt_meaning (out-Else e).body
 else-meant e = fold_out-Else PartMeaning CaseMeaning StmtMeaning StmtMeaning D.item_step D.case_step D.stmt_step D.else_step e
 
 pub else-written : (o : Option Else) (e : Else) → o ≡ Some e → else_if_written o ≡ true → stmt_written (out-Else e).body ≡ true
 else-written o e is w =
     sym (fold_out-Else Bool Bool Bool Bool W.item_step W.case_step W.stmt_step W.else_step e) ∙ subst (λ (p : Option Else). else_if_written p ≡ true) is w
+
+abbrev as_some : R.Stmt → Typing (Option R.Stmt)
+as_some u = whole (Some u)
+
+pub else-none : (k : Context) (o : Option Else) (fs : List Function) → o ≡ None → TypesTo (Ok None) (else_of k o fs) fs
+else-none k o fs is = subst (λ (p : Option Else). TypesTo (Ok None) (else_of k p fs) fs) (sym is) refl
+
+else-of : (k : Context) (o : Option Else) (e : Else) → o ≡ Some e → else_of k o ≡ checked (stmt_meaning (out-Else e).body k) as_some
+else-of k o e is = ap (else_of k) is ∙ ap (λ (m : StmtMeaning). checked (m k) as_some) (else-meant e)
+
+pub else-fine : (k : Context) (o : Option Else) (e : Else) (fs gs : List Function) (s : R.Stmt) → o ≡ Some e → TypesTo (Ok s) (stmt_meaning (out-Else e).body k fs) gs → TypesTo (Ok (Some s)) (else_of k o fs) gs
+else-fine k o e fs gs s is p =
+    subst (λ (x : Typing (Option R.Stmt)). TypesTo (Ok (Some s)) (x fs) gs) (sym (else-of k o e is)) (checked-fine (stmt_meaning (out-Else e).body k) as_some fs gs gs s (Ok (Some s)) p refl)
+
+pub else-stops : (k : Context) (o : Option Else) (e : Else) (fs gs : List Function) (h : Halt) → o ≡ Some e → TypesTo {A = R.Stmt} (Err h) (stmt_meaning (out-Else e).body k fs) gs → TypesTo {A = Option R.Stmt} (Err h) (else_of k o fs) gs
+else-stops k o e fs gs h is p =
+    subst (λ (x : Typing (Option R.Stmt)). TypesTo {A = Option R.Stmt} (Err h) (x fs) gs) (sym (else-of k o e is)) (checked-stops (stmt_meaning (out-Else e).body k) as_some fs gs h p)
 
 -- items in a row
 pub items-at : (xs : List BlockItem) (i : ℕ) (x : BlockItem) → items_written xs ≡ true → i < length xs → x ≡ get_or xs i x → item_written x ≡ true

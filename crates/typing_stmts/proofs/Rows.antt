@@ -18,6 +18,7 @@ use Rattle.expr_type.specs.Typings.{Checked, Typed, Typing, all, applied, beside
 use Rattle.stmt_types.specs.Cases.{AllFound, Found, IsFound, Stops}
 use Rattle.stmt_types.specs.Lists.{listed}
 use Rattle.stmt_types.specs.declared.cases.CaseFound.{CaseFound}
+use Rattle.typing_controls.specs.Conditions.{conditions_of}
 use Rattle.typing_steps.specs.Steps.{TypesTo}
 use Rattle.typing_steps.proofs.Lists.{all-append}
 use Rattle.typing_steps.proofs.Turns.{next-fine}
@@ -27,8 +28,10 @@ use Rattle.typing_stmts.proofs.Levels.{CaseLevel, case_level}
 
 -- each item is found, whatever it breaks
 level-whole : (z : CaseLevel) (k : Context) (fs : List Function) → (d : D.CaseFound) × ((case_level z k fs).result ≡ Ok d)
-level-whole (CaseItem-F.Values es colon body) k fs = (_, refl)
-level-whole (CaseItem-F.Default keyword colon body) k fs = (_, refl)
+level-whole (CaseItem-F.Values es colon body) k fs =
+    let r = conditions_of k es fs in
+    (record { is_default = false; values = r.result; body = (D.stmt_meaning body k r.functions).result }, refl)
+level-whole (CaseItem-F.Default keyword colon body) k fs = (record { is_default = true; values = Ok []; body = (D.stmt_meaning body k fs).result }, refl)
 
 item-is : (k : Context) (x : CaseItem) (fs : List Function) → item_of k x fs ≡ case_level (out-CaseItem x) k fs
 item-is k x fs = ap (λ (m : CaseMeaning). m k fs) (fold_out-CaseItem PartMeaning CaseMeaning StmtMeaning StmtMeaning D.item_step D.case_step D.stmt_step D.else_step x)

@@ -1,6 +1,7 @@
-use Rattle.std.proofs.Common.{◌≡◌, ◌&&◌, ℕ, true, List, [], drop, map, Option, Some, None, rules, refl, sym, ap, ◌∙◌, subst}
+use Rattle.std.proofs.Common.{◌≡◌, ◌+◌, ◌&&◌, ℕ, true, List, [], ◌∷◌, drop, map, Option, Some, None, rules, refl, sym, ap, ◌∙◌, subst}
 use Rattle.std.specs.Prelude.{Result, Ok, Err}
 use Rattle.std.proofs.lemmas.List.{drop_all}
+use Rattle.std.proofs.lemmas.Result.{err_from_is_err_and}
 use Rattle.sv_tree.specs.declared.declarations.ParameterBody.{ParameterBody}
 use Rattle.sv_tree.specs.declared.expressions.Expr.{Expr}
 use Rattle.sv_tree.specs.declared.statements.BlockItem.{BlockItem, BlockItem-F, roll-BlockItem}
@@ -30,7 +31,7 @@ use Rattle.typing_controls.specs.Written.{written_if}
 use Rattle.typing_controls.specs.Loops.{control_of, controlled, known_of, variable_of}
 use Rattle.typing_fits.proofs.Full.{and-left, and-right}
 use Rattle.typing_parts.specs.Typists.{IsReady, MakesKnown}
-use Rattle.typing_parts.proofs.Keeping.{extends-then}
+use Rattle.typing_parts.proofs.Keeping.{extends-same, extends-then}
 use Rattle.typing_scopes.specs.Scopes.{context_of}
 use Rattle.typing_scopes.proofs.Behind.{needs-alike}
 use Rattle.typing_steps.specs.Steps.{TypesTo}
@@ -46,8 +47,8 @@ use Rattle.typing_stmts.specs.Parts.{declared_part, part_meant, statement_part}
 use Rattle.typing_stmts.specs.Written.{cases_written, else_if_written, else_of}
 use Rattle.typing_stmts.proofs.Blocks.{block-begins, block-ends, joined-goes, joined-stops, left-at, row-stops}
 use Rattle.typing_stmts.proofs.Choosing.{case-lacks, case-stops, case-types}
-use Rattle.typing_stmts.proofs.Finding.{default-found, kept-extends, sound-before, values-end, values-found, within-longer}
-use Rattle.typing_stmts.proofs.Levels.{CaseLevel, ItemLevel, StmtLevel, case-written, cases-at, else-meant, else-written, if-meant, if-written, item-meant, item-written, items-at, stmt-meant, stmt-written}
+use Rattle.typing_stmts.proofs.Finding.{default-found, kept-extends, listed-loud, sound-before, values-end, values-found, within-longer}
+use Rattle.typing_stmts.proofs.Levels.{CaseLevel, ItemLevel, StmtLevel, case-written, cases-at, else-fine, else-none, else-stops, else-written, if-meant, if-written, item-meant, item-written, items-at, stmt-meant, stmt-written}
 use Rattle.typing_stmts.proofs.Rows.{all-found, found-loud, item-more, none-yet}
 use Rattle.typing_stmts.proofs.Scopes.{entered-names, entered-routine, entered-start, entered-text, joined-names, joined-routine, part-sound}
 use Rattle.typing_stmts.proofs.walk.+stmt.Goals as goal
@@ -115,6 +116,30 @@ else_branch-statement-requires g t c =
     let w : stmt_written (out-Else e).body ≡ true = else-written c.args.other.now e is c.requires.written in
     search (rules, the_lemmas)
 
+pub else_branch-returns-in-None-clause-value : goal.else_branch-returns-in-None-clause-value
+else_branch-returns-in-None-clause-value g t c =
+    let k = context_of g.B.Names.context c.args.names.now in
+    let fs = c.args.known.now.functions in
+    else-none k c.args.other.now fs c.in-None.is
+
+pub else_branch-returns-in-Some-clause-value : goal.else_branch-returns-in-Some-clause-value
+else_branch-returns-in-Some-clause-value g t c =
+    let k = context_of g.B.Names.context c.args.names.now in
+    let e = c.get-behind.result.now in
+    let is : c.args.other.now ≡ Some e = cc (c.in-Some.is, c.get-behind.ensures) in
+    else-fine k c.args.other.now e c.args.known.now.functions c.statement.new.known.functions c.in_ok-made-in-Some.made is c.in_ok-made-in-Some.ensures.value
+
+pub else_branch-returns-in_err-made-in-Some-clause-value : goal.else_branch-returns-in_err-made-in-Some-clause-value
+else_branch-returns-in_err-made-in-Some-clause-value g t c =
+    let k = context_of g.B.Names.context c.args.names.now in
+    let other = c.get-behind.result.now in
+    let is : c.args.other.now ≡ Some other = cc (c.in-Some.is, c.get-behind.ensures) in
+    let e = err_from_is_err_and c.from_residual.result c.from_residual.ensures.1 in
+    let h = c.in_err-made-in-Some.field-0.0 in
+    let fs = c.args.known.now.functions in
+    let gs = c.statement.new.known.functions in
+    subst (λ (r : Result (Option R.Stmt) Halt). TypesTo r (else_of k c.args.other.now fs) gs) (sym (e.1 ∙ ap Err e.2)) (else-stops k c.args.other.now other fs gs h is c.in_err-made-in-Some.ensures.value)
+
 -- `case` statements
 pub statement-condition-sought-requires-clause-written : goal.statement-condition-sought-requires-clause-written
 statement-condition-sought-requires-clause-written g t c =
@@ -143,9 +168,35 @@ statement-returns-in-Case-clause-value g t c =
     let hs = c.case_items.new.known.functions in
     let same : c.args.s.now ≡ V.Case i.promise i.keyword i.opening i.value i.closing xs i.end = cc (i.is, c.as_slice-cases.ensures) in
     let z : StmtLevel = Stmt-F.Case i.promise i.keyword i.opening i.value i.closing xs i.end in
-    let given = subst (λ (kind : CaseKind). Gives c.case_stmt.result (D.case_stmt k kind (found_by k.source c.in_ok-sought.sought) (map (item_found k.source) c.in_ok-found.found.items))) c.case_kind.ensures (c.case_stmt.ensures k) in
+    let given = subst (λ (kind : CaseKind). Gives c.case_stmt.result (D.case_stmt k kind (found_by k.source c.in_ok-sought-in-Case.sought) (map (item_found k.source) c.in_ok-found-in-Case.found.items))) c.case_kind.ensures (c.case_stmt.ensures k) in
     stmt-meant z k c.args.s.now fs hs c.case_stmt.result (same ∙ sym (V.rolls-Case i.promise i.keyword i.opening i.value i.closing xs i.end))
-    (case-types k i.keyword i.value xs fs gs hs c.condition-sought.result c.in_ok-sought.sought c.in_ok-found.found c.case_stmt.result c.in_ok-sought.ensures c.condition-sought.ensures.value c.in_ok-found.ensures.value given)
+    (case-types k i.keyword i.value xs fs gs hs c.condition-sought.result c.in_ok-sought-in-Case.sought c.in_ok-found-in-Case.found c.case_stmt.result c.in_ok-sought-in-Case.ensures c.condition-sought.ensures.value c.in_ok-found-in-Case.ensures.value given)
+
+pub statement-returns-in_err-sought-in-Case-clause-value : goal.statement-returns-in_err-sought-in-Case-clause-value
+statement-returns-in_err-sought-in-Case-clause-value g t c =
+    let i = c.in-Case in
+    let k = context_of g.B.Names.context c.args.names.now in
+    let fs = c.args.known.now.functions in
+    let gs = c.condition-sought.new.known.functions in
+    let z : StmtLevel = Stmt-F.Case i.promise i.keyword i.opening i.value i.closing i.items i.end in
+    let e = err_from_is_err_and c.from_residual.result c.from_residual.ensures.1 in
+    let h = c.in_err-sought-in-Case.field-0.0 in
+    subst (λ (r : Result R.Stmt Halt). TypesTo r (D.typed_stmt k c.args.s.now fs) gs) (sym (e.1 ∙ ap Err e.2))
+    (stmt-meant z k c.args.s.now fs gs (Err h) (i.is ∙ sym (V.rolls-Case i.promise i.keyword i.opening i.value i.closing i.items i.end))
+    (case-stops k i.keyword i.value i.items fs gs gs c.condition-sought.result h c.in_err-sought-in-Case.ensures c.condition-sought.ensures.value))
+
+pub statement-returns-in_err-found-in-Case-clause-value : goal.statement-returns-in_err-found-in-Case-clause-value
+statement-returns-in_err-found-in-Case-clause-value g t c =
+    let i = c.in-Case in
+    let k = context_of g.B.Names.context c.args.names.now in
+    let fs = c.args.known.now.functions in
+    let hs = c.case_items.new.known.functions in
+    let z : StmtLevel = Stmt-F.Case i.promise i.keyword i.opening i.value i.closing i.items i.end in
+    let e = err_from_is_err_and c.from_residual.result c.from_residual.ensures.1 in
+    let h = c.in_err-found-in-Case.field-0.0 in
+    subst (λ (r : Result R.Stmt Halt). TypesTo r (D.typed_stmt k c.args.s.now fs) hs) (sym (e.1 ∙ ap Err e.2))
+    (stmt-meant z k c.args.s.now fs hs (Err h) (i.is ∙ sym (V.rolls-Case i.promise i.keyword i.opening i.value i.closing i.items i.end))
+    (case-lacks k i.keyword i.value i.items fs hs h c.in_err-found-in-Case.ensures.value))
 
 -- loops
 pub statement-loop_variable-variable-requires-clause-written : goal.statement-loop_variable-variable-requires-clause-written
@@ -158,17 +209,17 @@ statement-loop_variable-variable-requires-clause-written g t c =
 pub statement-control-controlled-requires-clause-needs : goal.statement-control-controlled-requires-clause-needs
 statement-control-controlled-requires-clause-needs g t c =
     let k = context_of g.B.Names.context c.args.names.now in
-    let j = context_of g.B.Names.context c.in_ok-inner.inner in
-    needs-alike _ _ _ _ j k (entered-routine k j c.loop_variable-variable.result c.in_ok-inner.start c.in_ok-inner.ensures) c.requires.needs
+    let j = context_of g.B.Names.context c.in_ok-inner-in-For.inner in
+    needs-alike _ _ _ _ j k (entered-routine k j c.loop_variable-variable.result c.in_ok-inner-in-For.start c.in_ok-inner-in-For.ensures) c.requires.needs
 
 pub statement-control-controlled-requires-clause-names : goal.statement-control-controlled-requires-clause-names
 statement-control-controlled-requires-clause-names g t c =
     let i = c.in-For in
     let k = context_of g.B.Names.context c.args.names.now in
-    let j = context_of g.B.Names.context c.in_ok-inner.inner in
+    let j = context_of g.B.Names.context c.in_ok-inner-in-For.inner in
     let z : StmtLevel = Stmt-F.For i.keyword i.opening i.first i.first_semicolon i.test i.test_semicolon i.step i.closing i.body in
     let w = stmt-written z c.args.s.now (i.is ∙ sym (V.rolls-For i.keyword i.opening i.first i.first_semicolon i.test i.test_semicolon i.step i.closing i.body)) c.requires.written in
-    entered-names k j i.first c.loop_variable-variable.result c.in_ok-inner.start c.args.known.now.functions c.loop_variable-variable.new.known.functions c.in_ok-inner.ensures c.requires.names
+    entered-names k j i.first c.loop_variable-variable.result c.in_ok-inner-in-For.start c.args.known.now.functions c.loop_variable-variable.new.known.functions c.in_ok-inner-in-For.ensures c.requires.names
     (and-left (start_written i.first) (is_written i.test && (step_written i.step && stmt_written i.body)) w) c.requires.ready.sound c.loop_variable-variable.ensures.value
 
 pub statement-control-controlled-requires-clause-test : goal.statement-control-controlled-requires-clause-test
@@ -192,16 +243,16 @@ statement-statement-turn-requires g t c =
     let i = c.in-For in
     let b = c.get-repeated.result.now in
     let k = context_of g.B.Names.context c.args.names.now in
-    let j = context_of g.B.Names.context c.in_ok-inner.inner in
+    let j = context_of g.B.Names.context c.in_ok-inner-in-For.inner in
     let same : c.args.s.now ≡ V.For i.keyword i.opening i.first i.first_semicolon i.test i.test_semicolon i.step i.closing b = cc (i.is, c.get-repeated.ensures) in
     let z : StmtLevel = Stmt-F.For i.keyword i.opening i.first i.first_semicolon i.test i.test_semicolon i.step i.closing b in
     let all = stmt-written z c.args.s.now (same ∙ sym (V.rolls-For i.keyword i.opening i.first i.first_semicolon i.test i.test_semicolon i.step i.closing b)) c.requires.written in
     let rest = step_written i.step && stmt_written b in
     let w : stmt_written b ≡ true = and-right (step_written i.step) (stmt_written b) (and-right (is_written i.test) rest (and-right (start_written i.first) (is_written i.test && rest) all)) in
     let v = c.loop_variable-variable.result in
-    let e = c.in_ok-inner.ensures in
-    let needs = needs-alike _ _ _ _ j k (entered-routine k j v c.in_ok-inner.start e) c.requires.needs in
-    let names = entered-names k j i.first v c.in_ok-inner.start c.args.known.now.functions c.loop_variable-variable.new.known.functions e c.requires.names
+    let e = c.in_ok-inner-in-For.ensures in
+    let needs = needs-alike _ _ _ _ j k (entered-routine k j v c.in_ok-inner-in-For.start e) c.requires.needs in
+    let names = entered-names k j i.first v c.in_ok-inner-in-For.start c.args.known.now.functions c.loop_variable-variable.new.known.functions e c.requires.names
         (and-left (start_written i.first) (is_written i.test && rest) all) c.requires.ready.sound c.loop_variable-variable.ensures.value in
     search (rules, the_lemmas)
 
@@ -210,20 +261,20 @@ statement-returns-in-For-clause-value g t c =
     let i = c.in-For in
     let b = c.get-repeated.result.now in
     let k = context_of g.B.Names.context c.args.names.now in
-    let j = context_of g.B.Names.context c.in_ok-inner.inner in
+    let j = context_of g.B.Names.context c.in_ok-inner-in-For.inner in
     let fs = c.args.known.now.functions in
     let gs = c.loop_variable-variable.new.known.functions in
     let hs = c.control-controlled.new.known.functions in
     let js = c.statement-turn.new.known.functions in
     let v = c.loop_variable-variable.result in
-    let e = c.in_ok-inner.ensures in
+    let e = c.in_ok-inner-in-For.ensures in
     let same : c.args.s.now ≡ V.For i.keyword i.opening i.first i.first_semicolon i.test i.test_semicolon i.step i.closing b = cc (i.is, c.get-repeated.ensures) in
     let z : StmtLevel = Stmt-F.For i.keyword i.opening i.first i.first_semicolon i.test i.test_semicolon i.step i.closing b in
-    let text = entered-text k j v c.in_ok-inner.start e in
+    let text = entered-text k j v c.in_ok-inner-in-For.start e in
     let control = subst (λ (l : Context). TypesTo (as_meant control_of c.control-controlled.result) (controlled l i.test i.step gs) hs) text c.control-controlled.ensures.value in
     let turn = subst (λ (l : Context). TypesTo c.statement-turn.result (D.stmt_meaning b l hs) js) text c.statement-turn.ensures.value in
     stmt-meant z k c.args.s.now fs js c.loop_of.result (same ∙ sym (V.rolls-For i.keyword i.opening i.first i.first_semicolon i.test i.test_semicolon i.step i.closing b))
-    (c.loop_of.ensures k (D.loop_variable k i.first) (λ o. controlled (D.in_loop k o) i.test i.step) (λ o. D.stmt_meaning b (D.in_loop k o)) v fs gs hs js c.text.ensures (entered-start k j v c.in_ok-inner.start e) c.loop_variable-variable.ensures.value control turn)
+    (c.loop_of.ensures k (D.loop_variable k i.first) (λ o. controlled (D.in_loop k o) i.test i.step) (λ o. D.stmt_meaning b (D.in_loop k o)) v fs gs hs js c.text.ensures (entered-start k j v c.in_ok-inner-in-For.start e) c.loop_variable-variable.ensures.value control turn)
 
 pub statement-returns-in-For-clause-keeps : goal.statement-returns-in-For-clause-keeps
 statement-returns-in-For-clause-keeps g t c =
@@ -431,6 +482,32 @@ case_items-found_item-requires g t c =
     let w : case_written c.item-item.result ≡ true = cases-at c.args.items.now c.loop-item.item-index c.item-item.result c.requires.written c.loop-item-test.true c.item-item.is in
     search (rules, the_lemmas)
 
+pub case_items-loop-item-init : goal.case_items-loop-item-init
+case_items-loop-item-init g t c = record {
+  made = none-yet (context_of g.B.Names.context c.args.names.now) c.new-made.result.items c.args.known.now.functions c.new-made.ensures;
+  ready = c.requires.ready;
+  keeps = extends-same _;
+}
+
+pub case_items-loop-item-preserved : goal.case_items-loop-item-preserved
+case_items-loop-item-preserved g t c =
+    let found = c.in_ok-found.found in
+    record {
+      made =
+          item-more (context_of g.B.Names.context c.args.names.now) c.args.items.now c.loop-item.item-index c.item-item.result c.loop-item.made.items c.push.new.self.items found c.args.known.now.functions
+          c.loop-item.known.functions c.found_item.new.known.functions c.loop-item-test.true c.item-item.is c.in_ok-push.ensures.items (listed-loud found.values ∙ sym c.ends-last.ensures ∙ c.if-last.false) c.loop-item.invariant.made
+          c.in_ok-found.ensures.value;
+      ready = c.found_item.ensures.ready;
+      keeps = extends-then _ _ _ c.loop-item.invariant.keeps c.found_item.ensures.keeps;
+    }
+
+pub case_items-returns-then-last-clause-value : goal.case_items-returns-then-last-clause-value
+case_items-returns-then-last-clause-value g t c =
+    let found = c.in_ok-found.found in
+    found-loud (context_of g.B.Names.context c.args.names.now) c.args.items.now c.loop-item.item-index c.item-item.result c.loop-item.made.items c.push.new.self.items found c.args.known.now.functions
+    c.loop-item.known.functions c.found_item.new.known.functions c.loop-item-test.true c.item-item.is c.in_ok-push.ensures.items (listed-loud found.values ∙ sym c.ends-last.ensures ∙ c.if-last.true) c.loop-item.invariant.made
+    c.in_ok-found.ensures.value
+
 pub case_items-returns-clause-value : goal.case_items-returns-clause-value
 case_items-returns-clause-value g t c =
     let k = context_of g.B.Names.context c.args.names.now in
@@ -585,3 +662,54 @@ block-returns-clause-value g t c =
     let xs = c.args.items.now in
     let left : drop c.loop-item.item-index xs ≡ [] = drop_all c.loop-item.item-index xs c.loop-item-test.false in
     block-ends k j xs fs gs c.loop-item.made c.block_by.result c.block_by.ensures (subst (λ (ys : List BlockItem). MadeOf c.loop-item.made j ys (made_row k xs fs) gs) left c.loop-item.invariant.made)
+
+pub block-loop-item-init : goal.block-loop-item-init
+block-loop-item-init g t c =
+    let k = context_of g.B.Names.context c.args.names.now in
+    let j = context_of g.B.Names.context c.inside-inner.result in
+    record {
+      made = block-begins c.new.result k j c.args.items.now c.args.known.now.functions c.inside-inner.ensures.context c.new.ensures;
+      names = subst (λ (l : Context). Surrounded AllSoundFunctions l) (sym c.inside-inner.ensures.context) c.requires.names;
+      routine = ap (λ (l : Context). l.routine) c.inside-inner.ensures.context;
+      ready = c.requires.ready;
+      keeps = extends-same _;
+    }
+
+pub block-loop-item-preserved : goal.block-loop-item-preserved
+block-loop-item-preserved g t c =
+    let xs = c.args.items.now in
+    let x = c.item-item.result in
+    let n = c.loop-item.item-index in
+    let k = context_of g.B.Names.context c.args.names.now in
+    let old = context_of g.B.Names.context c.loop-item.inner in
+    let new = context_of g.B.Names.context c.joined.new.scope in
+    let fs = c.args.known.now.functions in
+    let hs = c.loop-item.known.functions in
+    let gs = c.part-next.new.known.functions in
+    let row = made_row k xs fs in
+    let left : MadeOf c.loop-item.made old (x ∷ drop (n + 1) xs) row hs = subst (λ (ys : List BlockItem). MadeOf c.loop-item.made old ys row hs) (left-at xs n x c.loop-item-test.true c.item-item.is) c.loop-item.invariant.made in
+    record {
+      made = joined-goes old new x (drop (n + 1) xs) row hs gs c.loop-item.made c.in_ok-made.made c.part-next.result c.in_ok-made.ensures left c.part-next.ensures.value;
+      names = joined-names c.loop-item.made c.in_ok-made.made old new c.part-next.result gs c.in_ok-made.ensures c.loop-item.invariant.names c.part-next.ensures.sound;
+      routine = joined-routine c.loop-item.made c.in_ok-made.made old new c.part-next.result k.routine c.in_ok-made.ensures c.loop-item.invariant.routine;
+      ready = c.part-next.ensures.ready;
+      keeps = extends-then _ _ _ c.loop-item.invariant.keeps c.part-next.ensures.keeps;
+    }
+
+pub block-returns-in_err-made-clause-value : goal.block-returns-in_err-made-clause-value
+block-returns-in_err-made-clause-value g t c =
+    let xs = c.args.items.now in
+    let x = c.item-item.result in
+    let n = c.loop-item.item-index in
+    let k = context_of g.B.Names.context c.args.names.now in
+    let old = context_of g.B.Names.context c.loop-item.inner in
+    let new = context_of g.B.Names.context c.joined.new.scope in
+    let fs = c.args.known.now.functions in
+    let hs = c.loop-item.known.functions in
+    let gs = c.part-next.new.known.functions in
+    let row = made_row k xs fs in
+    let left : MadeOf c.loop-item.made old (x ∷ drop (n + 1) xs) row hs = subst (λ (ys : List BlockItem). MadeOf c.loop-item.made old ys row hs) (left-at xs n x c.loop-item-test.true c.item-item.is) c.loop-item.invariant.made in
+    let e = err_from_is_err_and c.from_residual.result c.from_residual.ensures.1 in
+    let h = c.in_err-made.field-0.0 in
+    subst (λ (r : Result R.Stmt Halt). TypesTo r (D.block k (map D.item_meaning xs) fs) gs) (sym (e.1 ∙ ap Err e.2))
+    (row-stops k xs fs gs h (joined-stops old new x (drop (n + 1) xs) row hs gs gs c.loop-item.made c.part-next.result h c.in_err-made.ensures left c.part-next.ensures.value))
