@@ -4,20 +4,16 @@ use Rattle.std.specs.Prelude.{Result, Ok, Err, Vec}
 use Rattle.std.specs.declared.alloc.Global.{Global}
 use Rattle.std.proofs.lemmas.List.{map-id}
 use Rattle.sv_tree.specs.declared.expressions.Expr.{Expr}
-use Rattle.sv_tree.specs.declared.statements.LoopStep.{LoopStep}
-use Rattle.sv_tree.specs.declared.statements.LoopStep.TheVariants as L
 use Rattle.sv_types.specs.declared.statement.Function.{Function}
 use Rattle.expr_type.specs.declared.halt.Halt.{Halt}
 use Rattle.expr_type.specs.declared.operand.Valued.{Valued}
 use Rattle.expr_type.specs.Typings.{Typed}
-use Rattle.stmt_laws.specs.Written as W
 use Rattle.stmt_laws.specs.Written.{exprs_written}
 use Rattle.stmt_types.specs.Lists.{listed}
 use Rattle.typing_fits.proofs.Full.{and-left, and-right}
 use Rattle.typing_steps.specs.Steps.{TypesTo}
 use Rattle.typing_walks.specs.Written.{is_written}
 use Rattle.typing_calls.specs.Lists.{all_meant, as_meant}
-use Rattle.typing_lvalues.specs.Loops as V
 use Rattle.typing_controls.specs.Conditions.{as_itself}
 
 -- each of them is written
@@ -37,9 +33,3 @@ as_ok vs = Ok vs
 pub all-themselves : (r : Result (Vec Valued Global) Halt) (t : Typed (List Valued)) (fs : List Function) → TypesTo (all_meant as_itself r) t fs → TypesTo (listed r) t fs
 all-themselves (Ok v) t fs p = subst (λ (vs : List Valued). TypesTo (as_ok vs) t fs) (map-id v.items) p
 all-themselves (Err h) t fs p = p
-
--- steps of loops
-pub same-written : (s : LoopStep) → W.step_written s ≡ true → V.step_written s ≡ true
-same-written (L.Assign name op at e) w = w
-same-written (L.Postfix name op at) w = w
-same-written (L.Prefix op at name) w = w

@@ -1,4 +1,2 @@
 pub mod Written
 pub mod Conditions
-pub mod Loops
-pub mod Branches

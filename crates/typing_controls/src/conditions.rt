@@ -68,7 +68,7 @@ pub fn condition<S: Names, C: Fn(u32, &mut Known) -> Result<u32, Halt>>(
 
 /// The values of an item of a `case` (IEEE 1800-2017 clause 12.5), each of which has bits (E508). All are looked at, also behind one
 /// that isn't whole.
-pub fn conditions<S: Names, C: Fn(u32, &mut Known) -> Result<u32, Halt>>(
+pub fn item_values<S: Names, C: Fn(u32, &mut Known) -> Result<u32, Halt>>(
     alloc: Global,
     names: &S,
     needs: &C,

@@ -17,7 +17,7 @@ use Rattle.expr_type.specs.Statements.{BlockPart, CaseMeaning, PartMeaning, Stmt
 use Rattle.expr_type.specs.Typings.{Typing, checked, whole}
 use Rattle.stmt_laws.specs.Written as W
 use Rattle.stmt_laws.specs.Written.{case_written, else_written, item_written, items_written, stmt_written}
-use Rattle.typing_controls.specs.Branches.{chosen}
+use Rattle.typing_loops.specs.Branches.{chosen}
 use Rattle.typing_fits.proofs.Full.{and-left, and-right}
 use Rattle.typing_steps.specs.Steps.{TypesTo}
 use Rattle.typing_steps.proofs.Combining.{checked-fine, checked-stops}

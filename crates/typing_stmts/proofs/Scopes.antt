@@ -17,9 +17,9 @@ use Rattle.stmt_laws.proofs.Declared.{behind-sound}
 use Rattle.stmt_laws.proofs.Parts.{OfStart, loop-behind, variable-keeps}
 use Rattle.stmt_types.specs.declared.blocks.BlockPart.{BlockPart}
 use Rattle.typing_calls.specs.Lists.{as_meant}
-use Rattle.typing_controls.specs.declared.loops.LoopVariable.{LoopVariable}
-use Rattle.typing_controls.specs.declared.turns.Start.{Start}
-use Rattle.typing_controls.specs.Loops.{Entered, known_of, start_of, variable_of}
+use Rattle.typing_loops.specs.declared.loops.LoopVariable.{LoopVariable}
+use Rattle.typing_loops.specs.declared.turns.Start.{Start}
+use Rattle.typing_loops.specs.Loops.{Entered, known_of, start_of, variable_of}
 use Rattle.typing_fits.proofs.Full.{and-left, and-right}
 use Rattle.typing_scopes.specs.declared.declared.Declared.{Declared}
 use Rattle.typing_scopes.specs.Scopes.{means}

@@ -23,9 +23,8 @@ use sv_source::Boxed;
 use sv_tree::{BlockItem, CaseItem, Else, Stmt};
 use sv_types::{Locals, Stmts};
 use typing_blocks::{named_variables, parameters, variables};
-use typing_controls::{
-    choice, condition, conditions, control, entered, loop_of, loop_variable, returned,
-};
+use typing_controls::{condition, item_values, returned};
+use typing_loops::{choice, entered, loop_of, loop_variable, test_and_step};
 use typing_lvalues::{assign, counted};
 use typing_parts::{Known, Names};
 use typing_scopes::{Base, Scope};
@@ -98,7 +97,7 @@ pub fn statement<B: Base, C: Fn(u32, &mut Known) -> Result<u32, Halt>>(
         } => {
             let variable = loop_variable(alloc, names, needs, first, known);
             let (inner, start) = entered(alloc, names, variable)?;
-            let controlled = control(alloc, &inner, needs, test, step, known);
+            let controlled = test_and_step(alloc, &inner, needs, test, step, known);
             let repeated = body.get();
             let turn = statement(alloc, &inner, needs, repeated, known);
             loop_of(alloc, names.text(), *keyword, start, controlled, turn)
@@ -191,7 +190,7 @@ fn found_item<B: Base, C: Fn(u32, &mut Known) -> Result<u32, Halt>>(
     match item {
         CaseItem::Values { values, body, .. } => {
             let written = values.as_slice();
-            let found = conditions(alloc, names, needs, written, known);
+            let found = item_values(alloc, names, needs, written, known);
             if ends(&found) {
                 return ended(found);
             }

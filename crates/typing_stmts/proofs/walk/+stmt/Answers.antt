@@ -28,7 +28,7 @@ use Rattle.stmt_types.specs.Cases.{found_by, item_found}
 use Rattle.stmt_walks.specs.Written.{lvalue_written}
 use Rattle.typing_calls.specs.Lists.{as_meant}
 use Rattle.typing_controls.specs.Written.{written_if}
-use Rattle.typing_controls.specs.Loops.{control_of, controlled, known_of, variable_of}
+use Rattle.typing_loops.specs.Loops.{control_of, controlled, known_of, variable_of}
 use Rattle.typing_fits.proofs.Full.{and-left, and-right}
 use Rattle.typing_parts.specs.Typists.{IsReady, MakesKnown}
 use Rattle.typing_parts.proofs.Keeping.{extends-same, extends-then}
@@ -206,14 +206,14 @@ statement-loop_variable-variable-requires-clause-written g t c =
     let w = stmt-written z c.args.s.now (i.is ∙ sym (V.rolls-For i.keyword i.opening i.first i.first_semicolon i.test i.test_semicolon i.step i.closing i.body)) c.requires.written in
     and-left (start_written i.first) (is_written i.test && (step_written i.step && stmt_written i.body)) w
 
-pub statement-control-controlled-requires-clause-needs : goal.statement-control-controlled-requires-clause-needs
-statement-control-controlled-requires-clause-needs g t c =
+pub statement-test_and_step-controlled-requires-clause-needs : goal.statement-test_and_step-controlled-requires-clause-needs
+statement-test_and_step-controlled-requires-clause-needs g t c =
     let k = context_of g.B.Names.context c.args.names.now in
     let j = context_of g.B.Names.context c.in_ok-inner-in-For.inner in
     needs-alike _ _ _ _ j k (entered-routine k j c.loop_variable-variable.result c.in_ok-inner-in-For.start c.in_ok-inner-in-For.ensures) c.requires.needs
 
-pub statement-control-controlled-requires-clause-names : goal.statement-control-controlled-requires-clause-names
-statement-control-controlled-requires-clause-names g t c =
+pub statement-test_and_step-controlled-requires-clause-names : goal.statement-test_and_step-controlled-requires-clause-names
+statement-test_and_step-controlled-requires-clause-names g t c =
     let i = c.in-For in
     let k = context_of g.B.Names.context c.args.names.now in
     let j = context_of g.B.Names.context c.in_ok-inner-in-For.inner in
@@ -222,16 +222,16 @@ statement-control-controlled-requires-clause-names g t c =
     entered-names k j i.first c.loop_variable-variable.result c.in_ok-inner-in-For.start c.args.known.now.functions c.loop_variable-variable.new.known.functions c.in_ok-inner-in-For.ensures c.requires.names
     (and-left (start_written i.first) (is_written i.test && (step_written i.step && stmt_written i.body)) w) c.requires.ready.sound c.loop_variable-variable.ensures.value
 
-pub statement-control-controlled-requires-clause-test : goal.statement-control-controlled-requires-clause-test
-statement-control-controlled-requires-clause-test g t c =
+pub statement-test_and_step-controlled-requires-clause-test : goal.statement-test_and_step-controlled-requires-clause-test
+statement-test_and_step-controlled-requires-clause-test g t c =
     let i = c.in-For in
     let z : StmtLevel = Stmt-F.For i.keyword i.opening i.first i.first_semicolon i.test i.test_semicolon i.step i.closing i.body in
     let w = stmt-written z c.args.s.now (i.is ∙ sym (V.rolls-For i.keyword i.opening i.first i.first_semicolon i.test i.test_semicolon i.step i.closing i.body)) c.requires.written in
     let inner = step_written i.step && stmt_written i.body in
     and-left (is_written i.test) inner (and-right (start_written i.first) (is_written i.test && inner) w)
 
-pub statement-control-controlled-requires-clause-step : goal.statement-control-controlled-requires-clause-step
-statement-control-controlled-requires-clause-step g t c =
+pub statement-test_and_step-controlled-requires-clause-step : goal.statement-test_and_step-controlled-requires-clause-step
+statement-test_and_step-controlled-requires-clause-step g t c =
     let i = c.in-For in
     let z : StmtLevel = Stmt-F.For i.keyword i.opening i.first i.first_semicolon i.test i.test_semicolon i.step i.closing i.body in
     let w = stmt-written z c.args.s.now (i.is ∙ sym (V.rolls-For i.keyword i.opening i.first i.first_semicolon i.test i.test_semicolon i.step i.closing i.body)) c.requires.written in
@@ -253,7 +253,7 @@ statement-statement-turn-requires g t c =
     let e = c.in_ok-inner-in-For.ensures in
     let needs = needs-alike _ _ _ _ j k (entered-routine k j v c.in_ok-inner-in-For.start e) c.requires.needs in
     let names = entered-names k j i.first v c.in_ok-inner-in-For.start c.args.known.now.functions c.loop_variable-variable.new.known.functions e c.requires.names
-        (and-left (start_written i.first) (is_written i.test && rest) all) c.requires.ready.sound c.loop_variable-variable.ensures.value in
+    (and-left (start_written i.first) (is_written i.test && rest) all) c.requires.ready.sound c.loop_variable-variable.ensures.value in
     search (rules, the_lemmas)
 
 pub statement-returns-in-For-clause-value : goal.statement-returns-in-For-clause-value
@@ -264,21 +264,21 @@ statement-returns-in-For-clause-value g t c =
     let j = context_of g.B.Names.context c.in_ok-inner-in-For.inner in
     let fs = c.args.known.now.functions in
     let gs = c.loop_variable-variable.new.known.functions in
-    let hs = c.control-controlled.new.known.functions in
+    let hs = c.test_and_step-controlled.new.known.functions in
     let js = c.statement-turn.new.known.functions in
     let v = c.loop_variable-variable.result in
     let e = c.in_ok-inner-in-For.ensures in
     let same : c.args.s.now ≡ V.For i.keyword i.opening i.first i.first_semicolon i.test i.test_semicolon i.step i.closing b = cc (i.is, c.get-repeated.ensures) in
     let z : StmtLevel = Stmt-F.For i.keyword i.opening i.first i.first_semicolon i.test i.test_semicolon i.step i.closing b in
     let text = entered-text k j v c.in_ok-inner-in-For.start e in
-    let control = subst (λ (l : Context). TypesTo (as_meant control_of c.control-controlled.result) (controlled l i.test i.step gs) hs) text c.control-controlled.ensures.value in
+    let control = subst (λ (l : Context). TypesTo (as_meant control_of c.test_and_step-controlled.result) (controlled l i.test i.step gs) hs) text c.test_and_step-controlled.ensures.value in
     let turn = subst (λ (l : Context). TypesTo c.statement-turn.result (D.stmt_meaning b l hs) js) text c.statement-turn.ensures.value in
     stmt-meant z k c.args.s.now fs js c.loop_of.result (same ∙ sym (V.rolls-For i.keyword i.opening i.first i.first_semicolon i.test i.test_semicolon i.step i.closing b))
     (c.loop_of.ensures k (D.loop_variable k i.first) (λ o. controlled (D.in_loop k o) i.test i.step) (λ o. D.stmt_meaning b (D.in_loop k o)) v fs gs hs js c.text.ensures (entered-start k j v c.in_ok-inner-in-For.start e) c.loop_variable-variable.ensures.value control turn)
 
 pub statement-returns-in-For-clause-keeps : goal.statement-returns-in-For-clause-keeps
 statement-returns-in-For-clause-keeps g t c =
-    extends-then _ _ _ (extends-then _ _ _ c.loop_variable-variable.ensures.keeps c.control-controlled.ensures.keeps) c.statement-turn.ensures.keeps
+    extends-then _ _ _ (extends-then _ _ _ c.loop_variable-variable.ensures.keeps c.test_and_step-controlled.ensures.keeps) c.statement-turn.ensures.keeps
 
 -- statements without statements in them
 pub statement-returns-in-Break-clause-value : goal.statement-returns-in-Break-clause-value
@@ -394,8 +394,8 @@ statement-returns-in-Prefix-clause-value g t c =
     stmt-meant z k c.args.s.now c.args.known.now.functions c.counted-in-Prefix.new.known.functions c.counted-in-Prefix.result (same ∙ sym (V.rolls-Prefix i.operator i.at i.name ss i.semicolon)) c.counted-in-Prefix.ensures.value
 
 -- items of `case` statements
-pub found_item-conditions-found-requires-clause-written : goal.found_item-conditions-found-requires-clause-written
-found_item-conditions-found-requires-clause-written g t c =
+pub found_item-item_values-found-requires-clause-written : goal.found_item-item_values-found-requires-clause-written
+found_item-item_values-found-requires-clause-written g t c =
     let i = c.in-Values in
     let es = c.as_slice-written.result.now in
     let same : c.args.item.now ≡ C.Values es i.colon i.body = cc (i.is, c.as_slice-written.ensures) in
@@ -420,11 +420,11 @@ found_item-statement-other-requires g t c =
 
 pub found_item-item_by-requires-clause-within : goal.found_item-item_by-requires-clause-within
 found_item-item_by-requires-clause-within g t c =
-    within-longer c.conditions-found.new.known.functions c.statement-made.new.known.functions c.len-before.result c.len-before.ensures c.statement-made.ensures.keeps
+    within-longer c.item_values-found.new.known.functions c.statement-made.new.known.functions c.len-before.result c.len-before.ensures c.statement-made.ensures.keeps
 
 pub found_item-item_by-requires-clause-sound : goal.found_item-item_by-requires-clause-sound
 found_item-item_by-requires-clause-sound g t c =
-    sound-before c.conditions-found.new.known.functions c.statement-made.new.known.functions c.len-before.result c.len-before.ensures c.statement-made.ensures.keeps c.conditions-found.ensures.ready.sound
+    sound-before c.item_values-found.new.known.functions c.statement-made.new.known.functions c.len-before.result c.len-before.ensures c.statement-made.ensures.keeps c.item_values-found.ensures.ready.sound
 
 pub found_item-item_by-in-Default-requires-clause-within : goal.found_item-item_by-in-Default-requires-clause-within
 found_item-item_by-in-Default-requires-clause-within g t c =
@@ -440,8 +440,8 @@ found_item-returns-then-ends-clause-value g t c =
     let k = context_of g.B.Names.context c.args.names.now in
     let es = c.as_slice-written.result.now in
     let same : c.args.item.now ≡ C.Values es i.colon i.body = cc (i.is, c.as_slice-written.ensures) in
-    let gs = c.conditions-found.new.known.functions in
-    values-end k c.args.item.now es i.colon i.body c.args.known.now.functions gs c.conditions-found.result (same ∙ sym (C.rolls-Values es i.colon i.body)) c.conditions-found.ensures.value c.ended.result gs
+    let gs = c.item_values-found.new.known.functions in
+    values-end k c.args.item.now es i.colon i.body c.args.known.now.functions gs c.item_values-found.result (same ∙ sym (C.rolls-Values es i.colon i.body)) c.item_values-found.ensures.value c.ended.result gs
     (sym c.ends.ensures ∙ c.if-ends.true) c.ended.ensures
 
 pub found_item-returns-in-Values-clause-value : goal.found_item-returns-in-Values-clause-value
@@ -450,17 +450,17 @@ found_item-returns-in-Values-clause-value g t c =
     let k = context_of g.B.Names.context c.args.names.now in
     let es = c.as_slice-written.result.now in
     let same : c.args.item.now ≡ C.Values es i.colon i.body = cc (i.is, c.as_slice-written.ensures) in
-    let gs = c.conditions-found.new.known.functions in
+    let gs = c.item_values-found.new.known.functions in
     let hs = c.statement-made.new.known.functions in
     let js = c.item_by.new.known.functions in
     let made = c.statement-made.result in
-    values-found k c.args.item.now es i.colon i.body c.args.known.now.functions gs c.conditions-found.result (same ∙ sym (C.rolls-Values es i.colon i.body)) c.conditions-found.ensures.value c.item_by.result made hs js
+    values-found k c.args.item.now es i.colon i.body c.args.known.now.functions gs c.item_values-found.result (same ∙ sym (C.rolls-Values es i.colon i.body)) c.item_values-found.ensures.value c.item_by.result made hs js
     (sym c.ends.ensures ∙ c.if-ends.false) c.statement-made.ensures.value c.statement-made.ensures.keeps (subst (λ (n : ℕ). Kept made hs js n) c.len-before.ensures c.item_by.ensures.functions) c.item_by.ensures.item
 
 pub found_item-returns-in-Values-clause-keeps : goal.found_item-returns-in-Values-clause-keeps
 found_item-returns-in-Values-clause-keeps g t c =
-    extends-then _ _ _ c.conditions-found.ensures.keeps
-    (kept-extends c.statement-made.result c.conditions-found.new.known.functions c.statement-made.new.known.functions c.item_by.new.known.functions c.len-before.result c.len-before.ensures c.statement-made.ensures.keeps c.item_by.ensures.functions)
+    extends-then _ _ _ c.item_values-found.ensures.keeps
+    (kept-extends c.statement-made.result c.item_values-found.new.known.functions c.statement-made.new.known.functions c.item_by.new.known.functions c.len-before.result c.len-before.ensures c.statement-made.ensures.keeps c.item_by.ensures.functions)
 
 pub found_item-returns-in-Default-clause-value : goal.found_item-returns-in-Default-clause-value
 found_item-returns-in-Default-clause-value g t c =
@@ -560,17 +560,17 @@ part-returns-in-Parameters-clause-sound g t c =
 pub part-variables-declared-requires-clause-type_written : goal.part-variables-declared-requires-clause-type_written
 part-variables-declared-requires-clause-type_written g t c =
     let i = c.in-Variables in
-    let z : ItemLevel = BlockItem-F.Variables i.automatic i.var i.of i.declarators i.semicolon in
-    let w = item-written z c.args.item.now (i.is ∙ sym (B.rolls-Variables i.automatic i.var i.of i.declarators i.semicolon)) c.requires.written in
+    let z : ItemLevel = BlockItem-F.Variables i.automatic i.«var» i.of i.declarators i.semicolon in
+    let w = item-written z c.args.item.now (i.is ∙ sym (B.rolls-Variables i.automatic i.«var» i.of i.declarators i.semicolon)) c.requires.written in
     and-left (type_written i.of) (declarators_written i.declarators) w
 
 pub part-variables-declared-requires-clause-written : goal.part-variables-declared-requires-clause-written
 part-variables-declared-requires-clause-written g t c =
     let i = c.in-Variables in
     let ds = c.as_slice-declarators.result.now in
-    let same : c.args.item.now ≡ B.Variables i.automatic i.var i.of ds i.semicolon = cc (i.is, c.as_slice-declarators.ensures) in
-    let z : ItemLevel = BlockItem-F.Variables i.automatic i.var i.of ds i.semicolon in
-    let w = item-written z c.args.item.now (same ∙ sym (B.rolls-Variables i.automatic i.var i.of ds i.semicolon)) c.requires.written in
+    let same : c.args.item.now ≡ B.Variables i.automatic i.«var» i.of ds i.semicolon = cc (i.is, c.as_slice-declarators.ensures) in
+    let z : ItemLevel = BlockItem-F.Variables i.automatic i.«var» i.of ds i.semicolon in
+    let w = item-written z c.args.item.now (same ∙ sym (B.rolls-Variables i.automatic i.«var» i.of ds i.semicolon)) c.requires.written in
     and-right (type_written i.of) (declarators_written ds) w
 
 pub part-returns-in-Variables-clause-value : goal.part-returns-in-Variables-clause-value
@@ -580,9 +580,9 @@ part-returns-in-Variables-clause-value g t c =
     let fs = c.args.known.now.functions in
     let gs = c.variables-declared.new.known.functions in
     let ds = c.as_slice-declarators.result.now in
-    let same : c.args.item.now ≡ B.Variables i.automatic i.var i.of ds i.semicolon = cc (i.is, c.as_slice-declarators.ensures) in
-    let z : ItemLevel = BlockItem-F.Variables i.automatic i.var i.of ds i.semicolon in
-    item-meant z k c.args.item.now fs gs (as_meant part_meant c.of_declared-in-Variables.result) (same ∙ sym (B.rolls-Variables i.automatic i.var i.of ds i.semicolon))
+    let same : c.args.item.now ≡ B.Variables i.automatic i.«var» i.of ds i.semicolon = cc (i.is, c.as_slice-declarators.ensures) in
+    let z : ItemLevel = BlockItem-F.Variables i.automatic i.«var» i.of ds i.semicolon in
+    item-meant z k c.args.item.now fs gs (as_meant part_meant c.of_declared-in-Variables.result) (same ∙ sym (B.rolls-Variables i.automatic i.«var» i.of ds i.semicolon))
     (c.of_declared-in-Variables.ensures.value (D.variables_of k (typed_text i.of k) ds) fs gs c.variables-declared.ensures.value)
 
 pub part-returns-in-Variables-clause-sound : goal.part-returns-in-Variables-clause-sound
@@ -590,9 +590,9 @@ part-returns-in-Variables-clause-sound g t c =
     let i = c.in-Variables in
     let k = context_of g.B.Names.context c.args.names.now in
     let ds = c.as_slice-declarators.result.now in
-    let same : c.args.item.now ≡ B.Variables i.automatic i.var i.of ds i.semicolon = cc (i.is, c.as_slice-declarators.ensures) in
-    let z : ItemLevel = BlockItem-F.Variables i.automatic i.var i.of ds i.semicolon in
-    let w = item-written z c.args.item.now (same ∙ sym (B.rolls-Variables i.automatic i.var i.of ds i.semicolon)) c.requires.written in
+    let same : c.args.item.now ≡ B.Variables i.automatic i.«var» i.of ds i.semicolon = cc (i.is, c.as_slice-declarators.ensures) in
+    let z : ItemLevel = BlockItem-F.Variables i.automatic i.«var» i.of ds i.semicolon in
+    let w = item-written z c.args.item.now (same ∙ sym (B.rolls-Variables i.automatic i.«var» i.of ds i.semicolon)) c.requires.written in
     part-sound c.variables-declared.result c.of_declared-in-Variables.result (D.variables_of k (typed_text i.of k) ds) c.args.known.now.functions c.variables-declared.new.known.functions c.of_declared-in-Variables.ensures.same
     c.variables-declared.ensures.value
     (variables-keep AllSoundFunctions k (typed_text i.of k) ds c.requires.names (and-right (type_written i.of) (declarators_written ds) w) (text-keeps AllSoundFunctions k i.of c.requires.names (and-left (type_written i.of) (declarators_written ds) w)))

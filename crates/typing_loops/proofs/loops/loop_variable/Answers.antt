@@ -1,7 +1,7 @@
 use Rattle.typing_parts.proofs.Keeping.{extends-then}
 use Rattle.typing_scopes.specs.Scopes.{context_of}
-use Rattle.typing_controls.proofs.Looping.{variable-types}
-use Rattle.typing_controls.proofs.loops.loop_variable.Goals as goal
+use Rattle.typing_loops.proofs.Looping.{variable-types}
+use Rattle.typing_loops.proofs.loops.loop_variable.Goals as goal
 
 pub returns-clause-value : goal.returns-clause-value
 returns-clause-value g c =

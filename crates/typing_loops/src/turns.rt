@@ -10,8 +10,8 @@ ghost use Rattle.sv_types.specs.declared.statement.Function.{Function};
 ghost use Rattle.sv_types.specs.declared.statement.Stmt as s;
 ghost use Rattle.stmt_laws.specs.Written.{step_written};
 ghost use Rattle.typing_calls.specs.Lists.{as_meant};
-ghost use Rattle.typing_controls.specs.Loops.{Entered, control_of, controlled, known_of, looped, start_of, variable_of};
-ghost use Rattle.typing_controls.specs.declared.loops.LoopVariable as variable;
+ghost use Rattle.typing_loops.specs.Loops.{Entered, control_of, controlled, known_of, looped, start_of, variable_of};
+ghost use Rattle.typing_loops.specs.declared.loops.LoopVariable as variable;
 ghost use Rattle.typing_fits.specs.Sound.{Extends};
 ghost use Rattle.typing_parts.specs.Typists.{IsReady, MakesKnown};
 ghost use Rattle.typing_scopes.specs.Scopes.{context_of};
@@ -21,13 +21,13 @@ ghost use Rattle.typing_walks.specs.Written.{is_written};
 ghost use Rattle.expr_type.specs.declared.halt.Halt as h;
 ghost use Rattle.std.specs.Prelude as p;
 
-use crate::conditions::condition;
 use crate::loops::LoopVariable;
 use expr_type::{Halt, Source, Valued};
 use std::alloc::{AllocError, Global};
 use stmt_forms::{Head, loop_stmt};
 use sv_tree::LoopStep;
 use sv_types::{Expr, Stmt};
+use typing_controls::condition;
 use typing_lvalues::{beside, loop_step};
 use typing_parts::Known;
 use typing_scopes::{Base, Scope};
@@ -73,7 +73,7 @@ pub fn entered<'s, B: Base>(
 
 /// The test and the step of a loop (IEEE 1800-2017 clause 12.7.1). The first break in the order of the text counts.
 #[tactic(auto, using(crate::proofs::Sides::controls))]
-pub fn control<S: Nets, C: Fn(u32, &mut Known) -> Result<u32, Halt>>(
+pub fn test_and_step<S: Nets, C: Fn(u32, &mut Known) -> Result<u32, Halt>>(
     alloc: Global,
     names: &S,
     needs: &C,

@@ -4,7 +4,7 @@ use Rattle.typing_calls.proofs.Each.{all-types, turn-types}
 use Rattle.typing_calls.specs.Lists.{all_meant}
 use Rattle.typing_controls.specs.Conditions.{as_itself, conditions_of}
 use Rattle.typing_controls.proofs.Conditions.{all-themselves, one-itself, written-at}
-use Rattle.typing_controls.proofs.conditions.conditions.Goals as goal
+use Rattle.typing_controls.proofs.conditions.item_values.Goals as goal
 
 pub condition-next-requires-clause-written : goal.condition-next-requires-clause-written
 condition-next-requires-clause-written g c = written-at c.args.es.now c.loop-e.e-index c.e-item.result c.requires.written c.loop-e-test.true c.e-item.is

@@ -12,7 +12,7 @@ ghost use Rattle.routine_fits.specs.Sound.{AllSoundFunctions};
 ghost use Rattle.stmt_laws.specs.Written.{start_written};
 ghost use Rattle.sv_types.specs.Layouts.{width_of};
 ghost use Rattle.typing_calls.specs.Lists.{as_meant};
-ghost use Rattle.typing_controls.specs.Loops.{GivenFirst, VariableAt, known_of, variable_of};
+ghost use Rattle.typing_loops.specs.Loops.{GivenFirst, VariableAt, known_of, variable_of};
 ghost use Rattle.typing_fits.specs.Sound.{Extends};
 ghost use Rattle.typing_parts.specs.Typists.{IsNarrowOperand, IsReady, MakesKnown};
 ghost use Rattle.typing_scopes.specs.Scopes.{context_of};

@@ -16,9 +16,9 @@ use Rattle.expr_type.specs.Types.{TypeFound}
 use Rattle.expr_type.specs.Typings.{Typing, both, both_by, whole}
 use Rattle.frame_things.specs.Finding.{local_id}
 use Rattle.typing_lvalues.specs.Sides.{first_stop, stop}
-use Rattle.typing_controls.specs.declared.loops.LoopVariable.{LoopVariable}
-use Rattle.typing_controls.specs.declared.turns.Control.{Control}
-use Rattle.typing_controls.specs.declared.turns.Start.{Start}
+use Rattle.typing_loops.specs.declared.loops.LoopVariable.{LoopVariable}
+use Rattle.typing_loops.specs.declared.turns.Control.{Control}
+use Rattle.typing_loops.specs.declared.turns.Start.{Start}
 
 -- what is whole
 abbrev pub known_of : {A : Type 0} → Result A Halt → Option A

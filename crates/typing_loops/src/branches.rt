@@ -6,7 +6,7 @@ ghost use Rattle.expr_type.specs.Typings.{Typing};
 ghost use Rattle.sv_types.specs.declared.statement.Function.{Function};
 ghost use Rattle.sv_types.specs.declared.statement.Stmt as s;
 ghost use Rattle.sv_types.specs.declared.statement.Stmt.TheVariants as made;
-ghost use Rattle.typing_controls.specs.Branches.{chosen};
+ghost use Rattle.typing_loops.specs.Branches.{chosen};
 ghost use Rattle.typing_steps.specs.Steps.{TypesTo};
 
 use expr_type::{Halt, Valued};

@@ -19,8 +19,8 @@ use Rattle.typing_steps.proofs.Following.{by-fine, by-breaks, by-second, by-quie
 use Rattle.typing_calls.specs.Lists.{as_meant}
 use Rattle.typing_lvalues.specs.Sides.{Besides, first_stop, stop}
 use Rattle.typing_lvalues.proofs.Together.{beside-stops}
-use Rattle.typing_controls.specs.Branches.{chosen}
-use Rattle.typing_controls.specs.Loops.{controlled, known_of}
+use Rattle.typing_loops.specs.Branches.{chosen}
+use Rattle.typing_loops.specs.Loops.{controlled, known_of}
 
 -- both of them
 pub both-stops : {A B C : Type 0} (x : Typing A) (y : Typing B) (f : A → B → Typing C) (fs gs hs : List Function) (a : Result A Halt) (b : Result B Halt) (h : Halt) → first_stop (stop a) (stop b) ≡ Some h

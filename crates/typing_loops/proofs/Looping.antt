@@ -21,11 +21,11 @@ use Rattle.typing_steps.specs.Steps.{TypesTo}
 use Rattle.typing_steps.proofs.Combining.{checked-fine, checked-stops, rule-types}
 use Rattle.typing_calls.specs.Lists.{as_meant}
 use Rattle.typing_lvalues.specs.Sides.{Besides, first_stop, stop}
-use Rattle.typing_controls.specs.declared.loops.LoopVariable.{LoopVariable}
-use Rattle.typing_controls.specs.declared.turns.Control.{Control}
-use Rattle.typing_controls.specs.declared.turns.Start.{Start}
-use Rattle.typing_controls.specs.Loops.{GivenFirst, VariableAt, control_of, known_of, looped, start_of, variable_of}
-use Rattle.typing_controls.proofs.Sides.{both-fine, both-stops, by-both-fine, by-both-stops, same-stop, together}
+use Rattle.typing_loops.specs.declared.loops.LoopVariable.{LoopVariable}
+use Rattle.typing_loops.specs.declared.turns.Control.{Control}
+use Rattle.typing_loops.specs.declared.turns.Start.{Start}
+use Rattle.typing_loops.specs.Loops.{GivenFirst, VariableAt, control_of, known_of, looped, start_of, variable_of}
+use Rattle.typing_loops.proofs.Sides.{both-fine, both-stops, by-both-fine, by-both-stops, same-stop, together}
 
 -- the first value
 pub first-stops : (k : Context) (l : LoopStart) (o : Option TypeFound) (fs gs : List Function) (h : Halt) → TypesTo {A = Operand} (Err h) (operand k l.value fs) gs → TypesTo {A = Expr} (Err h) (D.first_by k l o fs) gs

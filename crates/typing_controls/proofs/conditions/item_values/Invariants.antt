@@ -4,7 +4,7 @@ use Rattle.typing_steps.specs.Steps.{TypesTo}
 use Rattle.typing_parts.specs.Typists.{IsReady}
 use Rattle.typing_calls.specs.Lists.{all_meant}
 use Rattle.typing_controls.specs.Conditions.{as_itself, conditions_of}
-use Rattle.typing_controls.proofs.conditions.conditions.Given as goal
+use Rattle.typing_controls.proofs.conditions.item_values.Given as goal
 
 abbrev pub invariant-loop-e : goal.invariant-loop-e
 invariant-loop-e g l =
