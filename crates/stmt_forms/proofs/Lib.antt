@@ -1,4 +1,5 @@
 pub mod Wholes
 pub mod Returning
+pub mod Choosing
 pub mod Looping
 pub mod Zeros
