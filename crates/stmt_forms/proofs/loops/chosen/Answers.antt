@@ -1,4 +1,3 @@
-use Rattle.std.proofs.Common.{◌≡◌}
 use Rattle.expr_type.specs.Answers.{source}
 use Rattle.stmt_forms.proofs.Choosing.{chosen-fine, ok-same, ok-then}
 use Rattle.stmt_forms.proofs.loops.chosen.Goals as goal
