@@ -3,3 +3,4 @@ pub mod Ranges
 pub mod Sums
 pub mod Taking
 pub mod Said
+pub mod Far

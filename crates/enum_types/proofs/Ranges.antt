@@ -45,18 +45,18 @@ both-true true false e = absurd (true≢false (sym e))
 both-true false b e = absurd (true≢false (sym e))
 
 -- the least and the largest number by sign and width
-abbrev least : Bool → ℕ → ℤ
+abbrev pub least : Bool → ℕ → ℤ
 least s w = cond s (neg_ℤ (pos (2 ^ (w - 1)))) (pos 0)
 
-abbrev largest : Bool → ℕ → ℤ
+abbrev pub largest : Bool → ℕ → ℤ
 largest s w = cond s (pos (2 ^ (w - 1))) (pos (2 ^ w)) -ℤ pos 1
 
-record Within (s : Bool) (w : ℕ) (n : ℤ) : Type 0 where
-  low : least s w ≤ℤ n
-  high : n ≤ℤ largest s w
+pub record Within (s : Bool) (w : ℕ) (n : ℤ) : Type 0 where
+  pub low : least s w ≤ℤ n
+  pub high : n ≤ℤ largest s w
 
 -- a vector's number is one of them
-within : (s : Bool) (w : ℕ) (v : List Bit4) → length v ≡ w → 0 < w → known v ≡ true → Within s w (number s v)
+pub within : (s : Bool) (w : ℕ) (v : List Bit4) → length v ≡ w → 0 < w → known v ≡ true → Within s w (number s v)
 within true w v e h k =
     let fits = snum-fits (w - 1) v (omega arith) k in
     record { low = fits.above; high = omega (arith, ints, fits.below) }
@@ -91,7 +91,7 @@ cut-known s w v u k e = ap known e ∙ known-cut w (as_signed s v) (known-signed
 by-range : (t : SvType) (n : ℤ) (o : Option ℤ) (u : List Bit4) → o ≡ Some n → HasBits t u n → BitsOf t (Some u) o
 by-range t n o u e b = subst (λ (x : Option ℤ). BitsOf t (Some u) x) (sym e) b
 
-known-value : (t : SvType) (s : Bool) (v : List Bit4) → known v ≡ true
+pub known-value : (t : SvType) (s : Bool) (v : List Bit4) → known v ≡ true
     → value_in t s v ≡ in_range (least_value t) (most_value t) (Some (number s v))
 known-value t s v k = ap (λ b. in_range (least_value t) (most_value t) (cond b (Some (number s v)) None)) k
 

@@ -84,8 +84,8 @@ after-long : (s : Bool) (v value wide next : List Bit4) → value ≡ as_signed 
 after-long s v value wide next a w n =
     ap length n ∙ length-carried true wide ∙ ap length w ∙ length-ext (length value + 1) true value ∙ ap (λ x. length x + 1) a
 
-pub after-short : (s : Bool) (v value wide next : List Bit4) → length v ≤ 65536 → value ≡ as_signed s v → wide ≡ ext (length value + 1) true value → next ≡ carried true wide
-    → length next ≤ 65538
+pub after-short : (s : Bool) (v value wide next : List Bit4) → length v ≤ 4194304 → value ≡ as_signed s v → wide ≡ ext (length value + 1) true value → next ≡ carried true wide
+    → length next ≤ 4194306
 after-short s v value wide next h a w n = (let l = after-long s v value wide next a w n in let m = length-signed s v in omega arith)
 
 pub after-some : (s : Bool) (v value wide next : List Bit4) → value ≡ as_signed s v → wide ≡ ext (length value + 1) true value → next ≡ carried true wide

@@ -5,6 +5,6 @@ mod naming;
 mod taken;
 mod values;
 
-pub use naming::named_value;
+pub use naming::{is_long, named_value};
 pub use taken::Taken;
-pub use values::{in_base, value_after};
+pub use values::{holds, in_base, value_after};

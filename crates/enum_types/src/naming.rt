@@ -17,8 +17,8 @@ use sv_types::{SvType, is_narrow, width};
 /// The most bits of a constant.
 pub const MOST_BITS: u32 = 65_536;
 
-// Whether a type has more bits than that.
-fn is_long(t: &SvType) -> bool
+/// Whether a type has more bits than that.
+pub fn is_long(t: &SvType) -> bool
     ensures { result ≡ nat_lt 65536 (width_of t.now) }
 {
     if is_narrow(t) {

@@ -71,16 +71,16 @@ is_alone _ = false
 abbrev pub uses_path : QualifiedName → Role → SelectPath → Part
 uses_path of role path = put (E.Uses (package_in of.scope) of.name role path)
 
--- a name alone is a pattern's key as it stands, so it isn't looked up
-abbrev pub key_name : Bool → QualifiedName → SelectPath → Part
-key_name true of path = nothing
-key_name false of path = uses_path of R.Value path
+-- A name alone as a pattern's key is the name of a member or a constant, by the pattern's type.
+abbrev pub key_role : Bool → Role
+key_role true = R.Key
+key_role false = R.Value
 
 abbrev pub name_in : Position → QualifiedName → SelectPath → Part
 name_in Q.Value of path = uses_path of R.Value path
 name_in Q.ValueOrType of path = uses_path of R.ValueOrType path
 name_in (Q.Argument function) of path = uses_path of (R.Argument function) path
-name_in Q.Key of path = key_name (is_none of.scope && is_alone path) of path
+name_in Q.Key of path = uses_path of (key_role (is_none of.scope && is_alone path)) path
 name_in Q.Connection of path = uses_path of R.Connection path
 
 -- what stands before a cast is a type or a size

@@ -135,6 +135,8 @@ pub enum Role {
     Step,
     /// As a signal that a modport lists.
     ModportPort,
+    /// As the key of a pattern's item, where it stands alone: the name of a member, or a constant.
+    Key,
 }
 
 /// What kind of select stands behind a name.

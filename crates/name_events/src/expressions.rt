@@ -173,20 +173,11 @@ pub fn uses_path(
     })
 }
 
-/// A name as the key of a pattern's item, which is looked up unless it stands alone.
-fn key_name(
-    alone: bool,
-    of: QualifiedName,
-    path: SelectPath,
-    to: &mut Events,
-) -> Result<(), AllocError>
-    ensures { OnOk result (to.new ≡ means.key_name alone of path to.old) }
+/// As what a name is used that is the key of a pattern's item, alone or not.
+fn key_role(alone: bool) -> Role
+    ensures { result ≡ means.key_role alone }
 {
-    if alone {
-        Ok(())
-    } else {
-        uses_path(of, Role::Value, path, to)
-    }
+    if alone { Role::Key } else { Role::Value }
 }
 
 /// A name without a cast behind it.
@@ -202,7 +193,10 @@ fn name_in(
         Position::Value => uses_path(of, Role::Value, path, to),
         Position::ValueOrType => uses_path(of, Role::ValueOrType, path, to),
         Position::Argument(function) => uses_path(of, Role::Argument(function), path, to),
-        Position::Key => key_name(of.scope.is_none() && is_alone(path), of, path, to),
+        Position::Key => {
+            let role = key_role(of.scope.is_none() && is_alone(path));
+            uses_path(of, role, path, to)
+        }
         Position::Connection => uses_path(of, Role::Connection, path, to),
     }
 }

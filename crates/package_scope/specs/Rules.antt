@@ -246,6 +246,7 @@ fits_role R.Edge ts t u d = is_signal ts t d.how || is_member_of ts t u d
 fits_role R.LoopGenvar ts t u d = is_genvar d.how
 fits_role R.Step ts t u d = true
 fits_role R.ModportPort ts t u d = is_signal ts t d.how
+fits_role R.Key ts t u d = true
 
 -- a function or task names a signal, or a member of an interface, outside itself
 abbrev pub names_signal : List Token → Table → Use → Declaration → Bool
@@ -274,8 +275,13 @@ abbrev pub use_breaks_in : List Token → Table → Use → Option ℕ → List 
 use_breaks_in ts t u None = found_breaks ts t u (finds ts t u)
 use_breaks_in ts t u (Some holder) = package_breaks ts t holder (found_breaks ts t u (finds ts t u))
 
+-- A pattern's key that is a name alone breaks nothing here: whether it is a member's name shows by the pattern's type.
+abbrev pub is_key : Role → Bool
+is_key R.Key = true
+is_key _ = false
+
 abbrev pub use_breaks : List Token → Table → Use → List Break
-use_breaks ts t u = use_breaks_in ts t u u.source
+use_breaks ts t u = cond (is_key u.role) [] (use_breaks_in ts t u u.source)
 
 abbrev pub import_breaks : List Token → Table → NamedImport → List Break
 import_breaks ts t i =
@@ -379,26 +385,34 @@ call_by ts t u = call_to t u (declared_by t (finds ts t u))
 abbrev pub calls : List Token → Table → List Call
 calls ts t = flat_map (call_by ts t) t.uses
 
--- a constant, type or enum name that a routine names and that is declared outside functions
+-- A constant, type or enum name that a routine names and that is declared outside functions; by a pattern's key that is a name alone
+-- also a signal, whether the key turns out to be a member's name or not.
 abbrev pub is_constant_kind : DeclKind → Bool
 is_constant_kind K.Constant = true
 is_constant_kind K.TypeName = true
 is_constant_kind K.EnumName = true
 is_constant_kind _ = false
 
-abbrev pub is_needed : Table → Declaration → Bool
-is_needed t d = is_constant_kind d.what && not (is_some (routine_around t d.scope))
+abbrev pub is_signal_kind : DeclKind → Bool
+is_signal_kind K.Signal = true
+is_signal_kind _ = false
 
-abbrev pub need_in : Table → ℕ → Option Declaration → List Need
-need_in t r None = []
-need_in t r (Some d) = cond (is_needed t d) (record { routine = r; last = d.last } ∷ []) []
+abbrev pub is_needed_kind : Role → DeclKind → Bool
+is_needed_kind role what = is_constant_kind what || (is_key role && is_signal_kind what)
 
-abbrev pub need_of : Table → Option ℕ → Option Declaration → List Need
-need_of t None d = []
-need_of t (Some r) d = need_in t r d
+abbrev pub is_needed : Table → Role → Declaration → Bool
+is_needed t role d = is_needed_kind role d.what && not (is_some (routine_around t d.scope))
+
+abbrev pub need_in : Table → ℕ → Role → Option Declaration → List Need
+need_in t r role None = []
+need_in t r role (Some d) = cond (is_needed t role d) (record { routine = r; last = d.last } ∷ []) []
+
+abbrev pub need_of : Table → Option ℕ → Role → Option Declaration → List Need
+need_of t None role d = []
+need_of t (Some r) role d = need_in t r role d
 
 abbrev pub need_by : List Token → Table → Use → List Need
-need_by ts t u = need_of t (routine_around t u.scope) (declared_by t (finds ts t u))
+need_by ts t u = need_of t (routine_around t u.scope) u.role (declared_by t (finds ts t u))
 
 abbrev pub needs : List Token → Table → List Need
 needs ts t = flat_map (need_by ts t) t.uses
@@ -418,10 +432,6 @@ head_of s (h ∷ hs) = cond (nat_eq h.scope s) h.declared (head_of s hs)
 
 abbrev pub in_header : Table → ℕ → ℕ → List Declaration
 in_header t n s = drop (suc n) (take (head_of s t.heads) t.declared)
-
-abbrev pub is_signal_kind : DeclKind → Bool
-is_signal_kind K.Signal = true
-is_signal_kind _ = false
 
 abbrev pub is_port : ℕ → Declaration → Bool
 is_port s d = nat_eq d.scope s && is_signal_kind d.what

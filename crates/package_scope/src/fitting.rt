@@ -343,6 +343,7 @@ impl<'t> NamedText<'t> {
             Role::LoopGenvar => is_genvar(how),
             Role::Step => true,
             Role::ModportPort => self.is_signal(how),
+            Role::Key => true,
         }
     }
 

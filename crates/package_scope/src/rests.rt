@@ -129,7 +129,7 @@ fn rests_of(alloc: Global, table: &Table) -> Result<Rests, AllocError>
 }
 
 /// Whether a declaration is that of a signal or a port.
-fn is_signal_kind(what: DeclKind) -> bool
+pub(crate) fn is_signal_kind(what: DeclKind) -> bool
     ensures { result ≡ means.is_signal_kind what }
 {
     match what {

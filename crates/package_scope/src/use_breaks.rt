@@ -10,12 +10,23 @@ use crate::breaks::{Break, break_if, first};
 use crate::meaning::package_found;
 use crate::named_text::NamedText;
 use crate::table::{Declaration, Found, NamedImport, Table, Use, WildcardImport};
+use name_events::Role;
 
 /// Whether the declaration with this number is that of a package.
 fn is_package(table: &Table, number: u32) -> bool
     ensures { result ≡ is_some (meaning.package_found table.now (Some number)) }
 {
     package_found(table, Some(number)).is_some()
+}
+
+/// Whether a use is a pattern's key that is a name alone.
+pub(crate) fn is_key(role: Role) -> bool
+    ensures { result ≡ means.is_key role }
+{
+    match role {
+        Role::Key => true,
+        _ => false,
+    }
 }
 
 impl<'t> NamedText<'t> {
@@ -71,16 +82,28 @@ impl<'t> NamedText<'t> {
         }
     }
 
-    /// The break of a use.
+    /// The break of a use that isn't a key.
     #[tactic(auto, using(crate::proofs::Orders::packaging))]
-    fn use_break(&self, found_by: Use) -> Option<Break>
+    fn sought_break(&self, found_by: Use) -> Option<Break>
         requires kept { Kept self.now.tokens.now self.now.names.now self.now.found.now self.now.loops.now }
-        ensures { result ≡ means.least (means.use_breaks self.now.tokens.now self.now.names.now found_by) }
+        ensures { result ≡ means.least (means.use_breaks_in self.now.tokens.now self.now.names.now found_by found_by.source) }
     {
         let found = self.found_break(found_by, self.finds(found_by));
         match found_by.source {
             None => found,
             Some(holder) => self.package_break(holder, found),
+        }
+    }
+
+    /// The break of a use.
+    fn use_break(&self, found_by: Use) -> Option<Break>
+        requires kept { Kept self.now.tokens.now self.now.names.now self.now.found.now self.now.loops.now }
+        ensures { result ≡ means.least (means.use_breaks self.now.tokens.now self.now.names.now found_by) }
+    {
+        if is_key(found_by.role) {
+            None
+        } else {
+            self.sought_break(found_by)
         }
     }
 

@@ -1,0 +1,5 @@
+pub mod Forming
+pub mod Counting
+pub mod Naming
+pub mod Joining
+pub mod Refusing
