@@ -1,0 +1,114 @@
+-- Heads: formals that are sound, and what they give back.
+use Rattle.std.proofs.Common.{◌≡◌, ◌≤◌, ◌+◌, List, [], ◌∷◌, ◌++◌, map, filter, Option, Some, None, Bool, true, false, ◌&&◌, cond, min, nat_lt, if◌then◌else◌, ℕ, refl, sym, ap, ◌∙◌, subst, arith}
+use Rattle.std.specs.Prelude.{Result, Ok, Err}
+use Rattle.sv_tree.specs.declared.functions.Formal as G
+use Rattle.sv_types.specs.declared.statement.Formal.{Formal}
+use Rattle.sv_types.specs.declared.statement.Function.{Function}
+use Rattle.sv_types.specs.declared.statement.Way.{Way}
+use Rattle.sv_types.specs.declared.statement.Way.TheVariants as W
+use Rattle.sv_types.specs.Layouts.{width_of}
+use Rattle.sv_types.specs.Meanings.{total}
+use Rattle.expr_type.specs.declared.halt.Halt.{Halt}
+use Rattle.expr_type.specs.declared.halt.Halt.TheVariants as H
+use Rattle.expr_type.specs.Functions.{Before, FormalFound, ResultFound, Head, at_first, before_if, behind_formal, behind_formals, formal_text, formals, head_of, is_output, output_bits}
+use Rattle.expr_type.specs.Names.{Context, position}
+use Rattle.expr_type.specs.Types.{TypeFound}
+use Rattle.expr_type.specs.Typings.{Checked, Typed, Typing, checked, refused, rule}
+use Rattle.routine_fits.specs.Sound.{AllFormalsNarrow, AllSoundFunctions}
+use Rattle.routine_laws.specs.Sound.{AllSoundFormals, PerhapsType, SoundFormal}
+use Rattle.routine_laws.specs.Texts.{formals_written, port_written}
+use Rattle.routine_laws.proofs.Heads.{behind-one, first-type, formals-keep, formals-narrow}
+use Rattle.typing_scopes.proofs.Turning.{whole-turn}
+use Rattle.typing_steps.specs.Steps.{StopsBy, TypesTo}
+use Rattle.typing_steps.proofs.Combining.{checked-fine, checked-stops, rule-types}
+use Rattle.typing_walks.specs.Keeps.{Kept, Surrounded}
+use Rattle.typing_routines.specs.Rows.{AreFormals, FormalsTo, IsFormal, IsHead, IsNoFormal, HeadsTo, bits_back, bits_out, formal_in, head_rest}
+
+-- what is whole keeps what is said of it
+pub kept-sound : {A : Type 0} (P : A → List Function → Type 0) (x : Typing A) (gs hs : List Function) (a : A) → Kept A AllSoundFunctions P gs (x gs) → TypesTo (Ok a) (x gs) hs → P a hs
+kept-sound {A = A} P x gs hs a k p = subst (λ (fs : List Function). P a fs) (ap (λ (t : Typed A). t.functions) p) (k.sound a (ap (λ (t : Typed A). t.result) p))
+
+-- one formal
+abbrev in_front : FormalFound → List FormalFound → List FormalFound
+in_front x xs = x ∷ xs
+
+one-written : (f : G.Formal) → port_written f.text ≡ true → formals_written (f ∷ []) ≡ true
+one-written f w = ap (λ b. b && true) w
+
+pub formal-sound : (k : Context) (b : Before) (f : G.Formal) (gs hs : List Function) (x : FormalFound) → Surrounded AllSoundFunctions k → port_written f.text ≡ true → ((fs : List Function) → PerhapsType b.of fs) → AllSoundFunctions gs
+    → TypesTo (Ok x) (formal_text k b f.direction f.text gs) hs → SoundFormal x hs
+formal-sound k b f gs hs x r w s q p =
+    let row : TypesTo (Ok (x ∷ [])) (formals k b (f ∷ []) gs) hs =
+        whole-turn (formal_text k b f.direction f.text) (λ o. formals (behind_formal k o) (before_if b.way f.direction o) []) in_front x (Ok []) gs hs hs p refl in
+    let all : AllSoundFormals (x ∷ []) hs = kept-sound AllSoundFormals (formals k b (f ∷ [])) gs hs (x ∷ []) (formals-keep AllSoundFunctions k b (f ∷ []) r (one-written f w) s gs q) row in
+    all.0
+
+-- the text behind it, and what the next one takes
+pub behind-sound : (k i : Context) (b c : Before) (f : G.Formal) (gs hs : List Function) (made : Formal) → Surrounded AllSoundFunctions k → port_written f.text ≡ true → ((fs : List Function) → PerhapsType b.of fs) → AllSoundFunctions gs
+    → IsFormal made c i k (formal_text k b f.direction f.text gs) hs → Surrounded AllSoundFunctions i
+behind-sound k i b c f gs hs made r w s q x =
+    subst (λ (z : Context). Surrounded AllSoundFunctions z) (sym x.behind) (behind-one AllSoundFunctions k x.found hs r (formal-sound k b f gs hs x.found r w s q x.gives))
+
+any-functions : (o : Option TypeFound) (gs : List Function) → PerhapsType o gs → (fs : List Function) → PerhapsType o fs
+any-functions None gs s fs = tt
+any-functions (Some t) gs s fs = record { full = s.full; names = s.names }
+
+pub before-sound : (k i : Context) (b c : Before) (f : G.Formal) (gs hs : List Function) (made : Formal) → Surrounded AllSoundFunctions k → port_written f.text ≡ true → ((fs : List Function) → PerhapsType b.of fs) → AllSoundFunctions gs
+    → IsFormal made c i k (formal_text k b f.direction f.text gs) hs → (fs : List Function) → PerhapsType c.of fs
+before-sound k i b c f gs hs made r w s q x =
+    any-functions c.of hs (subst (λ (z : Before). PerhapsType z.of hs) x.before (formal-sound k b f gs hs x.found r w s q x.gives).before)
+
+pub none-sound : (i k : Context) (c : Before) (way : Way) (t : Typed FormalFound) (hs : List Function) → IsNoFormal c way i k t hs → (fs : List Function) → PerhapsType c.of fs
+none-sound i k c way t hs x fs = subst (λ (z : Before). PerhapsType z.of fs) (sym x.before) tt
+
+pub none-behind : (i k : Context) (c : Before) (way : Way) (t : Typed FormalFound) (hs : List Function) → IsNoFormal c way i k t hs → Surrounded AllSoundFunctions k → Surrounded AllSoundFunctions i
+none-behind i k c way t hs x r = subst (λ (z : Context). Surrounded AllSoundFunctions z) (sym x.behind) r
+
+-- the first one is behind none
+pub first-sound : (b : Before) → b ≡ at_first → (fs : List Function) → PerhapsType b.of fs
+first-sound b e fs = subst (λ (z : Before). PerhapsType z.of fs) (sym e) (first-type fs)
+
+-- all of them
+pub narrow-all : (k j : Context) (gs : List G.Formal) (fs hs : List Function) (made : List Formal) → Surrounded AllSoundFunctions k → formals_written gs ≡ true → AllSoundFunctions fs → AreFormals made j k (formals k at_first gs fs) hs
+    → AllFormalsNarrow made
+narrow-all k j gs fs hs made r w q a =
+    subst AllFormalsNarrow a.listed
+    (formals-narrow a.found hs (kept-sound AllSoundFormals (formals k at_first gs) fs hs a.found (formals-keep AllSoundFunctions k at_first gs r w first-type fs q) a.gives))
+
+-- the bits that they give back
+abbrev wide : FormalFound → ℕ
+wide f = width_of f.formal.local.of
+
+out-by : (w : Way) (x : FormalFound) (rest : List FormalFound)
+    → total (map wide (cond (elim w [ W.Input ↦ false | W.Output ↦ true | W.Inout ↦ true ]) (x ∷ rest) rest)) ≡ elim w [ W.Input ↦ 0 | W.Output ↦ wide x | W.Inout ↦ wide x ] + total (map wide rest)
+out-by W.Input x rest = omega arith
+out-by W.Output x rest = refl
+out-by W.Inout x rest = refl
+
+pub bits-are : (xs : List FormalFound) → output_bits xs ≡ bits_out (map formal_in xs)
+bits-are [] = refl
+bits-are (x ∷ xs) = out-by x.formal.way x (filter is_output xs) ∙ ap (λ n. bits_back x.formal + n) (bits-are xs)
+
+-- a head
+pub head-long : (k : Context) (gs : List G.Formal) (fs hs : List Function) (made : List Formal) (j : Context) (name : ℕ) → AreFormals made j k (formals k at_first gs fs) hs → nat_lt 65536 (bits_out made) ≡ true
+    → (o : Context) (r : ResultFound) → StopsBy (H.Breaks name 701) (head_rest o k name r gs fs) hs
+head-long k gs fs hs made j name a long o r =
+    let test : nat_lt 65536 (output_bits a.found) ≡ true = ap (λ n. nat_lt 65536 n) (bits-are a.found ∙ ap bits_out a.listed) ∙ long in
+    let head : Head = record { result = r; formals = a.found } in
+    let is : head_of o name r a.found ≡ refused true (position o.source name) 701 (Ok head) = ap (λ (b : Bool). refused b (position o.source name) 701 (Ok head)) test in
+    checked-fine (formals k at_first gs) (λ xs. rule (head_of o name r xs)) fs hs hs a.found (Err (H.Breaks name 701)) a.gives
+    (subst (λ (c : Checked Head). TypesTo {A = Head} (Err (H.Breaks name 701)) (rule c hs) hs) (sym is) refl)
+
+pub head-short : (k j : Context) (gs : List G.Formal) (fs hs : List Function) (made : List Formal) → AreFormals made j k (formals k at_first gs fs) hs → nat_lt 65536 (bits_out made) ≡ false → IsHead made j k (formals k at_first gs fs) hs
+head-short k j gs fs hs made a short = record { are = a; short = ap (λ n. nat_lt 65536 n) (bits-are a.found ∙ ap bits_out a.listed) ∙ short }
+
+pub head-stops : (k : Context) (gs : List G.Formal) (fs hs : List Function) (h : Halt) (name : ℕ) → StopsBy h (formals k at_first gs fs) hs → (o : Context) (r : ResultFound) → StopsBy h (head_rest o k name r gs fs) hs
+head-stops k gs fs hs h name s o r = checked-stops (formals k at_first gs) (λ xs. rule (head_of o name r xs)) fs hs h s
+
+-- a head of these parts
+pub head-is : (o k j : Context) (gs : List G.Formal) (fs hs : List Function) (made : List Formal) (name : ℕ) (r : ResultFound) (x : IsHead made j k (formals k at_first gs fs) hs)
+    → TypesTo (Ok (record { result = r; formals = x.are.found })) (head_rest o k name r gs fs) hs
+head-is o k j gs fs hs made name r x =
+    let head : Head = record { result = r; formals = x.are.found } in
+    let is : head_of o name r x.are.found ≡ Ok head = ap (λ (b : Bool). refused b (position o.source name) 701 (Ok head)) x.short in
+    checked-fine (formals k at_first gs) (λ xs. rule (head_of o name r xs)) fs hs hs x.are.found (Ok head) x.are.gives (rule-types (Ok head) (head_of o name r x.are.found) hs is)

@@ -1,0 +1,4 @@
+pub mod Parts
+pub mod InRows
+pub mod Heading
+pub mod Bodied

@@ -1,0 +1,113 @@
+//! Heads of functions and tasks: the body sees the result, the formals, and no other locals.
+
+ghost use Rattle.std.specs.Prelude.{◌≡◌, ◌++◌, [], ◌∷◌, List, true, IfOk, min, cond, nat_lt};
+ghost use Rattle.expr_type.specs.Functions as means;
+ghost use Rattle.expr_type.specs.Names.{with_values};
+ghost use Rattle.routine_fits.specs.Sound.{AllFormalsNarrow, AllSoundFunctions};
+ghost use Rattle.routine_laws.specs.Texts.{formals_written};
+ghost use Rattle.typing_fits.specs.Sound.{Extends};
+ghost use Rattle.typing_walks.specs.Keeps.{Surrounded};
+ghost use Rattle.typing_parts.specs.Typists.{IsReady, MakesKnown};
+ghost use Rattle.typing_scopes.specs.Scopes.{context_of};
+ghost use Rattle.typing_steps.specs.Steps.{TypesTo};
+ghost use Rattle.typing_routines.specs.Rows.{HeadsTo, bits_back, bits_out};
+ghost use Rattle.typing_routines.specs.Routines.{plain_result};
+
+use crate::formals::formals;
+use expr_type::Halt;
+use frame_things::{NamedLocal, Rows};
+use std::alloc::{AllocError, Global};
+use sv_types::{Formal, Formals, ParamValue, SvType, Way, width};
+use type_kinds::copy_type;
+use typing_parts::Known;
+use typing_scopes::{Base, Scope};
+
+/// The most bits that the outputs of a routine have together.
+pub const MOST_OUT: u32 = 65_536;
+
+// One more than that stands for every larger number.
+const TOO_MANY: u32 = 65_537;
+
+/// The scope of a body before its formals: it has the names of the enums in the result's type, and the result, if there is one.
+pub(crate) fn in_body<'s, B: Base>(
+    alloc: Global,
+    outer: &'s Scope<'s, B>,
+    name: u32,
+    plain: bool,
+    of: &'s SvType,
+    names: Rows<ParamValue>,
+) -> Result<Scope<'s, B>, AllocError>
+    ensures { IfOk result (λ s. context_of B.context s ≡ means.in_body (context_of B.context outer.now) name (plain_result plain of.now names)) }
+{
+    let mut inner = Scope::inside(alloc, outer);
+    inner.add_values(names)?;
+    if !plain {
+        return Ok(inner.within(None));
+    }
+    let local = NamedLocal {
+        decl: inner.declaration(name),
+        number: 0,
+        of: copy_type(alloc, of)?,
+    };
+    inner.add_local(local)?;
+    Ok(inner.within(Some(of)))
+}
+
+// The bits that a formal gives back.
+fn bits_back(formal: &Formal) -> u32
+    requires { AllFormalsNarrow (formal.now ∷ []) }
+    ensures { result ≡ bits_back formal.now }
+{
+    match formal.way {
+        Way::Input => 0,
+        Way::Output => width(&formal.local.of),
+        Way::Inout => width(&formal.local.of),
+    }
+}
+
+// The bits that all formals give back together, or 65,537 where there are more.
+fn bits_of_all(list: &[Formal]) -> u32
+    requires { AllFormalsNarrow list.now }
+    ensures { result ≡ min (bits_out list.now) 65537 }
+{
+    let mut sum: u32 = 0;
+    for formal in list {
+        sum = (sum + bits_back(formal)).min(TOO_MANY);
+    }
+    sum
+}
+
+// Whether formals give back more than 65,536 bits together.
+fn is_too_long(list: &[Formal]) -> bool
+    requires { AllFormalsNarrow list.now }
+    ensures { result ≡ nat_lt 65536 (bits_out list.now) }
+{
+    bits_of_all(list) > MOST_OUT
+}
+
+/// The formals behind a result: those that are outputs have at most 65,536 bits together (E701 at the routine's name).
+pub(crate) fn head_formals<B: Base, C: Fn(u32, &mut Known) -> Result<u32, Halt>>(
+    alloc: Global,
+    inner: &mut Scope<'_, B>,
+    needs: &C,
+    name: u32,
+    list: &[sv_tree::Formal],
+    known: &mut Known,
+) -> Result<Formals, Halt>
+    requires needs { MakesKnown _ (C.IsAlwaysCallable needs.now) (λ k. k.now) (C.post needs.now) (context_of B.context inner.old) }
+    requires names { Surrounded AllSoundFunctions (context_of B.context inner.old) }
+    requires written { formals_written list.now ≡ true }
+    requires ready { IsReady known.old }
+    ensures value { HeadsTo result name (context_of B.context inner.new) (context_of B.context inner.old) list.now known.old.functions known.new.functions }
+    ensures ready { IsReady known.new }
+    ensures keeps { Extends known.old.functions known.new.functions }
+{
+    let made = formals(alloc, inner, needs, list, known)?;
+    if is_too_long(made.as_slice()) {
+        return Err(Halt::Breaks {
+            at: name,
+            rule: 701,
+        });
+    }
+    Ok(made)
+}
