@@ -1,0 +1,2 @@
+pub mod Surrounding
+pub mod Calling

@@ -1,5 +1,15 @@
 //! Functions and tasks where they are first needed.
 
+ghost use Rattle.std.specs.Prelude.{◌≡◌, ◌∷◌, ◌++◌, [], Some, length, IfOk, OnOk};
+ghost use Rattle.std.specs.Option.{option_map};
+ghost use Rattle.expr_type.specs.Functions as means;
+ghost use Rattle.frame_texts.specs.Frames.{without_routines};
+ghost use Rattle.routine_fits.specs.Sound.{AllSoundFunctions};
+ghost use Rattle.source_routines.specs.Texts.{text_of};
+ghost use Rattle.typing_fits.specs.Sound.{Extends};
+ghost use Rattle.typing_parts.specs.Typists.{CalledTo, IsReady};
+ghost use Rattle.routine_typing.specs.Around.{SoundAround, with_depth};
+
 use crate::paths::function_path;
 use crate::texts::routine_text;
 use expr_type::Halt;
@@ -7,25 +17,38 @@ use frame_things::FrameThings;
 use known_functions::{add, find};
 use source_routines::Routine;
 use std::alloc::{AllocError, Global};
-use sv_source::Text;
 use sv_types::Function;
 use typing_names::SourceNames;
 use typing_parts::Known;
 use typing_routines::by_text;
 
-// A function behind those that are known, and its place.
-fn appended(alloc: Global, known: &mut Known, function: Function) -> Result<u32, AllocError>
+// A place as the number of a function.
+fn number(place: usize) -> Result<u32, AllocError>
+    ensures { IfOk result (λ n. n ≡ place) }
 {
-    let place = add(alloc, known, function)?;
     match u32::try_from(place) {
         Ok(place) => Ok(place),
         Err(_) => Err(AllocError),
     }
 }
 
+// A function behind those that are known, and its number.
+fn appended(alloc: Global, known: &mut Known, function: Function) -> Result<u32, AllocError>
+    requires ready { IsReady known.old }
+    requires sound { AllSoundFunctions (known.old.functions ++ function ∷ []) }
+    ensures place { IfOk result (λ n. n ≡ length known.old.functions) }
+    ensures ok { OnOk result (known.new.functions ≡ known.old.functions ++ function ∷ []) }
+    ensures ready { IsReady known.new }
+    ensures keeps { Extends known.old.functions known.new.functions }
+{
+    let place = add(alloc, known, function)?;
+    number(place)
+}
+
 /// The place of the function or task with a declaration among those that are known then, in which calls may lie one in another to a
 /// depth: it is typed and put behind them where it isn't known yet. A declaration that is none of a function or task gives nothing and
 /// breaks nothing.
+#[cycle(routine)]
 pub fn routine(
     alloc: Global,
     source: &SourceNames<'_>,
@@ -35,17 +58,32 @@ pub fn routine(
     declaration: u32,
     known: &mut Known,
 ) -> Result<u32, Halt>
+    requires sound { SoundAround source.now.tree.now source.now.names.now frame.entry.frame.now }
+    requires ready { IsReady known.old }
+    ensures value { CalledTo result (means.routine depth (without_routines source.now.tree.now source.now.names.now frame.entry.frame.now at) declaration known.old.functions) known.new.functions }
+    ensures ready { IsReady known.new }
+    ensures keeps { Extends known.old.functions known.new.functions }
 {
     if depth == 0 {
         return Err(Halt::Quiet);
     }
     match source.routine(declaration) {
         None => Err(Halt::Quiet),
-        Some(found) => needed(alloc, source, frame, at, depth - 1, declaration, found, known),
+        Some(found) => needed(
+            alloc,
+            source,
+            frame,
+            at,
+            depth - 1,
+            declaration,
+            found,
+            known,
+        ),
     }
 }
 
-// The function or task with a declaration, by its text.
+// The function or task with a declaration, which has this text.
+#[cycle(routine)]
 fn needed(
     alloc: Global,
     source: &SourceNames<'_>,
@@ -56,28 +94,29 @@ fn needed(
     found: Routine<'_>,
     known: &mut Known,
 ) -> Result<u32, Halt>
+    requires sound { SoundAround source.now.tree.now source.now.names.now frame.entry.frame.now }
+    requires text { (without_routines source.now.tree.now source.now.names.now frame.entry.frame.now at).text declaration ≡ Some (text_of found.entry) }
+    requires ready { IsReady known.old }
+    ensures value { CalledTo result (means.routine_text (Some (text_of found.entry)) (with_depth source.now.tree.now source.now.names.now frame.entry.frame.now at below) declaration known.old.functions) known.new.functions }
+    ensures ready { IsReady known.new }
+    ensures keeps { Extends known.old.functions known.new.functions }
 {
     let name = found.name();
     let (instance, block) = source.home(alloc, frame.frame, declaration)?;
     let path = function_path(alloc, block, source.word(name))?;
     let declared = (instance, name, path);
     if let Some(place) = find(known, &declared) {
-        return number(place);
+        return Ok(number(place)?);
     }
     let (_, _, path) = declared;
     let text = routine_text(alloc, source, frame, at, below, declaration);
-    let needs = |inner: u32, k: &mut Known| -> Result<u32, Halt> {
-        routine(alloc, source, frame, at, below, inner, k)
-    };
+    let needs = |inner: u32, k: &mut Known| -> Result<u32, Halt>
+        requires sound { SoundAround source.now.tree.now source.now.names.now frame.frame.now }
+        requires ready { IsReady k.old }
+        ensures value { CalledTo result (means.routine below (without_routines source.entry.now.tree.now source.entry.now.names.now frame.entry.frame.now at) inner k.old.functions) k.new.functions }
+        ensures ready { IsReady k.new }
+        ensures keeps { Extends k.old.functions k.new.functions }
+    { routine(alloc, source, frame, at, below, inner, k) };
     let function = by_text(alloc, &text, &needs, instance, path, found, known)?;
     Ok(appended(alloc, known, function)?)
-}
-
-// A place as a number.
-fn number(place: usize) -> Result<u32, Halt>
-{
-    match u32::try_from(place) {
-        Ok(place) => Ok(place),
-        Err(_) => Err(Halt::Memory),
-    }
 }

@@ -1,5 +1,9 @@
 //! Texts of functions and tasks.
 
+ghost use Rattle.std.specs.Prelude.{◌≡◌};
+ghost use Rattle.routine_typing.specs.Around.{text_behind};
+ghost use Rattle.typing_names.specs.Texts.{context_of};
+
 use frame_things::{FrameThings, Things};
 use std::alloc::Global;
 use sv_source::Text;
@@ -15,6 +19,7 @@ pub fn routine_text<'a, 't>(
     depth: usize,
     declaration: u32,
 ) -> FrameText<'a, 't>
+    ensures { context_of result ≡ text_behind source.now.tree.now source.now.names.now frame.entry.frame.now at depth declaration }
 {
     FrameText {
         source,

@@ -122,3 +122,5 @@ module _ (k : Context) (name : ℕ) (x : Typing ResultFound) (gs : List G.Formal
 
     pub function-stops : (fs js : List Function) (halt : Halt) → StopsBy halt (body_typed k name x gs items fs) js → TypesTo {A = Function} (Err halt) (typed_routine k h name x gs items fs) js
     function-stops fs js halt s = checked-stops (body_typed k name x gs items) put_function fs js halt s
+
+pub ruleset bodied = (parts-fine, parts-second, parts-broken, parts-quiet, lost-broken, lost-quiet, result-broken, function-is, function-stops)

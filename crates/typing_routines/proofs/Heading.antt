@@ -39,7 +39,7 @@ pub formal-sound : (k : Context) (b : Before) (f : G.Formal) (gs hs : List Funct
     → TypesTo (Ok x) (formal_text k b f.direction f.text gs) hs → SoundFormal x hs
 formal-sound k b f gs hs x r w s q p =
     let row : TypesTo (Ok (x ∷ [])) (formals k b (f ∷ []) gs) hs =
-        whole-turn (formal_text k b f.direction f.text) (λ o. formals (behind_formal k o) (before_if b.way f.direction o) []) in_front x (Ok []) gs hs hs p refl in
+    whole-turn (formal_text k b f.direction f.text) (λ o. formals (behind_formal k o) (before_if b.way f.direction o) []) in_front x (Ok []) gs hs hs p refl in
     let all : AllSoundFormals (x ∷ []) hs = kept-sound AllSoundFormals (formals k b (f ∷ [])) gs hs (x ∷ []) (formals-keep AllSoundFunctions k b (f ∷ []) r (one-written f w) s gs q) row in
     all.0
 
@@ -112,3 +112,5 @@ head-is o k j gs fs hs made name r x =
     let head : Head = record { result = r; formals = x.are.found } in
     let is : head_of o name r x.are.found ≡ Ok head = ap (λ (b : Bool). refused b (position o.source name) 701 (Ok head)) x.short in
     checked-fine (formals k at_first gs) (λ xs. rule (head_of o name r xs)) fs hs hs x.are.found (Ok head) x.are.gives (rule-types (Ok head) (head_of o name r x.are.found) hs is)
+
+pub ruleset headings = (behind-sound, before-sound, none-sound, none-behind, first-sound, narrow-all, head-long, head-short, head-stops)

@@ -59,7 +59,7 @@ whole-more : (k j i : Context) (b c : Before) (made : List Formal) (f : G.Formal
 whole-more k j i b c made f rest row fs gs r w x =
     let y : FormalFound = x.found in
     let ahead : AheadWhole (λ (ys : List FormalFound). w.found ++ (y ∷ ys)) (rest_of j b f rest (Some y)) row gs =
-        ahead-whole (one_of j b f) (rest_of j b f rest) in_front (λ ys. w.found ++ ys) row fs gs y w.ahead x.gives in
+    ahead-whole (one_of j b f) (rest_of j b f rest) in_front (λ ys. w.found ++ ys) row fs gs y w.ahead x.gives in
     record {
       found = w.found ++ y ∷ [];
       listed = map-more w.found y ∙ ap (λ zs. zs ++ formal_in y ∷ []) w.listed ∙ ap (λ z. made ++ z ∷ []) x.formal;

@@ -2,3 +2,5 @@ pub mod Parts
 pub mod InRows
 pub mod Heading
 pub mod Bodied
+pub mod Placing
+pub mod Under

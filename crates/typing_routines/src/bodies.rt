@@ -221,8 +221,6 @@ pub(crate) fn typed_routine<B: Base, C: Fn(u32, &mut Known) -> Result<u32, Halt>
         ),
         Err(Halt::Memory) => Err(Halt::Memory),
         Err(Halt::Breaks { at, rule }) => Err(Halt::Breaks { at, rule }),
-        Err(Halt::Quiet) => Err(without_result(
-            alloc, outer, needs, name, list, items, known,
-        )),
+        Err(Halt::Quiet) => Err(without_result(alloc, outer, needs, name, list, items, known)),
     }
 }

@@ -41,7 +41,10 @@ fn whole_with<B: Base, C: Fn(u32, &mut Known) -> Result<u32, Halt>>(
     ensures ready { IsReady known.new }
     ensures keeps { Extends known.old.functions known.new.functions }
 {
-    let TypeFound { of, names: declared } = found;
+    let TypeFound {
+        of,
+        names: declared,
+    } = found;
     let mut inner = Scope::inside(alloc, names);
     inner.add_values(declared)?;
     let t = declared_type(alloc, &inner, needs, Some(&of), ds, known)?;

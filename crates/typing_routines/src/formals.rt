@@ -265,9 +265,5 @@ pub fn formals<B: Base, C: Fn(u32, &mut Known) -> Result<u32, Halt>>(
             None => whole = false,
         }
     }
-    if whole {
-        Ok(made)
-    } else {
-        Err(Halt::Quiet)
-    }
+    if whole { Ok(made) } else { Err(Halt::Quiet) }
 }
