@@ -45,3 +45,5 @@ formal-is k j x f b t gs p put = record { found = formal_of k x; gives = p; form
 
 pub no-formal : (k j : Context) (b : Before) (way : Way) (t : Typed F.FormalFound) (gs : List Function) → IsQuiet t gs → before_of b ≡ record { way = way; of = None } → j ≡ k → IsNoFormal (before_of b) way j k t gs
 no-formal k j b way t gs q is behind = record { quiet = q; before = is; behind = behind }
+
+pub ruleset placing = (put-is, formal-is, no-formal)

@@ -24,6 +24,7 @@ use typing_texts::{TypeFound, declared_type};
 use typing_values::behind_quiet;
 
 // A type that is whole: the names of the enums in its text are known in the dimensions.
+#[tactic(auto, using(crate::proofs::Under::unders))]
 fn whole_with<B: Base, C: Fn(u32, &mut Known) -> Result<u32, Halt>>(
     alloc: Global,
     names: &Scope<'_, B>,
@@ -57,6 +58,7 @@ fn whole_with<B: Base, C: Fn(u32, &mut Known) -> Result<u32, Halt>>(
 
 /// A type with the dimensions behind a name that has it. Where the type breaks nothing and isn't whole, the dimensions are looked at for
 /// their breaks.
+#[tactic(auto, using(crate::proofs::Under::unders))]
 pub(crate) fn with_dims<B: Base, C: Fn(u32, &mut Known) -> Result<u32, Halt>>(
     alloc: Global,
     names: &Scope<'_, B>,

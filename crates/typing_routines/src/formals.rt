@@ -109,6 +109,7 @@ fn type_before(
 }
 
 // A formal of a type: its own type has at most 65,536 bits (E701).
+#[tactic(auto, using(crate::proofs::Under::unders))]
 fn found_of(
     way: Way,
     at: u32,
@@ -164,6 +165,7 @@ pub fn formal<B: Base, C: Fn(u32, &mut Known) -> Result<u32, Halt>>(
 }
 
 // Puts a formal into a scope. It gives what the function has of it, and what the next one takes.
+#[tactic(auto, using(crate::proofs::Placing::placing))]
 fn put<B: Base>(
     alloc: Global,
     inner: &mut Scope<'_, B>,
@@ -203,6 +205,7 @@ fn put<B: Base>(
 }
 
 /// A formal behind the one before, put into a scope where it is whole.
+#[tactic(auto, using(crate::proofs::Placing::placing))]
 pub fn next_formal<B: Base, C: Fn(u32, &mut Known) -> Result<u32, Halt>>(
     alloc: Global,
     inner: &mut Scope<'_, B>,

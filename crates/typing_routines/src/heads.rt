@@ -86,6 +86,7 @@ fn is_too_long(list: &[Formal]) -> bool
 }
 
 /// The formals behind a result: those that are outputs have at most 65,536 bits together (E701 at the routine's name).
+#[tactic(auto, using(crate::proofs::Heading::headings))]
 pub(crate) fn head_formals<B: Base, C: Fn(u32, &mut Known) -> Result<u32, Halt>>(
     alloc: Global,
     inner: &mut Scope<'_, B>,

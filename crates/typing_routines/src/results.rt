@@ -54,6 +54,7 @@ pub fn no_result(alloc: Global) -> ResultFound
 }
 
 // A value of a type, which has at most 65,536 bits (E701).
+#[tactic(auto, using(crate::proofs::Under::unders))]
 fn found_of(at: u32, typed: Result<(TypeFound, SvType), Halt>) -> Result<ResultFound, Halt>
     ensures { (k : Context) (x : Typing (types.TypeFound × SvType)) (fs gs : List Function) → TypesTo typed (x fs) gs → TypesTo (as_meant result_of result) (result_typed k at x fs) gs }
 {
