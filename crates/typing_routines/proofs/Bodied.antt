@@ -17,10 +17,11 @@ use Rattle.expr_type.specs.Statements.{block, item_meaning}
 use Rattle.expr_type.specs.Typings.{Checked, Typed, Typing, checked, rule, whole}
 use Rattle.typing_scopes.specs.Ahead.{halted}
 use Rattle.typing_steps.specs.Steps.{StopsBy, TypesTo}
+use Rattle.typing_values.specs.Values.{behind}
 use Rattle.typing_steps.proofs.Combining.{checked-fine, checked-stops}
 use Rattle.typing_steps.proofs.Following.{by-breaks, by-fine, by-second}
 use Rattle.typing_routines.specs.Rows.{AreFormals, FormalsTo, HeadsTo, IsHead, formal_in, head_rest}
-use Rattle.typing_routines.specs.Routines.{AreParts, PartsTo, body_typed, kind_by, made_of}
+use Rattle.typing_routines.specs.Routines.{AreParts, BehindTo, BodyTo, LooksOn, PartsTo, body_typed, kind_by, made_of}
 use Rattle.typing_routines.proofs.Parts.{beside-quiet, both-quiet, both-breaks, both-whole}
 use Rattle.typing_routines.proofs.Heading.{head-is}
 
@@ -79,24 +80,58 @@ module _ (k : Context) (name : ℕ) (x : Typing ResultFound) (gs : List G.Formal
   parts-quiet r fs gs' hs js b is s t = quiet-on fs hs js b (stopped-head r fs gs' hs H.Quiet is s) t
 
   -- behind a result that breaks nothing and isn't whole
-  abbrev formals_halt : Result (List Formal) Halt → Halt
-  formals_halt (Ok fs) = H.Quiet
-  formals_halt (Err h) = h
-
   lost-head : (j : Context) (made : Result (List Formal) Halt) (fs gs' hs : List Function) → TypesTo {A = ResultFound} (Err H.Quiet) (x fs) gs' → FormalsTo made j k (formals k at_first gs gs') hs
-      → TypesTo {A = Head} (Err (formals_halt made)) (head k name x gs fs) hs
+      → TypesTo {A = Head} (Err (behind made)) (head k name x gs fs) hs
   lost-head j (Ok made) fs gs' hs is a = both-quiet x formals_by heads_by fs gs' hs (Ok a.found) is a.gives
   lost-head j (Err h) fs gs' hs is s = both-quiet x formals_by heads_by fs gs' hs (Err h) is s
 
-  pub lost-broken : (j : Context) (made : Result (List Formal) Halt) (fs gs' hs js : List Function) (at n : ℕ) → TypesTo {A = ResultFound} (Err H.Quiet) (x fs) gs' → FormalsTo made j k (formals k at_first gs gs') hs → formals_halt made ≡ H.Breaks at n
+  pub lost-broken : (j : Context) (made : Result (List Formal) Halt) (fs gs' hs js : List Function) (at n : ℕ) → TypesTo {A = ResultFound} (Err H.Quiet) (x fs) gs' → FormalsTo made j k (formals k at_first gs gs') hs → behind made ≡ H.Breaks at n
       → StopsBy (H.Breaks at n) (body_typed k name x gs items fs) js
   lost-broken j made fs gs' hs js at n is a e =
       breaks-on fs hs js at n (subst (λ (h : Halt). TypesTo {A = Head} (Err h) (head k name x gs fs) hs) e (lost-head j made fs gs' hs is a))
 
-  pub lost-quiet : (j : Context) (made : Result (List Formal) Halt) (fs gs' hs js : List Function) (b : Result Stmt Halt) → TypesTo {A = ResultFound} (Err H.Quiet) (x fs) gs' → FormalsTo made j k (formals k at_first gs gs') hs → formals_halt made ≡ H.Quiet
+  pub lost-quiet : (j : Context) (made : Result (List Formal) Halt) (fs gs' hs js : List Function) (b : Result Stmt Halt) → TypesTo {A = ResultFound} (Err H.Quiet) (x fs) gs' → FormalsTo made j k (formals k at_first gs gs') hs → behind made ≡ H.Quiet
       → TypesTo b (block k (map item_meaning items) hs) js → StopsBy (halted b) (body_typed k name x gs items fs) js
   lost-quiet j made fs gs' hs js b is a e t =
       quiet-on fs hs js b (subst (λ (h : Halt). TypesTo {A = Head} (Err h) (head k name x gs fs) hs) e (lost-head j made fs gs' hs is a)) t
+
+  -- all that the code answers of a body
+  moved : {A : Type 0} (P : A → Type 0) (a b : A) → a ≡ b → P b → P a
+  moved P a b e p = subst P (sym e) p
+
+  behind-is : {A : Type 0} (b : Result A Halt) → behind b ≡ halted b
+  behind-is (Ok a) = refl
+  behind-is (Err h) = refl
+
+  by-body : (j : Context) (made : List Formal) (result : Result (List Formal × Stmt) Halt) (r : ResultFound) (fs gs' hs js : List Function) → TypesTo (Ok r) (x fs) gs' → IsHead made j (in_body k name (Some r)) (formals_by (Some r) gs') hs
+      → BodyTo made result j items hs js → PartsTo result r (body_typed k name x gs items fs) js
+  by-body j made (Ok p) r fs gs' hs js is a b =
+      moved (λ (z : List Formal). AreParts z p.1 r (body_typed k name x gs items fs) js) p.0 made b.0 (parts-fine j made p.1 r fs gs' hs js is a b.1)
+  by-body j made (Err h) r fs gs' hs js is a b = parts-second j made r fs gs' hs js h is a b
+
+  by-halt : (j i : Context) (made : Result (List Formal) Halt) (result : Result (List Formal × Stmt) Halt) (r : ResultFound) (fs gs' hs js : List Function) → TypesTo (Ok r) (x fs) gs' → HeadsTo made name j (in_body k name (Some r)) gs gs' hs
+      → BehindTo made result j k items hs js → PartsTo result r (body_typed k name x gs items fs) js
+  by-halt j i (Ok made) result r fs gs' hs js is a b = by-body j made result r fs gs' hs js is a b
+  by-halt j i (Err H.Memory) result r fs gs' hs js is a b = moved (λ (z : Result (List Formal × Stmt) Halt). PartsTo z r (body_typed k name x gs items fs) js) result (Err H.Memory) b tt
+  by-halt j i (Err (H.Breaks at n)) result r fs gs' hs js is a b =
+      moved (λ (z : Result (List Formal × Stmt) Halt). PartsTo z r (body_typed k name x gs items fs) js) result (Err (H.Breaks at n)) b (parts-broken r fs gs' hs js at n is (a k r))
+  by-halt j i (Err H.Quiet) result r fs gs' hs js is a b =
+      moved (λ (z : Result (List Formal × Stmt) Halt). PartsTo z r (body_typed k name x gs items fs) js) result (Err (halted b.body)) b.is (parts-quiet r fs gs' hs js b.body is (a k r) b.gives)
+
+  pub parts-by : (j i : Context) (made : Result (List Formal) Halt) (result : Result (List Formal × Stmt) Halt) (r : ResultFound) (fs gs' hs js : List Function) → i ≡ in_body k name (Some r) → TypesTo (Ok r) (x fs) gs' → HeadsTo made name j i gs gs' hs
+      → BehindTo made result j k items hs js → PartsTo result r (body_typed k name x gs items fs) js
+  parts-by j i made result r fs gs' hs js same is a b = by-halt j i made result r fs gs' hs js is (subst (λ (z : Context). HeadsTo made name j z gs gs' hs) same a) b
+
+  pub lost-by : (j i : Context) (made : Result (List Formal) Halt) (h : Halt) (fs gs' hs js : List Function) (b : Result Stmt Halt) → i ≡ k → behind made ≡ H.Quiet → h ≡ behind b → TypesTo {A = ResultFound} (Err H.Quiet) (x fs) gs'
+      → FormalsTo made j i (formals i at_first gs gs') hs → TypesTo b (block k (map item_meaning items) hs) js → StopsBy h (body_typed k name x gs items fs) js
+  lost-by j i made h fs gs' hs js b same quiet stop is a t =
+      moved (λ (z : Halt). StopsBy z (body_typed k name x gs items fs) js) h (halted b) (stop ∙ behind-is b)
+      (lost-quiet j made fs gs' hs js b is (subst (λ (z : Context). FormalsTo made j z (formals z at_first gs gs') hs) same a) quiet t)
+
+  pub lost-stops : (j i : Context) (made : Result (List Formal) Halt) (at n : ℕ) (fs gs' hs js : List Function) → i ≡ k → behind made ≡ H.Breaks at n → TypesTo {A = ResultFound} (Err H.Quiet) (x fs) gs'
+      → FormalsTo made j i (formals i at_first gs gs') hs → StopsBy (H.Breaks at n) (body_typed k name x gs items fs) js
+  lost-stops j i made at n fs gs' hs js same stop is a =
+      lost-broken j made fs gs' hs js at n is (subst (λ (z : Context). FormalsTo made j z (formals z at_first gs gs') hs) same a) stop
 
   -- a result that breaks a rule
   pub result-broken : (fs gs' js : List Function) (at n : ℕ) → TypesTo {A = ResultFound} (Err (H.Breaks at n)) (x fs) gs' → StopsBy (H.Breaks at n) (body_typed k name x gs items fs) js
@@ -123,4 +158,4 @@ module _ (k : Context) (name : ℕ) (x : Typing ResultFound) (gs : List G.Formal
     pub function-stops : (fs js : List Function) (halt : Halt) → StopsBy halt (body_typed k name x gs items fs) js → TypesTo {A = Function} (Err halt) (typed_routine k h name x gs items fs) js
     function-stops fs js halt s = checked-stops (body_typed k name x gs items) put_function fs js halt s
 
-pub ruleset bodied = (parts-fine, parts-second, parts-broken, parts-quiet, lost-broken, lost-quiet, result-broken, function-is, function-stops)
+pub ruleset bodied = (parts-by, lost-by, lost-stops, parts-fine, parts-second, parts-broken, parts-quiet, lost-broken, lost-quiet, result-broken, function-is, function-stops)

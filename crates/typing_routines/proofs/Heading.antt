@@ -1,6 +1,6 @@
 -- Heads: formals that are sound, and what they give back.
 use Rattle.std.proofs.Common.{◌≡◌, ◌≤◌, ◌+◌, List, [], ◌∷◌, ◌++◌, map, filter, Option, Some, None, Bool, true, false, ◌&&◌, cond, min, nat_lt, if◌then◌else◌, ℕ, refl, sym, ap, ◌∙◌, subst, arith}
-use Rattle.std.specs.Prelude.{Result, Ok, Err}
+use Rattle.std.specs.Prelude.{Result, Ok, Err, IfOk}
 use Rattle.sv_tree.specs.declared.functions.Formal as G
 use Rattle.sv_types.specs.declared.statement.Formal.{Formal}
 use Rattle.sv_types.specs.declared.statement.Function.{Function}
@@ -18,6 +18,9 @@ use Rattle.routine_fits.specs.Sound.{AllFormalsNarrow, AllSoundFunctions}
 use Rattle.routine_laws.specs.Sound.{AllSoundFormals, PerhapsType, SoundFormal}
 use Rattle.routine_laws.specs.Texts.{formals_written, port_written}
 use Rattle.routine_laws.proofs.Heads.{behind-one, first-type, formals-keep, formals-narrow}
+use Rattle.typing_parts.specs.declared.known.Known.{Known}
+use Rattle.typing_parts.specs.Typists.{MakesKnown}
+use Rattle.typing_scopes.proofs.Behind.{needs-alike}
 use Rattle.typing_scopes.proofs.Turning.{whole-turn}
 use Rattle.typing_steps.specs.Steps.{StopsBy, TypesTo}
 use Rattle.typing_steps.proofs.Combining.{checked-fine, checked-stops, rule-types}
@@ -113,4 +116,25 @@ head-is o k j gs fs hs made name r x =
     let is : head_of o name r x.are.found ≡ Ok head = ap (λ (b : Bool). refused b (position o.source name) 701 (Ok head)) x.short in
     checked-fine (formals k at_first gs) (λ xs. rule (head_of o name r xs)) fs hs hs x.are.found (Ok head) x.are.gives (rule-types (Ok head) (head_of o name r x.are.found) hs is)
 
-pub ruleset headings = (behind-sound, before-sound, none-sound, none-behind, first-sound, narrow-all, head-long, head-short, head-stops)
+-- the text behind a head
+formals-routine : (k : Context) (fs : List FormalFound) → (behind_formals k fs).routine ≡ k.routine
+formals-routine k [] = refl
+formals-routine k (f ∷ fs) = formals-routine (behind_formal k (Some f)) fs
+
+behind-all : (k : Context) (fs : List FormalFound) (gs : List Function) → Surrounded AllSoundFunctions k → AllSoundFormals fs gs → Surrounded AllSoundFunctions (behind_formals k fs)
+behind-all k [] gs r s = r
+behind-all k (f ∷ fs) gs r s = behind-all (behind_formal k (Some f)) fs gs (behind-one AllSoundFunctions k f gs r s.0) s.1
+
+pub head-needs : (S : Type 0) (callable : Type 0) (held : S → Known) (post : ℕ → S → Result ℕ Halt → S → Type 0) (name : ℕ) (i j : Context) (gs : List G.Formal) (fs hs : List Function) (made : Result (List Formal) Halt)
+    → HeadsTo made name j i gs fs hs → MakesKnown S callable held post i → IfOk made (λ m. MakesKnown S callable held post j)
+head-needs S callable held post name i j gs fs hs (Ok m) a n = needs-alike S callable held post j i (ap (λ (x : Context). x.routine) a.are.behind ∙ formals-routine i a.are.found) n
+head-needs S callable held post name i j gs fs hs (Err h) a n = tt
+
+pub head-around : (name : ℕ) (i j : Context) (gs : List G.Formal) (fs hs : List Function) (made : Result (List Formal) Halt) → HeadsTo made name j i gs fs hs → Surrounded AllSoundFunctions i → formals_written gs ≡ true → AllSoundFunctions fs
+    → IfOk made (λ m. Surrounded AllSoundFunctions j)
+head-around name i j gs fs hs (Ok m) a r w q =
+    subst (λ (z : Context). Surrounded AllSoundFunctions z) (sym a.are.behind)
+    (behind-all i a.are.found hs r (kept-sound AllSoundFormals (formals i at_first gs) fs hs a.are.found (formals-keep AllSoundFunctions i at_first gs r w first-type fs q) a.are.gives))
+head-around name i j gs fs hs (Err h) a r w q = tt
+
+pub ruleset headings = (behind-sound, before-sound, none-sound, none-behind, first-sound, narrow-all, head-long, head-short, head-stops, head-needs, head-around)

@@ -4,3 +4,4 @@ pub mod Heading
 pub mod Bodied
 pub mod Placing
 pub mod Under
+pub mod Arms

@@ -1,13 +1,14 @@
 -- A formal that is put into a scope.
-use Rattle.std.proofs.Common.{◌≡◌, ◌-◌, List, [], ◌∷◌, Option, Some, None, Bool, cond, ℕ, refl, sym, ap, ◌∙◌, subst}
+use Rattle.std.proofs.Common.{◌≡◌, ◌-◌, List, [], ◌∷◌, Option, Some, None, Bool, true, false, cond, ℕ, refl, sym, ap, ◌∙◌, subst}
 use Rattle.std.specs.Prelude.{Result, Ok, Err}
 use Rattle.sv_source.specs.declared.token.Spot.{Spot}
+use Rattle.sv_types.specs.declared.frame.ParamValue.{ParamValue}
 use Rattle.sv_types.specs.declared.statement.Formal.{Formal}
 use Rattle.sv_types.specs.declared.statement.Function.{Function}
 use Rattle.sv_types.specs.declared.statement.Way.{Way}
 use Rattle.sv_types.specs.declared.types.SvType.{SvType}
 use Rattle.expr_type.specs.Functions as F
-use Rattle.expr_type.specs.Functions.{behind_formal}
+use Rattle.expr_type.specs.Functions.{behind_formal, in_body}
 use Rattle.expr_type.specs.Names.{Context, LocalId, Source, local_id, spot, with_locals, with_values}
 use Rattle.expr_type.specs.Typings.{Typed}
 use Rattle.typing_steps.specs.Steps.{IsQuiet, TypesTo}
@@ -15,6 +16,7 @@ use Rattle.typing_routines.specs.declared.formals.Before.{Before}
 use Rattle.typing_routines.specs.declared.formals.FormalFound.{FormalFound}
 use Rattle.typing_routines.specs.Formals.{IsPut, before_of, formal_of}
 use Rattle.typing_routines.specs.Rows.{IsFormal, IsNoFormal, formal_in}
+use Rattle.typing_routines.specs.Routines.{plain_result}
 
 abbrev made : ℕ → SvType → Way → Spot → Formal
 made n of way s = record { local = record { number = n; of = of; initial = None }; way = way; spot = s }
@@ -46,4 +48,18 @@ formal-is k j x f b t gs p put = record { found = formal_of k x; gives = p; form
 pub no-formal : (k j : Context) (b : Before) (way : Way) (t : Typed F.FormalFound) (gs : List Function) → IsQuiet t gs → before_of b ≡ record { way = way; of = None } → j ≡ k → IsNoFormal (before_of b) way j k t gs
 no-formal k j b way t gs q is behind = record { quiet = q; before = is; behind = behind }
 
-pub ruleset placing = (put-is, formal-is, no-formal)
+-- the scope of a body before its formals
+pub in-none : (k j i : Context) (name : ℕ) (plain : Bool) (of : SvType) (names : List ParamValue) → plain ≡ false → j ≡ with_values names k → i ≡ record j { result = None } → i ≡ in_body k name (Some (plain_result plain of names))
+in-none k j i name plain of names is same behind =
+    subst (λ (b : Bool). i ≡ in_body k name (Some (plain_result b of names))) (sym is) (behind ∙ ap (λ (q : Context). record q { result = None }) same)
+
+pub in-plain : (k j l i : Context) (name decl : ℕ) (plain : Bool) (of copy : SvType) (names : List ParamValue) → plain ≡ true → j ≡ with_values names k → decl ≡ j.declared name → copy ≡ of → l ≡ with_locals (named decl 0 copy ∷ []) j
+    → i ≡ record l { result = Some of } → i ≡ in_body k name (Some (plain_result plain of names))
+in-plain k j l i name decl plain of copy names is same is_decl is_copy local behind =
+    let d : decl ≡ k.declared name = is_decl ∙ ap (λ (q : Context). q.declared name) same in
+    subst (λ (b : Bool). i ≡ in_body k name (Some (plain_result b of names))) (sym is)
+    (behind ∙ ap (λ (q : Context). record q { result = Some of })
+    (local ∙ ap (λ (q : Context). with_locals (named decl 0 copy ∷ []) q) same
+    ∙ ap (λ (m : LocalId). with_locals (m ∷ []) (with_values names k)) (same-local decl (k.declared name) 0 0 copy of d refl is_copy)))
+
+pub ruleset placing = (put-is, formal-is, no-formal, in-none, in-plain)

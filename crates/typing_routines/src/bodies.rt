@@ -19,7 +19,7 @@ ghost use Rattle.typing_walks.specs.Keeps.{Surrounded};
 ghost use Rattle.typing_parts.specs.Typists.{IsReady, MakesKnown};
 ghost use Rattle.typing_scopes.specs.Scopes.{context_of};
 ghost use Rattle.typing_steps.specs.Steps.{StopsBy, TypesTo};
-ghost use Rattle.typing_routines.specs.Routines.{BehindTo, PartsTo, body_typed, made_of, plain_result, result_of};
+ghost use Rattle.typing_routines.specs.Routines.{BehindTo, PartsTo, body_typed, kind_by, made_of, plain_result, result_of};
 
 use crate::formals::formals;
 use crate::heads::{head_formals, in_body};
@@ -71,6 +71,7 @@ fn body_behind<B: Base, C: Fn(u32, &mut Known) -> Result<u32, Halt>>(
 }
 
 // The formals and the body of a function whose result is whole.
+#[tactic(auto, using(crate::proofs::Bodied::bodied))]
 fn with_result<B: Base, C: Fn(u32, &mut Known) -> Result<u32, Halt>>(
     alloc: Global,
     outer: &Scope<'_, B>,
@@ -99,6 +100,7 @@ fn with_result<B: Base, C: Fn(u32, &mut Known) -> Result<u32, Halt>>(
 }
 
 // The formals and the body of a function whose result breaks nothing and isn't whole are looked at for their breaks.
+#[tactic(auto, using(crate::proofs::Bodied::bodied))]
 fn without_result<B: Base, C: Fn(u32, &mut Known) -> Result<u32, Halt>>(
     alloc: Global,
     outer: &Scope<'_, B>,
@@ -126,6 +128,17 @@ fn without_result<B: Base, C: Fn(u32, &mut Known) -> Result<u32, Halt>>(
     }
 }
 
+// Whether a function gives a value, as its kind.
+fn kind_of(plain: bool) -> FunctionKind
+    ensures { result ≡ kind_by plain }
+{
+    if plain {
+        FunctionKind::Plain
+    } else {
+        FunctionKind::Routine
+    }
+}
+
 // A function by its parts.
 fn function_of(
     alloc: Global,
@@ -141,16 +154,11 @@ fn function_of(
 {
     let spot = spot_at(alloc, text, name)?;
     let (formals, body) = parts;
-    let kind = if plain {
-        FunctionKind::Plain
-    } else {
-        FunctionKind::Routine
-    };
     Ok(Function {
         instance,
         path,
         spot,
-        kind,
+        kind: kind_of(plain),
         of,
         formals,
         body,

@@ -1,6 +1,6 @@
 //! Heads of functions and tasks: the body sees the result, the formals, and no other locals.
 
-ghost use Rattle.std.specs.Prelude.{◌≡◌, ◌++◌, [], ◌∷◌, List, true, IfOk, min, cond, nat_lt};
+ghost use Rattle.std.specs.Prelude.{◌≡◌, [], ◌∷◌, true, IfOk, Some, min, nat_lt};
 ghost use Rattle.expr_type.specs.Functions as means;
 ghost use Rattle.expr_type.specs.Names.{with_values};
 ghost use Rattle.routine_fits.specs.Sound.{AllFormalsNarrow, AllSoundFunctions};
@@ -29,6 +29,7 @@ pub const MOST_OUT: u32 = 65_536;
 const TOO_MANY: u32 = 65_537;
 
 /// The scope of a body before its formals: it has the names of the enums in the result's type, and the result, if there is one.
+#[tactic(auto, using(crate::proofs::Placing::placing))]
 pub(crate) fn in_body<'s, B: Base>(
     alloc: Global,
     outer: &'s Scope<'s, B>,
@@ -37,7 +38,7 @@ pub(crate) fn in_body<'s, B: Base>(
     of: &'s SvType,
     names: Rows<ParamValue>,
 ) -> Result<Scope<'s, B>, AllocError>
-    ensures { IfOk result (λ s. context_of B.context s ≡ means.in_body (context_of B.context outer.now) name (plain_result plain of.now names)) }
+    ensures { IfOk result (λ s. context_of B.context s ≡ means.in_body (context_of B.context outer.now) name (Some (plain_result plain of.now names))) }
 {
     let mut inner = Scope::inside(alloc, outer);
     inner.add_values(names)?;
