@@ -1,13 +1,15 @@
 -- Targets in the word of an element's index, put together.
-use Rattle.std.proofs.Common.{◌≡◌, ℕ, List, Result, Ok, Err, IfOk, OnOk}
+use Rattle.std.proofs.Common.{◌≡◌, ℕ, List, length, Result, Ok, Err, IfOk, OnOk}
 use Rattle.std.specs.declared.alloc.AllocError.{AllocError}
 use Rattle.sv_types.specs.declared.expression.Expr.{Expr}
 use Rattle.sv_types.specs.declared.statement.Function.{Function}
 use Rattle.sv_types.specs.declared.types.SvType.{SvType}
+use Rattle.sv_types.specs.Layouts.{layout}
 use Rattle.sv_types.specs.Expressions.{meaning}
 use Rattle.v_tree.specs.declared.names.Helper.{Helper}
 use Rattle.v_tree.specs.declared.names.NameMap.{NameMap}
 use Rattle.path_flatten.specs.Helping.{Grows}
+use Rattle.expr_lower.specs.Named.{signal_name}
 use Rattle.typed_paths.specs.Typed.{IsTyped}
 use Rattle.target_walk.specs.declared.given.Given.{Given}
 use Rattle.target_walk.specs.declared.never.Targets.{Targets}
@@ -17,6 +19,7 @@ use Rattle.memory_paths.specs.Inner.{IsInner}
 use Rattle.memory_targets.specs.declared.words.Word.{Word}
 use Rattle.memory_lower.specs.Lowered.{LowersInMemory, IsInWord}
 use Rattle.memory_lower.specs.Made.{WordOf, WordTargets, ElementTargets}
+use Rattle.memory_lower.specs.Shapes.{HasWordShape}
 use Rattle.memory_lower.proofs.Lowered.{lowers-memory, word-for}
 
 -- with the word of an index that was given with fewer helpers
@@ -40,6 +43,10 @@ module _ (n : ℕ) (t : SvType) (i e inner : Expr) (is : IsInner n t i e inner) 
     all = h.targets.in_word.puts.all;
     apart = h.targets.in_word.puts.apart;
   }
+
+  pub shape-from : (r : Result Targets AllocError) → IfOk r (ElementTargets names fs hs n t i inner) → IfOk r (HasWordShape names n t)
+  shape-from (Ok x) h = record { word = h.word; own = h.targets.in_word.puts.own (signal_name names.signals n) (length (layout t).element.two_state) h.targets.in_word.is_alone.own }
+  shape-from (Err x) h = tt
 
   pub lowers-from : IsTyped e → (meaning e).misfits ≡ 0 → (r : Result Targets AllocError) → IfOk r (ElementTargets names fs hs n t i inner) → IfOk r (LowersInMemory names fs hs n t e)
   lowers-from typed fits (Ok x) h = lowers-memory names fs hs n t i e x (in-word x h) typed fits

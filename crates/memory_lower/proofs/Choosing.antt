@@ -1,5 +1,5 @@
 -- A path stands on an element of a memory, or in a vector.
-use Rattle.std.proofs.Common.{◌≡◌, ℕ, Bool, true, false, List, [], ◌∷◌, ◌++◌, append-nil, Some, Result, Ok, Err, IfOk, refl, ap, sym, ◌∙◌, subst}
+use Rattle.std.proofs.Common.{◌≡◌, ℕ, Bool, true, false, List, [], ◌∷◌, ◌++◌, append-nil, inl, inr, Some, Result, Ok, Err, IfOk, refl, ap, sym, ◌∙◌, subst}
 use Rattle.std.specs.declared.alloc.AllocError.{AllocError}
 use Rattle.sv_types.specs.declared.expression.Expr.{Expr}
 use Rattle.sv_types.specs.declared.expression.Form.TheVariants as V
@@ -20,10 +20,12 @@ use Rattle.typed_paths.specs.Typed.{Indexing, IsTypedPath, IsTyped, of_signal, o
 use Rattle.expr_lower.specs.Leaves.{Leaf, Signals, Elements, Inside, Locals, onto, indexed, leaves}
 use Rattle.expr_lower.specs.Named.{is_memory}
 use Rattle.expr_lower.proofs.AskedLeaves.{leaves-Signal, leaves-Local, leaves-Member, leaves-Index, leaves-Part, leaves-Slide}
-use Rattle.target_lower.specs.Targets.{StandsAsTarget, StandsOnVector, LowersTarget}
+use Rattle.target_lower.specs.Targets.{StandsAsTarget, StandsOnVector, LowersTarget, HasShape}
 use Rattle.element_paths.specs.Elements.{GoesOn, at_element, by_member, by_index, by_part, by_slide}
+use Rattle.element_paths.specs.declared.elements.Element.{Element}
 use Rattle.memory_lower.specs.Lowered.{StandsInMemory, LowersInMemory}
-use Rattle.memory_lower.specs.Written.{StandsWritten, LowersWritten}
+use Rattle.memory_lower.specs.Shapes.{HasWordShape, HasWrittenShape}
+use Rattle.memory_lower.specs.Written.{IsInMemory, StandsWritten, LowersWritten}
 
 -- The first leaf of a path: a whole signal, an element of one from which the path goes on, something else of one, or a local.
 data First (e : Expr) : Type 0 where
@@ -120,3 +122,13 @@ pub memory-all : (names : NameMap) (fs : List Function) (hs : List Helper) (n : 
     → IfOk r (LowersWritten names fs hs e)
 memory-all names fs hs n t e (Ok x) memory h = memory-written names fs hs n t e x memory h
 memory-all names fs hs n t e (Err x) memory h = tt
+
+-- the form of either
+pub vector-shape : (names : NameMap) (fs : List Function) (hs : List Helper) (e : Expr) (r : Result Targets AllocError) → IfOk r (HasShape names fs hs e) → IfOk r (HasWrittenShape names fs hs e)
+vector-shape names fs hs e (Ok x) h = inl h
+vector-shape names fs hs e (Err x) h = tt
+
+pub memory-shape : (names : NameMap) (fs : List Function) (hs : List Helper) (e : Expr) (x : Element) (r : Result Targets AllocError) → IsInMemory names e x → IfOk r (HasWordShape names x.signal x.of.now)
+    → IfOk r (HasWrittenShape names fs hs e)
+memory-shape names fs hs e x (Ok made) is h = inr (record { signal = x.signal; of = x.of.now; index = x.index.now; goes = is.goes; memory = is.memory; shape = h })
+memory-shape names fs hs e x (Err y) is h = tt

@@ -23,6 +23,7 @@ use Rattle.target_lower.specs.Made.{PutsIndices}
 use Rattle.memory_words.specs.Words.{FindsWord, NamesWord, NumbersWord}
 use Rattle.memory_targets.specs.declared.words.Word.{Word}
 use Rattle.memory_targets.specs.declared.words.Word.TheVariants as W
+use Rattle.memory_targets.specs.Owning.{OwnInWord}
 use Rattle.memory_targets.specs.Pieces.{AllInWord}
 use Rattle.memory_lower.specs.Lowered.{IsWordFor, NamedInWord}
 
@@ -52,6 +53,7 @@ pub record IsAloneFor (names : NameMap) (n : ℕ) (t : SvType) (inner : Expr) (p
 -- the same in a word, and what is named apart there
 pub record IsPutInWord (word : Word) (alone made : Targets) : Type 0 where
   pub all : AllInWord word alone.writes made.writes
+  pub own : OwnInWord word alone.writes made.writes
   pub apart : NamedInWord word alone.writes alone.named made.named
 
 pub record IsInWordFor (names : NameMap) (n : ℕ) (t : SvType) (inner : Expr) (word : Word) (ps : List PathIndex) (made : Targets) : Type 0 where

@@ -11,6 +11,7 @@ ghost use Rattle.typed_paths.specs.Typed.{IsTyped};
 ghost use Rattle.element_paths.specs.Elements.{GoesOn};
 ghost use Rattle.memory_lower.specs.Lowered.{LowersInMemory};
 ghost use Rattle.memory_lower.specs.Made.{CanBeLowered, WordTargets, ElementTargets};
+ghost use Rattle.memory_lower.specs.Shapes.{HasWordShape};
 
 use crate::words::{word_for, word_targets};
 use element_paths::{Element, alone_path};
@@ -67,7 +68,8 @@ fn element_targets(
 }
 
 /// Targets for a select path that goes on from an element of a signal, which is a memory in the text: all of their guards and indices
-/// are valued before the first one is written, by calls of some helpers more. Or want of memory.
+/// are valued before the first one is written, by calls of some helpers more. Each is the signal's name with the select of one word, and
+/// with one more at most, none where an element has one bit. Or want of memory.
 pub fn lower_in_memory(
     alloc: Global,
     names: &NameMap,
@@ -83,6 +85,7 @@ pub fn lower_in_memory(
     requires goes { GoesOn element.signal element.of.now element.index.now e.now }
     ensures grows { OnOk result (Grows helpers.old helpers.new) }
     ensures lowers { IfOk result (LowersInMemory names.now functions.now helpers.new element.entry.signal element.entry.of.now e.now) }
+    ensures shape { IfOk result (HasWordShape names.now element.entry.signal element.entry.of.now) }
 {
     let inner = alone_path(alloc, e)?;
     element_targets(alloc, names, functions, element, &inner, helpers)

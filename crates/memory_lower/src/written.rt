@@ -8,6 +8,7 @@ ghost use Rattle.path_flatten.specs.Helping.{Grows};
 ghost use Rattle.expr_lower.specs.Leaves.{leaves, Each, IsLowered};
 ghost use Rattle.expr_lower.specs.Named.{is_memory};
 ghost use Rattle.typed_paths.specs.Typed.{IsTyped};
+ghost use Rattle.memory_lower.specs.Shapes.{HasWrittenShape};
 ghost use Rattle.memory_lower.specs.Written.{FindsInMemory, LowersWritten};
 
 use crate::targets::lower_in_memory;
@@ -64,6 +65,7 @@ pub fn lower_written(
     requires typed { IsTyped e.now }
     ensures grows { OnOk result (Grows helpers.old helpers.new) }
     ensures lowers { IfOk result (LowersWritten names.now functions.now helpers.new e.now) }
+    ensures shape { IfOk result (HasWrittenShape names.now functions.now helpers.new e.now) }
 {
     match element_in_memory(names, e) {
         None => lower_target(alloc, names, functions, e, helpers),
