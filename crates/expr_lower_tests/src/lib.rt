@@ -8,10 +8,6 @@ mod forms;
 #[cfg(test)]
 mod lowered;
 #[cfg(test)]
-mod marks;
-#[cfg(test)]
 mod memories;
 #[cfg(test)]
 mod paths;
-#[cfg(test)]
-mod texts;

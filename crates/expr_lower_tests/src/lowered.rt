@@ -1,8 +1,8 @@
 //! Expressions, lowered.
 
-use crate::texts::put_expr;
 use expr_fits::fits;
 use expr_lower::lower;
+use expr_texts::put_expr;
 use lowered_forms::is_lowered;
 use path_flatten::Helpers;
 use std::alloc::{AllocError, Global};

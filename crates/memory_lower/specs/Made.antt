@@ -19,6 +19,7 @@ use Rattle.eval_parts.specs.Limits.{FitsAlone}
 use Rattle.expr_lower.specs.Leaves.{leaves, Each, IsLowered}
 use Rattle.expr_lower.specs.Named.{signal_name}
 use Rattle.typed_paths.specs.Typed.{IsTyped}
+use Rattle.target_lower.specs.declared.within.Within.{Within}
 use Rattle.target_lower.specs.Made.{PutsIndices}
 use Rattle.memory_words.specs.Words.{FindsWord, NamesWord, NumbersWord}
 use Rattle.memory_targets.specs.declared.words.Word.{Word}
@@ -62,13 +63,13 @@ pub record IsInWordFor (names : NameMap) (n : ℕ) (t : SvType) (inner : Expr) (
   pub puts : IsPutInWord word alone made
 
 -- with the indices that are put together for the path
-pub record WordTargets (names : NameMap) (fs : List Function) (hs : List Helper) (n : ℕ) (t : SvType) (inner : Expr) (word : Word) (made : Targets) : Type 0 where
+pub record WordTargets (within : Within) (names : NameMap) (fs : List Function) (hs : List Helper) (n : ℕ) (t : SvType) (inner : Expr) (word : Word) (made : Targets) : Type 0 where
   pub indices : List PathIndex
-  pub puts : PutsIndices names fs hs inner [] indices
+  pub puts : PutsIndices within names fs hs inner [] indices
   pub in_word : IsInWordFor names n t inner word indices made
 
 -- in the word of an element's index
-pub record ElementTargets (names : NameMap) (fs : List Function) (hs : List Helper) (n : ℕ) (t : SvType) (i inner : Expr) (made : Targets) : Type 0 where
+pub record ElementTargets (within : Within) (names : NameMap) (fs : List Function) (hs : List Helper) (n : ℕ) (t : SvType) (i inner : Expr) (made : Targets) : Type 0 where
   pub word : Word
-  pub is_word : IsWordFor names fs hs t i word
-  pub targets : WordTargets names fs hs n t inner word made
+  pub is_word : IsWordFor within names fs hs t i word
+  pub targets : WordTargets within names fs hs n t inner word made

@@ -8,6 +8,7 @@ use Rattle.v_tree.specs.declared.names.Helper.{Helper}
 use Rattle.v_tree.specs.declared.names.NameMap.{NameMap}
 use Rattle.target_walk.specs.declared.never.Targets.{Targets}
 use Rattle.expr_lower.specs.Named.{signal_name, is_memory}
+use Rattle.target_lower.specs.declared.within.Within.{Within}
 use Rattle.target_lower.specs.Targets.{HasShape}
 use Rattle.element_paths.specs.Elements.{GoesOn}
 use Rattle.memory_targets.specs.declared.words.Word.{Word}
@@ -28,5 +29,5 @@ pub record IsShapedInWords (names : NameMap) (e : Expr) (x : Targets) : Type 0 w
   pub shape : HasWordShape names signal of x
 
 -- in a vector, or in words
-abbrev pub HasWrittenShape : NameMap → List Function → List Helper → Expr → Targets → Type 0
-HasWrittenShape names fs hs e x = HasShape names fs hs e x ⊎ IsShapedInWords names e x
+abbrev pub HasWrittenShape : Within → NameMap → List Function → List Helper → Expr → Targets → Type 0
+HasWrittenShape within names fs hs e x = HasShape within names fs hs e x ⊎ IsShapedInWords names e x

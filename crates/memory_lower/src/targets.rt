@@ -4,7 +4,8 @@ ghost use Rattle.std.specs.Prelude.{◌≤◌, IfOk, OnOk};
 ghost use Rattle.sv_types.specs.Expressions.{meaning};
 ghost use Rattle.sv_types.specs.Layouts.{width_of};
 ghost use Rattle.eval_parts.specs.Limits.{FitsAlone};
-ghost use Rattle.eval_forms.specs.Callees.{formals_in, AllFunctionsFit};
+ghost use Rattle.eval_forms.specs.Callees.{formals_in};
+ghost use Rattle.eval_runs.specs.Functions.{AllCanRun};
 ghost use Rattle.path_flatten.specs.Helping.{Grows};
 ghost use Rattle.expr_lower.specs.Leaves.{leaves, Each, IsLowered};
 ghost use Rattle.typed_paths.specs.Typed.{IsTyped};
@@ -19,7 +20,7 @@ use memory_targets::Word;
 use path_flatten::Helpers;
 use std::alloc::{AllocError, Global};
 use sv_types::{Expr, Function, SvType};
-use target_lower::{Indices, index_given, put_indices};
+use target_lower::{Indices, Within, index_given, put_indices};
 use target_walk::Targets;
 use v_tree::NameMap;
 
@@ -28,22 +29,23 @@ fn targets_in_word(
     alloc: Global,
     names: &NameMap,
     functions: &[Function],
+    within: Within,
     signal: u32,
     of: &SvType,
     inner: &Expr,
     word: &Word,
     helpers: &mut Helpers,
 ) -> Result<Targets, AllocError>
-    requires functions { AllFunctionsFit functions.now }
+    requires functions { AllCanRun functions.now }
     requires built { Each IsLowered (leaves inner.now) }
     requires fits { FitsAlone (meaning inner.now) (formals_in functions.now) }
     requires typed { IsTyped inner.now }
     requires of { width_of of.now ≤ 4194304 }
     ensures grows { OnOk result (Grows helpers.old helpers.new) }
-    ensures made { IfOk result (WordTargets names.now functions.now helpers.new signal of.now inner.now word.now) }
+    ensures made { IfOk result (WordTargets within names.now functions.now helpers.new signal of.now inner.now word.now) }
 {
     let mut indices = Indices::new(alloc);
-    put_indices(alloc, names, functions, inner, helpers, &mut indices)?;
+    put_indices(alloc, names, functions, within, inner, helpers, &mut indices)?;
     word_targets(alloc, names, signal, of, inner, word, indices.as_slice())
 }
 
@@ -52,19 +54,20 @@ fn element_targets(
     alloc: Global,
     names: &NameMap,
     functions: &[Function],
+    within: Within,
     element: Element<'_>,
     inner: &Expr,
     helpers: &mut Helpers,
 ) -> Result<Targets, AllocError>
-    requires functions { AllFunctionsFit functions.now }
+    requires functions { AllCanRun functions.now }
     requires can { CanBeLowered element.of.now element.index.now (formals_in functions.now) inner.now }
     ensures grows { OnOk result (Grows helpers.old helpers.new) }
-    ensures made { IfOk result (ElementTargets names.now functions.now helpers.new element.entry.signal element.entry.of.now element.entry.index.now inner.now) }
+    ensures made { IfOk result (ElementTargets within names.now functions.now helpers.new element.entry.signal element.entry.of.now element.entry.index.now inner.now) }
 {
     let Element { signal, of, index } = element;
-    let given = index_given(alloc, names, functions, index, helpers)?;
+    let given = index_given(alloc, names, functions, within, index, helpers)?;
     let word = word_for(alloc, of, given)?;
-    targets_in_word(alloc, names, functions, signal, of, inner, &word, helpers)
+    targets_in_word(alloc, names, functions, within, signal, of, inner, &word, helpers)
 }
 
 /// Targets for a select path that goes on from an element of a signal, which is a memory in the text: all of their guards and indices
@@ -74,19 +77,20 @@ pub fn lower_in_memory(
     alloc: Global,
     names: &NameMap,
     functions: &[Function],
+    within: Within,
     element: Element<'_>,
     e: &Expr,
     helpers: &mut Helpers,
 ) -> Result<Targets, AllocError>
-    requires functions { AllFunctionsFit functions.now }
+    requires functions { AllCanRun functions.now }
     requires built { Each IsLowered (leaves e.now) }
     requires fits { FitsAlone (meaning e.now) (formals_in functions.now) }
     requires typed { IsTyped e.now }
     requires goes { GoesOn element.signal element.of.now element.index.now e.now }
     ensures grows { OnOk result (Grows helpers.old helpers.new) }
-    ensures lowers { IfOk result (LowersInMemory names.now functions.now helpers.new element.entry.signal element.entry.of.now e.now) }
+    ensures lowers { IfOk result (LowersInMemory within names.now functions.now helpers.new element.entry.signal element.entry.of.now e.now) }
     ensures shape { IfOk result (HasWordShape names.now element.entry.signal element.entry.of.now) }
 {
     let inner = alone_path(alloc, e)?;
-    element_targets(alloc, names, functions, element, &inner, helpers)
+    element_targets(alloc, names, functions, within, element, &inner, helpers)
 }

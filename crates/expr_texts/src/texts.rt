@@ -1,10 +1,10 @@
-//! The texts of target expressions, without spaces.
+//! Trees of the target language as texts.
 
 use crate::marks::{binary_mark, unary_mark};
 use std::alloc::AllocError;
 use sv_source::Text;
 use tree_words::put_bits;
-use v_tree::{VExpr, VExtent, VPrim, VSel};
+use v_tree::{VExpr, VExtent, VLval, VPrim, VSel};
 
 fn put_name(name: &Text, to: &mut String) -> Result<(), AllocError> {
     for byte in name.as_bytes() {
@@ -111,7 +111,7 @@ fn put_prim(prim: &VPrim, to: &mut String) -> Result<(), AllocError> {
     }
 }
 
-/// Puts an expression.
+/// Puts an expression behind a text: a number as `'` and its bits, the highest one first. Or want of memory.
 #[cycle(put)]
 pub fn put_expr(expr: &VExpr, to: &mut String) -> Result<(), AllocError> {
     match expr {
@@ -131,6 +131,29 @@ pub fn put_expr(expr: &VExpr, to: &mut String) -> Result<(), AllocError> {
             put_prim(then, to)?;
             to.push(':')?;
             put_prim(other, to)
+        }
+    }
+}
+
+/// Puts what is assigned to behind a text. Or want of memory.
+#[cycle(put_lval)]
+pub fn put_lval(lval: &VLval, to: &mut String) -> Result<(), AllocError> {
+    match lval {
+        VLval::Name { name, sels } => {
+            put_name(name, to)?;
+            put_sels(sels.as_slice(), to)
+        }
+        VLval::Concat(parts) => {
+            to.push('{')?;
+            let mut first = true;
+            for part in parts.as_slice() {
+                if !first {
+                    to.push(',')?;
+                }
+                put_lval(part, to)?;
+                first = false;
+            }
+            to.push('}')
         }
     }
 }

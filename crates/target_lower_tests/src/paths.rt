@@ -1,0 +1,294 @@
+//! Select paths that are written. Signals by number are a, b and so on, the signal with number 8 is the memory m, the local is t, and
+//! the function f gives one more than what it is given.
+
+use b4_core::BinOp;
+use sv_types::Way;
+use tree_words::Word;
+use tree_words::Word::{
+    Assign, Binary, Bits, Call, Formal, Function, Index, Local, Member, Part, Scalar, Signal,
+    SignedVector, Slide, Type, Vector,
+};
+
+/// One more than a number of three bits.
+pub const FUNCTIONS: &[Word] = &[
+    Vector(2, 0),
+    Vector(2, 0),
+    Formal(1, Way::Input),
+    Vector(2, 0),
+    Local(0),
+    Vector(2, 0),
+    Local(1),
+    Bits("001"),
+    Binary(BinOp::Add),
+    Assign(1, false),
+    Function,
+];
+
+/// Paths in vectors, of which indices are numbers or hang on signals.
+pub const PATHS: &[(&[Word], &str)] = &[
+    // a
+    (&[Vector(7, 0), Signal(0)], "a=0+8;"),
+    // t[3]
+    (
+        &[Vector(7, 0), Local(0), Bits("011"), Scalar, Index],
+        "t[3]=0+1;",
+    ),
+    // a[5:2]
+    (
+        &[Vector(7, 0), Signal(0), Vector(3, 0), Part(5, 2)],
+        "a[5:2]=0+4;",
+    ),
+    // a[2:5] of [0:7]
+    (
+        &[Vector(0, 7), Signal(0), Vector(3, 0), Part(2, 5)],
+        "a[5:2]=0+4;",
+    ),
+    // a[9:6]: two bits are there
+    (
+        &[Vector(7, 0), Signal(0), Vector(3, 0), Part(9, 6)],
+        "a[7:6]=0+2;",
+    ),
+    // a[9]: nothing is written
+    (&[Vector(7, 0), Signal(0), Bits("1001"), Scalar, Index], ""),
+    // s.m of a packed struct
+    (
+        &[
+            Type("four packed 3 0 four packed 7 0 struct 2"),
+            Signal(2),
+            Vector(3, 0),
+            Member(0),
+        ],
+        "c[11:8]=0+4;",
+    ),
+    // a[0] of one bit
+    (
+        &[Vector(0, 0), Signal(0), Bits("0"), Scalar, Index],
+        "a=0+1;",
+    ),
+    // a[b]: each number of b has an element
+    (
+        &[
+            Vector(7, 0),
+            Signal(0),
+            Vector(2, 0),
+            Signal(1),
+            Scalar,
+            Index,
+        ],
+        "a[{b}]=0+1;",
+    ),
+    // a[b] of five bits
+    (
+        &[
+            Vector(4, 0),
+            Signal(0),
+            Vector(2, 0),
+            Signal(1),
+            Scalar,
+            Index,
+        ],
+        "if(b<='100)a[{b}]=0+1;",
+    ),
+    // a[b] of [4:1] by a signed index
+    (
+        &[
+            Vector(4, 1),
+            Signal(0),
+            SignedVector(2, 0),
+            Signal(1),
+            Scalar,
+            Index,
+        ],
+        "",
+    ),
+    // d[b] of four elements of eight bits
+    (
+        &[
+            Type("four packed 7 0 array 0 3"),
+            Signal(3),
+            Vector(1, 0),
+            Signal(1),
+            Vector(7, 0),
+            Index,
+        ],
+        "",
+    ),
+    // a[b +: 2]
+    (
+        &[
+            Vector(3, 0),
+            Signal(0),
+            Vector(1, 0),
+            Signal(1),
+            Vector(1, 0),
+            Slide(2, true),
+        ],
+        "",
+    ),
+    // y[9][b] of four elements: nothing is written, and b is named
+    (
+        &[
+            Type("four packed 7 0 array 0 3"),
+            Signal(3),
+            Bits("1001"),
+            Vector(7, 0),
+            Index,
+            Vector(2, 0),
+            Signal(1),
+            Scalar,
+            Index,
+        ],
+        "",
+    ),
+];
+
+/// Paths on elements of the memory m.
+pub const MEMORIES: &[(&[Word], &str)] = &[
+    // m[2]
+    (
+        &[
+            Type("four packed 7 0 array 3 0"),
+            Signal(8),
+            Bits("10"),
+            Vector(7, 0),
+            Index,
+        ],
+        "m[2]=0+8;",
+    ),
+    // m[2][5:2] of [1:4]
+    (
+        &[
+            Type("four packed 7 0 array 1 4"),
+            Signal(8),
+            Bits("010"),
+            Vector(7, 0),
+            Index,
+            Vector(3, 0),
+            Part(5, 2),
+        ],
+        "m[1][5:2]=0+4;",
+    ),
+    // m[a] of [3:0]
+    (
+        &[
+            Type("four packed 7 0 array 3 0"),
+            Signal(8),
+            Vector(1, 0),
+            Signal(0),
+            Vector(7, 0),
+            Index,
+        ],
+        "m[a]=0+8;",
+    ),
+    // m[a] of [0:2]: index 3 writes nothing
+    (
+        &[
+            Type("four packed 3 0 array 0 2"),
+            Signal(8),
+            Vector(1, 0),
+            Signal(0),
+            Vector(3, 0),
+            Index,
+        ],
+        "if(a<='10)m[{a}]=0+4;",
+    ),
+    // m[a][b] of words of one bit
+    (
+        &[
+            Type("four packed 0 0 array 3 0"),
+            Signal(8),
+            Vector(1, 0),
+            Signal(0),
+            Vector(0, 0),
+            Index,
+            Vector(0, 0),
+            Signal(1),
+            Scalar,
+            Index,
+        ],
+        "",
+    ),
+    // m[4] of [3:0]
+    (
+        &[
+            Type("four packed 7 0 array 3 0"),
+            Signal(8),
+            Bits("100"),
+            Vector(7, 0),
+            Index,
+        ],
+        "",
+    ),
+    // m[a][9]: nothing is written, and a is named
+    (
+        &[
+            Type("four packed 7 0 array 3 0"),
+            Signal(8),
+            Vector(1, 0),
+            Signal(0),
+            Vector(7, 0),
+            Index,
+            Bits("1001"),
+            Scalar,
+            Index,
+        ],
+        "",
+    ),
+];
+
+/// Paths of which indices are calls, in a process.
+pub const CALLS: &[(&[Word], &str)] = &[
+    // a[f(1)]
+    (
+        &[
+            Vector(7, 0),
+            Signal(0),
+            Bits("001"),
+            Vector(2, 0),
+            Call(0, 1),
+            Scalar,
+            Index,
+        ],
+        "a[2]=0+1;",
+    ),
+    // a[f(1) +: 2]
+    (
+        &[
+            Vector(7, 0),
+            Signal(0),
+            Bits("001"),
+            Vector(2, 0),
+            Call(0, 1),
+            Vector(1, 0),
+            Slide(2, true),
+        ],
+        "a[3:2]=0+2;",
+    ),
+    // m[f(1)]
+    (
+        &[
+            Type("four packed 7 0 array 3 0"),
+            Signal(8),
+            Bits("001"),
+            Vector(2, 0),
+            Call(0, 1),
+            Vector(7, 0),
+            Index,
+        ],
+        "m[2]=0+8;",
+    ),
+    // a[f(b)]: it hangs on a signal
+    (
+        &[
+            Vector(7, 0),
+            Signal(0),
+            Vector(2, 0),
+            Signal(1),
+            Vector(2, 0),
+            Call(0, 1),
+            Scalar,
+            Index,
+        ],
+        "a[{f(b)}]=0+1;",
+    ),
+];
