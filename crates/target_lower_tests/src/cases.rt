@@ -43,18 +43,3 @@ fn calls(rt: HostRuntime) -> Result<(), Fail> {
     assert_eq!(rt; first_wrong(rt.alloc(), Within::Process, CALLS)?, None);
     Ok(())
 }
-
-#[test]
-fn show(rt: HostRuntime) -> Result<(), Fail> {
-    let functions = functions(rt.alloc(), FUNCTIONS)?;
-    for table in [PATHS, MEMORIES, CALLS] {
-        for (words, _wanted) in table.iter() {
-            let e = expression(rt.alloc(), words)?;
-            for within in [Within::Process, Within::Routine] {
-                let text = text_of(rt.alloc(), &functions, within, &e)?;
-                let _ = println!(rt; "{text}");
-            }
-        }
-    }
-    Ok(())
-}

@@ -35,17 +35,17 @@ pub const PATHS: &[(&[Word], &str)] = &[
     ),
     // a[5:2]
     (
-        &[Vector(7, 0), Signal(0), Vector(3, 0), Part(5, 2)],
+        &[Vector(7, 0), Signal(0), Vector(5, 2), Part(5, 2)],
         "a[5:2]=0+4;",
     ),
     // a[2:5] of [0:7]
     (
-        &[Vector(0, 7), Signal(0), Vector(3, 0), Part(2, 5)],
+        &[Vector(0, 7), Signal(0), Vector(2, 5), Part(2, 5)],
         "a[5:2]=0+4;",
     ),
     // a[9:6]: two bits are there
     (
-        &[Vector(7, 0), Signal(0), Vector(3, 0), Part(9, 6)],
+        &[Vector(7, 0), Signal(0), Vector(9, 6), Part(9, 6)],
         "a[7:6]=0+2;",
     ),
     // a[9]: nothing is written
@@ -75,7 +75,7 @@ pub const PATHS: &[(&[Word], &str)] = &[
             Scalar,
             Index,
         ],
-        "a[{b}]=0+1;",
+        "a['00000+({b}*'00001)]=0+1;",
     ),
     // a[b] of five bits
     (
@@ -87,7 +87,7 @@ pub const PATHS: &[(&[Word], &str)] = &[
             Scalar,
             Index,
         ],
-        "if(b<='100)a[{b}]=0+1;",
+        "if(b<='100)a['0000+({b}*'0001)]=0+1;",
     ),
     // a[b] of [4:1] by a signed index
     (
@@ -99,7 +99,7 @@ pub const PATHS: &[(&[Word], &str)] = &[
             Scalar,
             Index,
         ],
-        "",
+        "if(($signed($signed(b))>=$signed('0001))&&($signed($signed(b))<=$signed('0100)))a['0000+({$signed($signed(b))-$signed('0001)}*'0001)]=0+1;",
     ),
     // d[b] of four elements of eight bits
     (
@@ -111,7 +111,7 @@ pub const PATHS: &[(&[Word], &str)] = &[
             Vector(7, 0),
             Index,
         ],
-        "",
+        "if(($signed({'0,b})>=$signed('0000000))&&($signed({'0,b})<=$signed('0000011)))d['0000000+({$signed('0000011)-$signed({'0,b})}*'0001000)+:8]=0+8;",
     ),
     // a[b +: 2]
     (
@@ -123,7 +123,7 @@ pub const PATHS: &[(&[Word], &str)] = &[
             Vector(1, 0),
             Slide(2, true),
         ],
-        "",
+        "a['0000+({b}*'0001)]=0+1;if(($signed({'0,b})>=$signed('1111))&&($signed({'0,b})<=$signed('0010)))a['0000+({$signed({'0,b})-$signed('1111)}*'0001)]=1+1;",
     ),
     // y[9][b] of four elements: nothing is written, and b is named
     (
@@ -138,7 +138,7 @@ pub const PATHS: &[(&[Word], &str)] = &[
             Scalar,
             Index,
         ],
-        "",
+        "names '0&&b",
     ),
 ];
 
@@ -163,7 +163,7 @@ pub const MEMORIES: &[(&[Word], &str)] = &[
             Bits("010"),
             Vector(7, 0),
             Index,
-            Vector(3, 0),
+            Vector(5, 2),
             Part(5, 2),
         ],
         "m[1][5:2]=0+4;",
@@ -206,9 +206,9 @@ pub const MEMORIES: &[(&[Word], &str)] = &[
             Scalar,
             Index,
         ],
-        "",
+        "if((b<='0)&&(('00+({b}*'01))<='00))m[a]=0+1;",
     ),
-    // m[4] of [3:0]
+    // m[4] of [3:0]: there is no such word, so nothing is written
     (
         &[
             Type("four packed 7 0 array 3 0"),
@@ -217,7 +217,7 @@ pub const MEMORIES: &[(&[Word], &str)] = &[
             Vector(7, 0),
             Index,
         ],
-        "",
+        "m[4]=0+8;",
     ),
     // m[a][9]: nothing is written, and a is named
     (
@@ -232,7 +232,7 @@ pub const MEMORIES: &[(&[Word], &str)] = &[
             Scalar,
             Index,
         ],
-        "",
+        "names '0&&a",
     ),
 ];
 
@@ -262,7 +262,7 @@ pub const CALLS: &[(&[Word], &str)] = &[
             Vector(1, 0),
             Slide(2, true),
         ],
-        "a[3:2]=0+2;",
+        "a[2]=0+1;a[3]=1+1;",
     ),
     // m[f(1)]
     (
@@ -289,6 +289,6 @@ pub const CALLS: &[(&[Word], &str)] = &[
             Scalar,
             Index,
         ],
-        "a[{f(b)}]=0+1;",
+        "a['00000+({f(sv2v_h_cast_3(b))}*'00001)]=0+1;",
     ),
 ];
