@@ -145,7 +145,6 @@ module _ (of : Layout) (q : ℕ) (i : Option ℤ) (m : T.Meaning) (low : ℤ) (l
 -- any index of at most 65 bits and a sign, by numbers of 66 bits
 pub finds-above : (x : Index) (low : ℤ) (m : T.Meaning) (bits : ℕ) (e : VExpr) → IsSignedIndex x m bits → bits ≤ 65 → IsNear low → meaning e ≡ above (T.signing true m) 66 low → FindsNumberAbove x low e
 finds-above x low m bits e number few near is of i a sc v is_low count stands =
-    let last : ℕ = unsigned_abs (of.left -ℤ of.right) in
     let below = near.below in
     let above_it = near.above in
     subst (λ (y : T.Meaning). IsWord of (P.index_of i a) None y sc v) (sym is)

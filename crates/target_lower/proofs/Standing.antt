@@ -135,8 +135,8 @@ lowers-target within names fs hs e ps x h typed fits puts im a sc calls distinct
 -- they have their shape
 bare-if : (within : Within) (names : NameMap) (fs : List Function) (hs : List Helper) (e : Expr) (ps : List PathIndex) (x : Targets) (h : IsInImage names e ps x) → PutsIndices within names fs hs e [] ps
     → BareIf within fs e (name_under names h.root.held) x
-bare-if Process names fs hs e ps x h puts number t xs part path constant =
-    h.bare (made-fixed names fs hs xs ps (subst (AreMade Process names fs hs xs) (sym puts.is) (puts.made number t xs part path)) constant)
+bare-if Process names fs hs e ps x h puts =
+    λ number t xs part path constant. h.bare (made-fixed names fs hs xs ps (subst (AreMade Process names fs hs xs) (sym puts.is) (puts.made number t xs part path)) constant)
 bare-if Routine names fs hs e ps x h puts = tt
 
 pub has-shape : (within : Within) (names : NameMap) (fs : List Function) (hs : List Helper) (e : Expr) (ps : List PathIndex) (x : Targets) → IsInImage names e ps x → PutsIndices within names fs hs e [] ps

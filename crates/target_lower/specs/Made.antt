@@ -47,10 +47,13 @@ FixedIf Process fs i g = IsConstant fs i → IsFixed g
 FixedIf Routine fs i g = ⊤
 
 -- its number, if one is found, which it is in a process for such an index
+abbrev pub HasNoNumber : Within → List Function → Expr → Type 0
+HasNoNumber Process fs i = IsConstant fs i → ⊥
+HasNoNumber Routine fs i = ⊤
+
 abbrev pub GivesNumber : Within → List Function → Expr → Option KnownIndex → Type 0
 GivesNumber within fs i (Some x) = IsKnownFrom within fs i x.number × IsSmall (G.Known x.number)
-GivesNumber Process fs i None = IsConstant fs i → ⊥
-GivesNumber Routine fs i None = ⊤
+GivesNumber within fs i None = HasNoNumber within fs i
 
 -- an index by its number, or as it is lowered alone
 abbrev pub StandsForIndex : Within → NameMap → List Function → List Helper → Expr → Given → Type 0
