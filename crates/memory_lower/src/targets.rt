@@ -45,7 +45,15 @@ fn targets_in_word(
     ensures made { IfOk result (WordTargets within names.now functions.now helpers.new signal of.now inner.now word.now) }
 {
     let mut indices = Indices::new(alloc);
-    put_indices(alloc, names, functions, within, inner, helpers, &mut indices)?;
+    put_indices(
+        alloc,
+        names,
+        functions,
+        within,
+        inner,
+        helpers,
+        &mut indices,
+    )?;
     word_targets(alloc, names, signal, of, inner, word, indices.as_slice())
 }
 
@@ -67,7 +75,9 @@ fn element_targets(
     let Element { signal, of, index } = element;
     let given = index_given(alloc, names, functions, within, index, helpers)?;
     let word = word_for(alloc, of, given)?;
-    targets_in_word(alloc, names, functions, within, signal, of, inner, &word, helpers)
+    targets_in_word(
+        alloc, names, functions, within, signal, of, inner, &word, helpers,
+    )
 }
 
 /// Targets for a select path that goes on from an element of a signal, which is a memory in the text: all of their guards and indices

@@ -16,8 +16,8 @@ use crate::within::Within;
 use case_targets::PathIndex;
 use eval_parts::{Step, own_sign, own_width, step_of};
 use expr_lower::lower;
-use path_flatten::{Helpers, Index};
 use known_indices::IndexFail;
+use path_flatten::{Helpers, Index};
 use path_steps::{KnownIndex, known_index};
 use std::alloc::{AllocError, Global};
 use sv_source::Items;
@@ -196,18 +196,24 @@ pub fn put_indices(
         None => Ok(()),
         Some(Step::Signal(_)) => Ok(()),
         Some(Step::Local(_)) => Ok(()),
-        Some(Step::Member(from, _)) => put_indices(alloc, names, functions, within, from, helpers, indices),
+        Some(Step::Member(from, _)) => put_indices(
+            alloc, names, functions, within, from, helpers, indices,
+        ),
         Some(Step::Part { from, .. }) => {
             put_indices(alloc, names, functions, within, from, helpers, indices)
         }
         Some(Step::Index(from, i)) => {
             let in_part = ends_in_part(from);
-            put_index(alloc, names, functions, within, i, in_part, helpers, indices)?;
+            put_index(
+                alloc, names, functions, within, i, in_part, helpers, indices,
+            )?;
             put_indices(alloc, names, functions, within, from, helpers, indices)
         }
         Some(Step::Slide { from, base, .. }) => {
             let in_part = ends_in_part(from);
-            put_index(alloc, names, functions, within, base, in_part, helpers, indices)?;
+            put_index(
+                alloc, names, functions, within, base, in_part, helpers, indices,
+            )?;
             put_indices(alloc, names, functions, within, from, helpers, indices)
         }
     }
