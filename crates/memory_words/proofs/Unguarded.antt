@@ -104,7 +104,7 @@ module _ (of : Layout) (q : ℕ) (i : Option ℤ) (m : T.Meaning) (low : ℤ) (l
   bits-known : (b : Bool) → known index_bits ≡ b → (length u ≡ suc (suc q)) × (known u ≡ b)
   bits-known true k =
       let is = above-known i m (suc (suc q)) sc v index low k low-signed in
-      (ap length is ∙ length-vec (suc (suc q)) _, ap known is ∙ known-vec (suc (suc q)) _)
+      (ap length is ∙ length-vec (suc (suc q)) (snum index_bits -ℤ low), ap known is ∙ known-vec (suc (suc q)) (snum index_bits -ℤ low))
   bits-known false k =
       let is = above-unknown i m (suc (suc q)) sc v index low k in
       (ap length is ∙ length-unknown (suc (suc q)), ap known is ∙ unknown-bits (suc (suc q)) (omega arith))
