@@ -104,7 +104,7 @@ module _ (of : Layout) (q : ℕ) (i : Option ℤ) (m : T.Meaning) (low : ℤ) (l
   bits-known : (b : Bool) → known index_bits ≡ b → (length u ≡ suc (suc q)) × (known u ≡ b)
   bits-known true k =
       let is = above-known i m (suc (suc q)) sc v index low k low-signed in
-      (ap length is ∙ length-vec (suc (suc q)) _, ap known is ∙ known-vec (suc (suc q)) _)
+      (ap length is ∙ length-vec (suc (suc q)) (snum index_bits -ℤ low), ap known is ∙ known-vec (suc (suc q)) (snum index_bits -ℤ low))
   bits-known false k =
       let is = above-unknown i m (suc (suc q)) sc v index low k in
       (ap length is ∙ length-unknown (suc (suc q)), ap known is ∙ unknown-bits (suc (suc q)) (omega arith))
@@ -145,7 +145,6 @@ module _ (of : Layout) (q : ℕ) (i : Option ℤ) (m : T.Meaning) (low : ℤ) (l
 -- any index of at most 65 bits and a sign, by numbers of 66 bits
 pub finds-above : (x : Index) (low : ℤ) (m : T.Meaning) (bits : ℕ) (e : VExpr) → IsSignedIndex x m bits → bits ≤ 65 → IsNear low → meaning e ≡ above (T.signing true m) 66 low → FindsNumberAbove x low e
 finds-above x low m bits e number few near is of i a sc v is_low count stands =
-    let last : ℕ = unsigned_abs (of.left -ℤ of.right) in
     let below = near.below in
     let above_it = near.above in
     subst (λ (y : T.Meaning). IsWord of (P.index_of i a) None y sc v) (sym is)

@@ -18,12 +18,13 @@ use sv_types::SvType;
 use v_build::{binary, signing};
 use v_tree::VExpr;
 
-/// How far a signed number lies above a lowest one, read as an unsigned number.
-fn above(alloc: Global, number: VExpr, low: i64) -> Result<VExpr, AllocError>
-    ensures { IfOk result (λ e. meaning e ≡ terms.above (means.signing true (meaning number)) 66 low) }
+/// How far a signed number lies above a lowest one, by numbers of so many bits, read as an unsigned number.
+fn above(alloc: Global, number: VExpr, width: u32, low: i64) -> Result<VExpr, AllocError>
+    requires { width ≤ 128 }
+    ensures { IfOk result (λ e. meaning e ≡ terms.above (means.signing true (meaning number)) width low) }
 {
     let number = signing(alloc, true, number);
-    let (number, low) = both(number, bound(alloc, NUMBER_BITS, i128::from(low)))?;
+    let (number, low) = both(number, bound(alloc, width, i128::from(low)))?;
     let difference = binary(alloc, BinOp::Sub, number, low)?;
     braced(alloc, difference)
 }
@@ -35,7 +36,7 @@ fn number_above(alloc: Global, index: Index, low: i64) -> Result<VExpr, AllocErr
     ensures names { IfOk result (λ e. NamesLike (meaning index.expr) (meaning e)) }
 {
     let number = signed_index(alloc, index)?;
-    let made = above(alloc, number.expr, low)?;
+    let made = above(alloc, number.expr, NUMBER_BITS, low)?;
     Ok(made)
 }
 
