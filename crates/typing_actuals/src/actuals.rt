@@ -56,7 +56,7 @@ fn refused<S: Nets, C: Fn(u32, &mut Known) -> Result<u32, Halt>>(
     e: &Expr,
     known: &mut Known,
 ) -> Result<Valued, Halt>
-    requires needs { MakesKnown _ (C.IsAlwaysCallable needs.now) (λ k. k.now) (C.post needs.now) (S.context names.now) }
+    requires needs { MakesKnown _ ((n : _) (k : _) → IsReady k.now → C.pre needs.now n k) (λ k. k.now) (C.post needs.now) (S.context names.now) }
     requires names { Surrounded AllSoundFunctions (S.context names.now) }
     requires written { is_written e.now ≡ true }
     requires ready { IsReady known.old }
@@ -81,7 +81,7 @@ pub fn actual_target<S: Nets, C: Fn(u32, &mut Known) -> Result<u32, Halt>>(
     e: &Expr,
     known: &mut Known,
 ) -> Result<Valued, Halt>
-    requires needs { MakesKnown _ (C.IsAlwaysCallable needs.now) (λ k. k.now) (C.post needs.now) (S.context names.now) }
+    requires needs { MakesKnown _ ((n : _) (k : _) → IsReady k.now → C.pre needs.now n k) (λ k. k.now) (C.post needs.now) (S.context names.now) }
     requires names { Surrounded AllSoundFunctions (S.context names.now) }
     requires written { is_written e.now ≡ true }
     requires ready { IsReady known.old }

@@ -62,7 +62,7 @@ fn assigned_name<S: Nets, C: Fn(u32, &mut Known) -> Result<u32, Halt>>(
     selects: &[Select],
     known: &mut Known,
 ) -> Result<Valued, Halt>
-    requires needs { MakesKnown _ (C.IsAlwaysCallable needs.now) (λ k. k.now) (C.post needs.now) (S.context names.now) }
+    requires needs { MakesKnown _ ((n : _) (k : _) → IsReady k.now → C.pre needs.now n k) (λ k. k.now) (C.post needs.now) (S.context names.now) }
     requires names { Surrounded AllSoundFunctions (S.context names.now) }
     requires written { AllWritten (in_selects selects.now) }
     requires ready { IsReady known.old }
@@ -72,7 +72,7 @@ fn assigned_name<S: Nets, C: Fn(u32, &mut Known) -> Result<u32, Halt>>(
     ensures keeps { Extends known.old.functions known.new.functions }
 {
     let typed = |e: &Expr, k: &mut Known| -> Result<Operand, Halt>
-        requires needs { MakesKnown _ (C.IsAlwaysCallable needs.now) (λ k. k.now) (C.post needs.now) (S.context names.now) }
+        requires needs { MakesKnown _ ((n : _) (k : _) → IsReady k.now → C.pre needs.now n k) (λ k. k.now) (C.post needs.now) (S.context names.now) }
         requires names { Surrounded AllSoundFunctions (S.context names.now) }
         requires written { is_written e.now ≡ true }
         requires ready { IsReady k.old }
@@ -96,7 +96,7 @@ pub(crate) fn name_target<S: Nets, C: Fn(u32, &mut Known) -> Result<u32, Halt>>(
     selects: &[Select],
     known: &mut Known,
 ) -> Result<Valued, Halt>
-    requires needs { MakesKnown _ (C.IsAlwaysCallable needs.now) (λ k. k.now) (C.post needs.now) (S.context names.now) }
+    requires needs { MakesKnown _ ((n : _) (k : _) → IsReady k.now → C.pre needs.now n k) (λ k. k.now) (C.post needs.now) (S.context names.now) }
     requires names { Surrounded AllSoundFunctions (S.context names.now) }
     requires written { AllWritten (in_selects selects.now) }
     requires ready { IsReady known.old }

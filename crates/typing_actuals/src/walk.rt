@@ -31,7 +31,7 @@ fn parts<S: Nets, C: Fn(u32, &mut Known) -> Result<u32, Halt>>(
     items: &[Expr],
     known: &mut Known,
 ) -> Result<Exprs, Halt>
-    requires needs { MakesKnown _ (C.IsAlwaysCallable needs.now) (λ k. k.now) (C.post needs.now) (S.context names.now) }
+    requires needs { MakesKnown _ ((n : _) (k : _) → IsReady k.now → C.pre needs.now n k) (λ k. k.now) (C.post needs.now) (S.context names.now) }
     requires names { Surrounded AllSoundFunctions (S.context names.now) }
     requires written { AllWritten items.now }
     requires form { def.are_targets (S.context names.now) items.now ≡ true }
@@ -58,7 +58,7 @@ pub(crate) fn target<S: Nets, C: Fn(u32, &mut Known) -> Result<u32, Halt>>(
     e: &Expr,
     known: &mut Known,
 ) -> Result<Valued, Halt>
-    requires needs { MakesKnown _ (C.IsAlwaysCallable needs.now) (λ k. k.now) (C.post needs.now) (S.context names.now) }
+    requires needs { MakesKnown _ ((n : _) (k : _) → IsReady k.now → C.pre needs.now n k) (λ k. k.now) (C.post needs.now) (S.context names.now) }
     requires names { Surrounded AllSoundFunctions (S.context names.now) }
     requires written { is_written e.now ≡ true }
     requires form { def.is_target (S.context names.now) e.now ≡ true }

@@ -30,7 +30,7 @@ pub fn call<
     arguments: &[Expr],
     known: &mut Known,
 ) -> Result<Valued, Halt>
-    requires needs { MakesKnown _ (C.IsAlwaysCallable needs.now) (λ k. k.now) (C.post needs.now) (S.context names.now) }
+    requires needs { MakesKnown _ ((n : _) (k : _) → IsReady k.now → C.pre needs.now n k) (λ k. k.now) (C.post needs.now) (S.context names.now) }
     requires can { AllCanType _ _ (λ e. e.now) (λ k. k.now) (F.pre typed.now) (F.post typed.now) (S.context names.now) arguments.now }
     requires ready { IsReady known.old }
     ensures value { TypesTo result (call_of_name (S.context names.now) of arguments.now known.old.functions) known.new.functions }

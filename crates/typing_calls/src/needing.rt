@@ -29,7 +29,7 @@ pub fn needed<S: Names, C: Fn(u32, &mut Known) -> Result<u32, Halt>>(
     count: usize,
     known: &mut Known,
 ) -> Result<u32, Halt>
-    requires needs { MakesKnown _ (C.IsAlwaysCallable needs.now) (λ k. k.now) (C.post needs.now) (S.context names.now) }
+    requires needs { MakesKnown _ ((n : _) (k : _) → IsReady k.now → C.pre needs.now n k) (λ k. k.now) (C.post needs.now) (S.context names.now) }
     requires ready { IsReady known.old }
     ensures value { CalledTo result (needed_of (S.context names.now) of count known.old.functions) known.new.functions }
     ensures ready { IsReady known.new }

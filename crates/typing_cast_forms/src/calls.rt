@@ -36,7 +36,7 @@ pub fn called<
     cast: &Option<Boxed<Cast>>,
     known: &mut Known,
 ) -> Result<Operand, Halt>
-    requires needs { MakesKnown _ (C.IsAlwaysCallable needs.now) (λ k. k.now) (C.post needs.now) (S.context names.now) }
+    requires needs { MakesKnown _ ((n : _) (k : _) → IsReady k.now → C.pre needs.now n k) (λ k. k.now) (C.post needs.now) (S.context names.now) }
     requires names { Surrounded AllSoundFunctions (S.context names.now) }
     requires written { AllWritten arguments.now }
     requires arguments { AllCanType _ _ (λ e. e.now) (λ k. k.now) (F.pre typed.now) (F.post typed.now) (S.context names.now) arguments.now }

@@ -33,7 +33,7 @@ fn value<S: Names, C: Fn(u32, &mut Known) -> Result<u32, Halt>>(
     e: &Expr,
     known: &mut Known,
 ) -> Result<Valued, Halt>
-    requires needs { MakesKnown _ (C.IsAlwaysCallable needs.now) (λ k. k.now) (C.post needs.now) (S.context names.now) }
+    requires needs { MakesKnown _ ((n : _) (k : _) → IsReady k.now → C.pre needs.now n k) (λ k. k.now) (C.post needs.now) (S.context names.now) }
     requires names { Surrounded AllSoundFunctions (S.context names.now) }
     requires written { is_written e.now ≡ true }
     requires ready { IsReady known.old }
@@ -54,7 +54,7 @@ pub fn condition<S: Names, C: Fn(u32, &mut Known) -> Result<u32, Halt>>(
     e: &Expr,
     known: &mut Known,
 ) -> Result<Valued, Halt>
-    requires needs { MakesKnown _ (C.IsAlwaysCallable needs.now) (λ k. k.now) (C.post needs.now) (S.context names.now) }
+    requires needs { MakesKnown _ ((n : _) (k : _) → IsReady k.now → C.pre needs.now n k) (λ k. k.now) (C.post needs.now) (S.context names.now) }
     requires names { Surrounded AllSoundFunctions (S.context names.now) }
     requires written { is_written e.now ≡ true }
     requires ready { IsReady known.old }
@@ -75,7 +75,7 @@ pub fn item_values<S: Names, C: Fn(u32, &mut Known) -> Result<u32, Halt>>(
     es: &[Expr],
     known: &mut Known,
 ) -> Result<Vec<Valued>, Halt>
-    requires needs { MakesKnown _ (C.IsAlwaysCallable needs.now) (λ k. k.now) (C.post needs.now) (S.context names.now) }
+    requires needs { MakesKnown _ ((n : _) (k : _) → IsReady k.now → C.pre needs.now n k) (λ k. k.now) (C.post needs.now) (S.context names.now) }
     requires names { Surrounded AllSoundFunctions (S.context names.now) }
     requires written { exprs_written es.now ≡ true }
     requires ready { IsReady known.old }

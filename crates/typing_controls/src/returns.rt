@@ -47,7 +47,7 @@ pub fn returned<S: Names, C: Fn(u32, &mut Known) -> Result<u32, Halt>>(
     e: Option<&Expr>,
     known: &mut Known,
 ) -> Result<Stmt, Halt>
-    requires needs { MakesKnown _ (C.IsAlwaysCallable needs.now) (λ k. k.now) (C.post needs.now) (S.context names.now) }
+    requires needs { MakesKnown _ ((n : _) (k : _) → IsReady k.now → C.pre needs.now n k) (λ k. k.now) (C.post needs.now) (S.context names.now) }
     requires names { Surrounded AllSoundFunctions (S.context names.now) }
     requires of { option_copied of ≡ (S.context names.now).result }
     requires written { written_if (option_copied e) ≡ true }

@@ -33,7 +33,7 @@ fn part<S: Names, C: Fn(u32, &mut Known) -> Result<u32, Halt>>(
     e: &Expr,
     known: &mut Known,
 ) -> Result<Operand, Halt>
-    requires needs { MakesKnown _ (C.IsAlwaysCallable needs.now) (λ k. k.now) (C.post needs.now) (S.context names.now) }
+    requires needs { MakesKnown _ ((n : _) (k : _) → IsReady k.now → C.pre needs.now n k) (λ k. k.now) (C.post needs.now) (S.context names.now) }
     requires names { Surrounded AllSoundFunctions (S.context names.now) }
     requires less { nodes e.now < nodes whole.now }
     requires written { is_written e.now ≡ true }
@@ -58,7 +58,7 @@ pub fn operand<S: Names, C: Fn(u32, &mut Known) -> Result<u32, Halt>>(
     e: &Expr,
     known: &mut Known,
 ) -> Result<Operand, Halt>
-    requires needs { MakesKnown _ (C.IsAlwaysCallable needs.now) (λ k. k.now) (C.post needs.now) (S.context names.now) }
+    requires needs { MakesKnown _ ((n : _) (k : _) → IsReady k.now → C.pre needs.now n k) (λ k. k.now) (C.post needs.now) (S.context names.now) }
     requires names { Surrounded AllSoundFunctions (S.context names.now) }
     requires written { is_written e.now ≡ true }
     requires ready { IsReady known.old }
@@ -69,7 +69,7 @@ pub fn operand<S: Names, C: Fn(u32, &mut Known) -> Result<u32, Halt>>(
     ensures keeps { Extends known.old.functions known.new.functions }
 {
     let typed = |child: &Expr, k: &mut Known| -> Result<Operand, Halt>
-        requires needs { MakesKnown _ (C.IsAlwaysCallable needs.now) (λ k. k.now) (C.post needs.now) (S.context names.now) }
+        requires needs { MakesKnown _ ((n : _) (k : _) → IsReady k.now → C.pre needs.now n k) (λ k. k.now) (C.post needs.now) (S.context names.now) }
         requires names { Surrounded AllSoundFunctions (S.context names.now) }
         requires less { nodes child.now < nodes e.now }
         requires written { is_written child.now ≡ true }
@@ -113,7 +113,7 @@ pub fn type_expr<S: Names, C: Fn(u32, &mut Known) -> Result<u32, Halt>>(
     want: Option<&SvType>,
     known: &mut Known,
 ) -> Result<sv_types::Expr, Halt>
-    requires needs { MakesKnown _ (C.IsAlwaysCallable needs.now) (λ k. k.now) (C.post needs.now) (S.context names.now) }
+    requires needs { MakesKnown _ ((n : _) (k : _) → IsReady k.now → C.pre needs.now n k) (λ k. k.now) (C.post needs.now) (S.context names.now) }
     requires names { Surrounded AllSoundFunctions (S.context names.now) }
     requires written { is_written e.now ≡ true }
     requires ready { IsReady known.old }

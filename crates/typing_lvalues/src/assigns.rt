@@ -62,7 +62,7 @@ fn assigned_to<S: Nets, C: Fn(u32, &mut Known) -> Result<u32, Halt>>(
     e: &Expr,
     known: &mut Known,
 ) -> Result<Stmt, Halt>
-    requires needs { MakesKnown _ (C.IsAlwaysCallable needs.now) (λ k. k.now) (C.post needs.now) (S.context names.now) }
+    requires needs { MakesKnown _ ((n : _) (k : _) → IsReady k.now → C.pre needs.now n k) (λ k. k.now) (C.post needs.now) (S.context names.now) }
     requires names { Surrounded AllSoundFunctions (S.context names.now) }
     requires target { lvalue_written to.now ≡ true }
     requires written { written.is_written e.now ≡ true }
@@ -87,7 +87,7 @@ pub fn assign<S: Nets, C: Fn(u32, &mut Known) -> Result<u32, Halt>>(
     e: &Expr,
     known: &mut Known,
 ) -> Result<Stmt, Halt>
-    requires needs { MakesKnown _ (C.IsAlwaysCallable needs.now) (λ k. k.now) (C.post needs.now) (S.context names.now) }
+    requires needs { MakesKnown _ ((n : _) (k : _) → IsReady k.now → C.pre needs.now n k) (λ k. k.now) (C.post needs.now) (S.context names.now) }
     requires names { Surrounded AllSoundFunctions (S.context names.now) }
     requires target { lvalue_written to.now ≡ true }
     requires written { written.is_written e.now ≡ true }
@@ -110,7 +110,7 @@ pub fn continuous<S: Nets, C: Fn(u32, &mut Known) -> Result<u32, Halt>>(
     e: &Expr,
     known: &mut Known,
 ) -> Result<Stmt, Halt>
-    requires needs { MakesKnown _ (C.IsAlwaysCallable needs.now) (λ k. k.now) (C.post needs.now) (S.context names.now) }
+    requires needs { MakesKnown _ ((n : _) (k : _) → IsReady k.now → C.pre needs.now n k) (λ k. k.now) (C.post needs.now) (S.context names.now) }
     requires names { Surrounded AllSoundFunctions (S.context names.now) }
     requires target { lvalue_written to.now ≡ true }
     requires written { written.is_written e.now ≡ true }
@@ -143,7 +143,7 @@ pub fn counted<S: Nets, C: Fn(u32, &mut Known) -> Result<u32, Halt>>(
     selects: &[Select],
     known: &mut Known,
 ) -> Result<Stmt, Halt>
-    requires needs { MakesKnown _ (C.IsAlwaysCallable needs.now) (λ k. k.now) (C.post needs.now) (S.context names.now) }
+    requires needs { MakesKnown _ ((n : _) (k : _) → IsReady k.now → C.pre needs.now n k) (λ k. k.now) (C.post needs.now) (S.context names.now) }
     requires names { Surrounded AllSoundFunctions (S.context names.now) }
     requires written { written.all (map written.select_written selects.now) ≡ true }
     requires ready { IsReady known.old }

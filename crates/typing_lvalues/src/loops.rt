@@ -79,7 +79,7 @@ fn counted_step<S: Nets, C: Fn(u32, &mut Known) -> Result<u32, Halt>>(
     at: u32,
     known: &mut Known,
 ) -> Result<Expr, Halt>
-    requires needs { MakesKnown _ (C.IsAlwaysCallable needs.now) (λ k. k.now) (C.post needs.now) (S.context names.now) }
+    requires needs { MakesKnown _ ((n : _) (k : _) → IsReady k.now → C.pre needs.now n k) (λ k. k.now) (C.post needs.now) (S.context names.now) }
     requires names { Surrounded AllSoundFunctions (S.context names.now) }
     requires ready { IsReady known.old }
     ensures value { TypesTo result (counted_of (S.context names.now) name op at known.old.functions) known.new.functions }
@@ -102,7 +102,7 @@ fn assigned_step<S: Nets, C: Fn(u32, &mut Known) -> Result<u32, Halt>>(
     e: &sv_tree::Expr,
     known: &mut Known,
 ) -> Result<Expr, Halt>
-    requires needs { MakesKnown _ (C.IsAlwaysCallable needs.now) (λ k. k.now) (C.post needs.now) (S.context names.now) }
+    requires needs { MakesKnown _ ((n : _) (k : _) → IsReady k.now → C.pre needs.now n k) (λ k. k.now) (C.post needs.now) (S.context names.now) }
     requires names { Surrounded AllSoundFunctions (S.context names.now) }
     requires written { is_written e.now ≡ true }
     requires ready { IsReady known.old }
@@ -124,7 +124,7 @@ pub fn loop_step<S: Nets, C: Fn(u32, &mut Known) -> Result<u32, Halt>>(
     step: &LoopStep,
     known: &mut Known,
 ) -> Result<Expr, Halt>
-    requires needs { MakesKnown _ (C.IsAlwaysCallable needs.now) (λ k. k.now) (C.post needs.now) (S.context names.now) }
+    requires needs { MakesKnown _ ((n : _) (k : _) → IsReady k.now → C.pre needs.now n k) (λ k. k.now) (C.post needs.now) (S.context names.now) }
     requires names { Surrounded AllSoundFunctions (S.context names.now) }
     requires written { step_written step.now ≡ true }
     requires ready { IsReady known.old }

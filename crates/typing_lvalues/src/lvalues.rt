@@ -35,7 +35,7 @@ fn parts<S: Nets, C: Fn(u32, &mut Known) -> Result<u32, Halt>>(
     targets: &[Lvalue],
     known: &mut Known,
 ) -> Result<Vec<TargetPart>, Halt>
-    requires needs { MakesKnown _ (C.IsAlwaysCallable needs.now) (λ k. k.now) (C.post needs.now) (S.context names.now) }
+    requires needs { MakesKnown _ ((n : _) (k : _) → IsReady k.now → C.pre needs.now n k) (λ k. k.now) (C.post needs.now) (S.context names.now) }
     requires names { Surrounded AllSoundFunctions (S.context names.now) }
     requires written { written.all (map lvalue_written targets.now) ≡ true }
     requires ready { IsReady known.old }
@@ -62,7 +62,7 @@ fn wholes<S: Nets, C: Fn(u32, &mut Known) -> Result<u32, Halt>>(
     targets: &[Lvalue],
     known: &mut Known,
 ) -> Result<Vec<Valued>, Halt>
-    requires needs { MakesKnown _ (C.IsAlwaysCallable needs.now) (λ k. k.now) (C.post needs.now) (S.context names.now) }
+    requires needs { MakesKnown _ ((n : _) (k : _) → IsReady k.now → C.pre needs.now n k) (λ k. k.now) (C.post needs.now) (S.context names.now) }
     requires names { Surrounded AllSoundFunctions (S.context names.now) }
     requires written { written.all (map lvalue_written targets.now) ≡ true }
     requires ready { IsReady known.old }
@@ -92,7 +92,7 @@ pub fn target<S: Nets, C: Fn(u32, &mut Known) -> Result<u32, Halt>>(
     to: &Lvalue,
     known: &mut Known,
 ) -> Result<Target, Halt>
-    requires needs { MakesKnown _ (C.IsAlwaysCallable needs.now) (λ k. k.now) (C.post needs.now) (S.context names.now) }
+    requires needs { MakesKnown _ ((n : _) (k : _) → IsReady k.now → C.pre needs.now n k) (λ k. k.now) (C.post needs.now) (S.context names.now) }
     requires names { Surrounded AllSoundFunctions (S.context names.now) }
     requires written { lvalue_written to.now ≡ true }
     requires ready { IsReady known.old }

@@ -34,7 +34,7 @@ pub fn name_target<S: Nets, C: Fn(u32, &mut Known) -> Result<u32, Halt>>(
     selects: &[Select],
     known: &mut Known,
 ) -> Result<Target, Halt>
-    requires needs { MakesKnown _ (C.IsAlwaysCallable needs.now) (λ k. k.now) (C.post needs.now) (S.context names.now) }
+    requires needs { MakesKnown _ ((n : _) (k : _) → IsReady k.now → C.pre needs.now n k) (λ k. k.now) (C.post needs.now) (S.context names.now) }
     requires names { Surrounded AllSoundFunctions (S.context names.now) }
     requires written { written.all (map written.select_written selects.now) ≡ true }
     requires ready { IsReady known.old }
@@ -44,7 +44,7 @@ pub fn name_target<S: Nets, C: Fn(u32, &mut Known) -> Result<u32, Halt>>(
     ensures keeps { Extends known.old.functions known.new.functions }
 {
     let typed = |e: &Expr, k: &mut Known| -> Result<Operand, Halt>
-        requires needs { MakesKnown _ (C.IsAlwaysCallable needs.now) (λ k. k.now) (C.post needs.now) (S.context names.now) }
+        requires needs { MakesKnown _ ((n : _) (k : _) → IsReady k.now → C.pre needs.now n k) (λ k. k.now) (C.post needs.now) (S.context names.now) }
         requires names { Surrounded AllSoundFunctions (S.context names.now) }
         requires written { written.is_written e.now ≡ true }
         requires ready { IsReady k.old }

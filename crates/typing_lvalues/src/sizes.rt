@@ -29,7 +29,7 @@ fn sized<S: Names, C: Fn(u32, &mut Known) -> Result<u32, Halt>>(
     size: &SliceSize,
     known: &mut Known,
 ) -> Result<u32, Halt>
-    requires needs { MakesKnown _ (C.IsAlwaysCallable needs.now) (λ k. k.now) (C.post needs.now) (S.context names.now) }
+    requires needs { MakesKnown _ ((n : _) (k : _) → IsReady k.now → C.pre needs.now n k) (λ k. k.now) (C.post needs.now) (S.context names.now) }
     requires names { Surrounded AllSoundFunctions (S.context names.now) }
     requires written { written.slice_written size.now ≡ true }
     requires ready { IsReady known.old }
@@ -39,7 +39,7 @@ fn sized<S: Names, C: Fn(u32, &mut Known) -> Result<u32, Halt>>(
     ensures keeps { Extends known.old.functions known.new.functions }
 {
     let typed = |e: &Expr, k: &mut Known| -> Result<Operand, Halt>
-        requires needs { MakesKnown _ (C.IsAlwaysCallable needs.now) (λ k. k.now) (C.post needs.now) (S.context names.now) }
+        requires needs { MakesKnown _ ((n : _) (k : _) → IsReady k.now → C.pre needs.now n k) (λ k. k.now) (C.post needs.now) (S.context names.now) }
         requires names { Surrounded AllSoundFunctions (S.context names.now) }
         requires written { written.is_written e.now ≡ true }
         requires ready { IsReady k.old }
@@ -60,7 +60,7 @@ pub(crate) fn slice_size<S: Names, C: Fn(u32, &mut Known) -> Result<u32, Halt>>(
     size: &Option<SliceSize>,
     known: &mut Known,
 ) -> Result<u32, Halt>
-    requires needs { MakesKnown _ (C.IsAlwaysCallable needs.now) (λ k. k.now) (C.post needs.now) (S.context names.now) }
+    requires needs { MakesKnown _ ((n : _) (k : _) → IsReady k.now → C.pre needs.now n k) (λ k. k.now) (C.post needs.now) (S.context names.now) }
     requires names { Surrounded AllSoundFunctions (S.context names.now) }
     requires written { written.if_there (option_map written.slice_written size.now) ≡ true }
     requires ready { IsReady known.old }

@@ -1,0 +1,7 @@
+pub mod Joining
+pub mod Lists
+pub mod Taking
+pub mod Around
+pub mod Making
+pub mod Found
+pub mod Written

@@ -1,0 +1,4 @@
+pub mod Blocks
+pub mod Declaring
+pub mod Kinds
+pub mod Rows

@@ -1,0 +1,4 @@
+pub mod Written
+pub mod Valuing
+pub mod Rows
+pub mod Declaring

@@ -1,0 +1,4 @@
+pub mod Rows
+pub mod Joining
+pub mod Under
+pub mod Levels
