@@ -6,10 +6,9 @@ ghost use Rattle.expr_type.specs.Operators as operator;
 ghost use Rattle.sv_types.specs.declared.expression.Form.TheVariants as F;
 
 use expr_type::{Source, Valued};
-use operand_types::by_itself;
+use operand_types::{by_itself, copy_type};
 use std::alloc::{AllocError, Global};
 use sv_types::{Exprs, Form, SvType};
-use type_kinds::copy_type;
 
 /// A call at its first token of the function at a place in the list of functions, with what is passed to it.
 pub fn called(

@@ -8,10 +8,9 @@ ghost use Rattle.expr_type.specs.Operators.{all_bits};
 ghost use Rattle.operand_types.specs.Allowed.{AllNarrow, IsShort, IsWithin};
 
 use expr_type::{Halt, Source, Valued};
-use operand_types::by_itself;
+use operand_types::{by_itself, vector};
 use std::alloc::Global;
 use sv_types::{Expr, Exprs, Form, width};
-use type_kinds::vector;
 
 /// The most bits that a stream may have.
 pub const MOST_BITS: u32 = 65_536;

@@ -1,2 +1,5 @@
 pub mod Numbers
 pub mod Values
+pub mod EvalRuns
+pub mod EvalStmts
+pub mod EvalForms

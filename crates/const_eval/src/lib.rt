@@ -7,7 +7,7 @@ mod numbers;
 mod runs;
 mod valued;
 
-pub use eval_stmts::{Env, Update};
+pub use eval_runs::{Env, Update};
 pub use fails::{EvalFail, SizeFail};
 pub use runs::{run_function, run_stmt};
 pub use valued::{number, size, value};

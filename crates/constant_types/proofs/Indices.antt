@@ -8,7 +8,7 @@ use Rattle.sv_types.specs.Expressions.{meaning}
 use Rattle.sv_types.specs.Meanings.{wide}
 use Rattle.sv_types.specs.Surroundings.{Stop}
 use Rattle.eval_parts.proofs.TypeKinds.{wide-is}
-use Rattle.eval_stmts.specs.declared.env.Env.{Env}
+use Rattle.const_eval.specs.EvalStmts.{Env}
 use Rattle.const_eval.specs.declared.fails.EvalFail.{EvalFail}
 use Rattle.const_eval.specs.declared.fails.EvalFail.TheVariants as V
 use Rattle.const_eval.specs.declared.fails.SizeFail.TheVariants as S

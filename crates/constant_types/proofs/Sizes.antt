@@ -15,7 +15,7 @@ use Rattle.sv_types.specs.Surroundings.{Around, Tally, Stop, is_signal}
 use Rattle.eval_parts.specs.Insides.{Runs}
 use Rattle.eval_parts.specs.Steps.{is_held}
 use Rattle.eval_parts.specs.Surroundings.{now_of, running}
-use Rattle.eval_stmts.specs.declared.env.Env.{Env}
+use Rattle.const_eval.specs.EvalStmts.{Env}
 use Rattle.const_eval.specs.Numbers.{IsIn, IsOut, number_if_known}
 use Rattle.const_eval.specs.declared.fails.EvalFail.TheVariants as V
 use Rattle.const_eval.specs.declared.fails.SizeFail.{SizeFail}

@@ -2,7 +2,7 @@
 use Rattle.std.specs.Prelude.{◌≡◌, ℕ, ℤ, List, [], Some, Ok}
 use Rattle.sv_types.specs.declared.expression.Expr.{Expr}
 use Rattle.sv_types.specs.declared.statement.Function.{Function}
-use Rattle.eval_stmts.specs.declared.env.Env.{Env}
+use Rattle.const_eval.specs.EvalStmts.{Env}
 use Rattle.const_eval.specs.declared.fails.EvalFail.TheVariants as V
 use Rattle.const_eval.specs.declared.fails.SizeFail.{SizeFail}
 use Rattle.const_eval.specs.declared.fails.SizeFail.TheVariants as S

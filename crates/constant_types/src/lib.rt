@@ -12,3 +12,4 @@ pub use exprs::uses_of;
 pub use keys::key_number;
 pub use marks::{mark_of, stream_marks};
 pub use numbers::number_in;
+pub use type_kinds::copy_type;

@@ -2,9 +2,9 @@
 
 ghost use Rattle.std.specs.Prelude.{◌≡◌};
 ghost use Rattle.sv_types.specs.Expressions.{meaning};
-ghost use Rattle.eval_forms.specs.Callees.{formals_in};
+ghost use Rattle.const_eval.specs.EvalForms.{formals_in};
 ghost use Rattle.eval_parts.specs.Limits.{FitsAlone};
-ghost use Rattle.eval_runs.specs.Functions.{AllCanRun};
+ghost use Rattle.const_eval.specs.EvalRuns.{AllCanRun};
 ghost use Rattle.expr_type.specs.Answers.{Gives, source};
 ghost use Rattle.expr_type.specs.Operands as rule;
 ghost use Rattle.expr_type.specs.Uses.{stream_marks};

@@ -7,3 +7,4 @@ mod lists;
 
 pub use bodies::found_of;
 pub use lists::{function_flows, process_flows};
+pub use loop_rules::{function_loops, process_loops};

@@ -11,9 +11,8 @@ ghost use Rattle.unroll_laws.specs.Bodies.{DesignFits};
 ghost use Rattle.design_rules.specs.Looked.{AreProcesses, AreFunctions};
 
 use design_breaks::Break;
-use design_flows::{function_flows, process_flows};
+use design_flows::{function_flows, function_loops, process_flows, process_loops};
 use flow_sets::Found;
-use loop_rules::{function_loops, process_loops};
 use memory_breaks::too_wide;
 use proc_rules::{Loops, check_processes};
 use std::alloc::{AllocError, Global};

@@ -2,3 +2,4 @@ pub mod Turns
 pub mod Operators
 pub mod Passing
 pub mod Paths
+pub mod EvalForms

@@ -2,7 +2,7 @@
 use Rattle.std.proofs.Common.{◌≡◌, ℕ, ◌≤◌, Bool, true, List, length, Option, Result, Ok, Err, refl, arith, ap, subst}
 use Rattle.std.specs.Prelude.{IfOk}
 use Rattle.b4_core.specs.declared.bit.Bit4.{Bit4}
-use Rattle.picks.specs.Windows.{picked, tabulated}
+use Rattle.eval_parts.specs.Picks.{picked, tabulated}
 use Rattle.sv_types.specs.declared.expression.Expr.{Expr}
 use Rattle.sv_types.specs.Layouts.{width_of}
 use Rattle.sv_types.specs.Surroundings.{Around}

@@ -2,7 +2,7 @@
 use Rattle.std.specs.Prelude.{ℕ, Bool, List}
 use Rattle.b4_core.specs.declared.bit.Bit4.{Bit4}
 use Rattle.b4_core.specs.Vectors.{ext}
-use Rattle.picks.specs.Windows.{picked, tabulated}
+use Rattle.eval_parts.specs.Picks.{picked, tabulated}
 use Rattle.sv_types.specs.declared.expression.Expr.{Expr}
 use Rattle.sv_types.specs.Layouts.{layout, width_of, stored}
 use Rattle.sv_types.specs.Surroundings.{Around, Callee, Parameter}

@@ -12,8 +12,7 @@ use b4_core::Vec4;
 use eval_forms::{assigned_bits, formals_of};
 use eval_parts::{Halt, Places};
 use std::alloc::Global;
-use sv_source::Items;
-use sv_types::{Expr, Form};
+use sv_types::{Expr, Form, Items};
 
 /// Vectors in order.
 pub type Vectors = Items<Vec4>;

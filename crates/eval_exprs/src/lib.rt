@@ -6,5 +6,6 @@ mod evaluate;
 mod held;
 
 pub use calls::{Call, Called, Vectors};
+pub use eval_forms::{formals_of, given_bits};
 pub use evaluate::{bits, find};
 pub use held::{Held, Scope, read_path};

@@ -4,8 +4,8 @@ use Rattle.std.specs.Prelude.{slice_index_or, nat_lt, int_le, int_lt}
 use Rattle.std.proofs.lemmas.Bool.Decides.{nat_tests}
 use Rattle.b4_core.specs.declared.bit.Bit4.{Bit4}
 use Rattle.b4_core.specs.declared.bit.Bit4.TheVariants.{X}
-use Rattle.row_machine.specs.Valuation.{Valuation}
-use Rattle.row_machine.specs.Places.{bits_from}
+use Rattle.sv_types.specs.RowMachine.{Valuation}
+use Rattle.sv_types.specs.RowMachine.{bits_from}
 use Rattle.sv_types.specs.Layouts.{Layout, Part}
 use Rattle.sv_types.specs.Windows.{Window, nowhere, trimmed, part, picked, bit_at, tabulated, seen, at_least_0, member_of, element_of, between, slide, elements, rank, lowest_index}
 use Rattle.sv_types.proofs.Picks.{tabulated-same}

@@ -8,3 +8,5 @@ pub mod Streams
 pub mod Insides
 pub mod Targets
 pub mod PathForms
+pub mod SvTypes
+pub mod Picks

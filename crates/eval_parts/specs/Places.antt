@@ -3,7 +3,7 @@ use Rattle.std.specs.Prelude.{◌≡◌, ⊤, true, ℕ, ◌^◌, ◌<◌, ◌�
 use Rattle.b4_core.specs.declared.bit.Bit4.{Bit4}
 use Rattle.b4_core.specs.declared.bit.Bit4.TheVariants.{X}
 use Rattle.picks.specs.Windows as P
-use Rattle.row_machine.specs.Valuation.{Valuation}
+use Rattle.sv_types.specs.RowMachine.{Valuation}
 use Rattle.sv_types.specs.Surroundings.{Around, local_number}
 use Rattle.sv_types.specs.Meanings.{Meaning}
 use Rattle.sv_types.specs.Paths.{places_from}

@@ -2,7 +2,7 @@
 use Rattle.std.specs.Prelude.{ℕ, ◌-◌, ◌^◌, cond, List, Option, Some, None, slice_index_or}
 use Rattle.b4_core.specs.declared.bit.Bit4.{Bit4}
 use Rattle.b4_core.specs.declared.bit.Bit4.TheVariants.{X}
-use Rattle.row_machine.specs.Valuation.{Valuation}
+use Rattle.sv_types.specs.RowMachine.{Valuation}
 use Rattle.sv_types.specs.Surroundings.{Tally, is_signal}
 
 -- a bit of what is held: x where nothing is, which a two-state type stores as 0

@@ -14,7 +14,7 @@ use Rattle.eval_parts.specs.declared.halt.Halt.{Halt}
 use Rattle.eval_parts.specs.Answers.{Halts}
 use Rattle.eval_parts.specs.Surroundings.{running}
 use Rattle.eval_parts.proofs.Efforts.{goes-on, halts-onward}
-use Rattle.eval_forms.proofs.Formals.{formals-within}
+use Rattle.eval_exprs.proofs.EvalForms.{formals-within}
 use Rattle.eval_exprs.specs.declared.calls.Call.{Call}
 use Rattle.eval_exprs.specs.declared.calls.Called.{Called}
 use Rattle.eval_exprs.specs.declared.held.Scope.{Scope}

@@ -7,7 +7,7 @@ use Rattle.std.proofs.lemmas.Bool.Decides.{nat_tests}
 use Rattle.b4_core.specs.declared.bit.Bit4.{Bit4}
 use Rattle.b4_core.specs.declared.bit.Bit4.TheVariants.{X}
 use Rattle.std.proofs.Math.ListN.{drop_of_length-le}
-use Rattle.picks.specs.Windows.{Window, whole, picked, tabulated}
+use Rattle.eval_parts.specs.Picks.{Window, whole, picked, tabulated}
 use Rattle.row_machine.specs.Valuation.{Valuation, Place, put}
 use Rattle.row_machine.specs.Places.{bits_from, vector_at}
 use Rattle.row_machine.specs.Steps.{unchanged, then_changes}

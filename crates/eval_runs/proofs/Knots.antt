@@ -6,7 +6,7 @@ use Rattle.sv_types.specs.declared.statement.Function.{Function}
 use Rattle.sv_types.specs.Surroundings.{Callee, Parameter}
 use Rattle.sv_types.specs.Functions.{callee_of, callee_or_absent, callees_within, not_run, absent}
 use Rattle.eval_parts.specs.declared.halt.Halt.{Halt}
-use Rattle.eval_forms.specs.Callees.{AllFunctionsFit}
+use Rattle.eval_exprs.specs.EvalForms.{AllFunctionsFit}
 use Rattle.eval_exprs.specs.declared.calls.Call.{Call}
 use Rattle.eval_exprs.specs.declared.calls.Called.{Called}
 use Rattle.eval_exprs.specs.Calls.{CalledGives}

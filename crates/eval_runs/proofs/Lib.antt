@@ -5,3 +5,4 @@ pub mod Handing
 pub mod Entering
 pub mod Calling
 pub mod Knots
+pub mod EvalStmtsPlaces

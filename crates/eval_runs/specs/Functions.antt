@@ -5,7 +5,7 @@ use Rattle.row_machine.specs.Places.{vector_at}
 use Rattle.sv_types.specs.declared.statement.Function.{Function}
 use Rattle.sv_types.specs.Layouts.{stored}
 use Rattle.sv_types.specs.Surroundings.{Parameter, local_number}
-use Rattle.eval_forms.specs.Callees.{FunctionFits, formals_in}
+use Rattle.eval_exprs.specs.EvalForms.{FunctionFits, formals_in}
 use Rattle.eval_parts.specs.Surroundings.{now_of}
 use Rattle.eval_stmts.specs.declared.env.Env.{Env}
 use Rattle.eval_stmts.specs.Limits.{StmtFits}

@@ -5,7 +5,7 @@ ghost use Rattle.sv_types.specs.Layouts.{layout, width_of, default_bits};
 ghost use Rattle.sv_types.specs.Surroundings.{Parameter};
 ghost use Rattle.sv_types.specs.Functions.{parameter, bound, callee_of, not_run as never_run};
 ghost use Rattle.eval_parts.specs.Targets.{AllNarrow};
-ghost use Rattle.eval_forms.specs.Callees.{FunctionFits};
+ghost use Rattle.eval_exprs.specs.EvalForms.{FunctionFits};
 ghost use Rattle.eval_exprs.specs.Calls.{CallsRun, CalledGives};
 ghost use Rattle.eval_exprs.specs.Held.{callees_in, formals as formals_in};
 ghost use Rattle.eval_stmts.specs.Environments.{Written};

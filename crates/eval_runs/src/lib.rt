@@ -9,6 +9,7 @@ mod simple;
 mod statements;
 
 pub use bodies::run_body;
+pub use eval_stmts::{Env, Update};
 pub use functions::run_call;
 pub use outputs::copy_all_out;
 pub use routines::call_routine;

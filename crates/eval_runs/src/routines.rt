@@ -7,8 +7,7 @@ ghost use Rattle.eval_stmts.specs.Stepping.{GoesOn};
 ghost use Rattle.eval_stmts.specs.Targets.{RoutineFits, routine_step};
 
 use crate::outputs::copy_all_out;
-use eval_exprs::{Call, Called, Scope, Vectors};
-use eval_forms::formals_of;
+use eval_exprs::{Call, Called, Scope, Vectors, formals_of};
 use eval_parts::Halt;
 use eval_stmts::{Env, take_all_in};
 use std::alloc::Global;

@@ -9,7 +9,7 @@ use Rattle.row_machine.specs.Steps.{unchanged, then_changes, later_or}
 use Rattle.sv_types.specs.declared.statement.Outcome.{Outcome}
 use Rattle.sv_types.specs.Surroundings.{Around}
 use Rattle.b4_core.specs.declared.bit.Bit4.TheVariants.{X}
-use Rattle.picks.specs.Windows.{Window, whole, written}
+use Rattle.eval_exprs.specs.Picks.{Window, whole, written}
 use Rattle.sv_types.specs.declared.expression.Expr.{Expr}
 use Rattle.sv_types.specs.declared.statement.Local.{Local}
 use Rattle.sv_types.specs.declared.statement.Outcome.TheVariants.{Normal}

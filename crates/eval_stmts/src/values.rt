@@ -15,8 +15,7 @@ ghost use Rattle.eval_stmts.specs.Values.{AssignedTo, TruthGives};
 
 use crate::env::Env;
 use b4_core::{Bit4, Vec4, truth};
-use eval_exprs::{Call, Called, Held, Scope, bits};
-use eval_forms::given_bits;
+use eval_exprs::{Call, Called, Held, Scope, bits, given_bits};
 use eval_parts::{Halt, own_sign, own_width};
 use std::alloc::Global;
 use sv_types::{Expr, SvType, store, width as width_of_type};

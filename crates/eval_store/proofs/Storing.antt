@@ -9,7 +9,7 @@ use Rattle.std.proofs.lemmas.Bool.Decides.{nat_tests}
 use Rattle.b4_core.specs.declared.bit.Bit4.{Bit4}
 use Rattle.row_machine.specs.Valuation.{Place, Valuation, put, changed}
 use Rattle.picks.specs.Windows.{Window, within, written}
-use Rattle.sv_types.specs.Surroundings.{is_signal, local_number}
+use Rattle.eval_parts.specs.SvTypes.{is_signal, local_number}
 use Rattle.eval_parts.specs.Steps.{is_held}
 use Rattle.eval_parts.specs.Surroundings.{held_bit, now_of}
 use Rattle.eval_store.specs.Writes.{Slot, new_bit, SlotWritten, SignalWritten, LocalWritten, WrittenAt}

@@ -4,7 +4,7 @@ use Rattle.b4_core.specs.declared.bit.Bit4.{Bit4}
 use Rattle.b4_core.specs.declared.bit.Bit4.TheVariants.{X}
 use Rattle.row_machine.specs.Valuation.{put}
 use Rattle.picks.specs.Windows.{Window, within, at_least_0, written}
-use Rattle.sv_types.specs.Surroundings.{local_number}
+use Rattle.eval_parts.specs.SvTypes.{local_number}
 use Rattle.eval_parts.specs.Steps.{is_held}
 use Rattle.eval_parts.specs.Surroundings.{held_bit, now_of}
 

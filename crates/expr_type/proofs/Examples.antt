@@ -2,8 +2,8 @@
 use Rattle.std.proofs.Common.{◌≡◌, ℕ, suc, ◌+◌, Bool, true, false, List, [], ◌∷◌, map, max, refl, rules, ap, ◌∙◌, ◌&&◌, cond, Option, Some, None}
 use Rattle.std.specs.Prelude.{nat_lt, not, pos, Ok, Err, codes, slice_get}
 use Rattle.std.specs.Str.{bytes_eq}
-use Rattle.sv_source.specs.declared.token.Kind.TheVariants.{Name}
-use Rattle.sv_source.specs.declared.token.Token.{Token}
+use Rattle.sv_types.specs.SvSource.{Name}
+use Rattle.sv_types.specs.SvSource.{Token}
 use Rattle.sv_tree.specs.declared.expressions.Expr.{Expr-F}
 use Rattle.sv_tree.specs.declared.expressions.Select.{Select-F}
 use Rattle.sv_tree.specs.declared.operators.AssignmentOperator.TheVariants as A

@@ -19,3 +19,6 @@ pub mod Targets
 pub mod Statements
 pub mod Functions
 pub mod Routines
+pub mod PatternFit
+pub mod PatternFitPatternItem
+pub mod SvTypes

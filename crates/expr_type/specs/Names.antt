@@ -1,9 +1,9 @@
 -- What names stand for where something is typed.
 use Rattle.std.specs.Prelude.{ℕ, ◌-◌, Bool, true, false, ◌&&◌, ◌==◌, cond, List, [], ◌∷◌, ◌++◌, length, Option, Some, None, slice_get}
 use Rattle.std.specs.Str.{bytes_eq}
-use Rattle.sv_source.specs.declared.token.Place.{Place}
-use Rattle.sv_source.specs.declared.token.Spot.{Spot}
-use Rattle.sv_source.specs.declared.token.Token.{Token}
+use Rattle.sv_types.specs.SvSource.{Place}
+use Rattle.sv_types.specs.SvSource.{Spot}
+use Rattle.sv_types.specs.SvSource.{Token}
 use Rattle.sv_tree.specs.declared.functions.Function as T
 use Rattle.sv_tree.specs.declared.functions.FormalList.{FormalList}
 use Rattle.sv_tree.specs.declared.functions.Task.{Task}

@@ -30,3 +30,7 @@ pub fn firsts_are_least()
 pub fn forms_keep_order()
     ensures { FormsKeepOrder }
 {}
+
+pub use b4_core::Vec4;
+pub use pattern_fit::is_same;
+pub use sv_tree::{BinaryOperator, UnaryOperator};

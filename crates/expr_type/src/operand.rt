@@ -1,7 +1,6 @@
 //! Typed expressions as they stand in others.
 
-use sv_source::Items;
-use sv_types::Expr;
+use sv_types::{Expr, Items};
 
 /// A typed expression with what the rules of the expressions around it ask.
 #[derive(Drop)]

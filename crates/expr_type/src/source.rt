@@ -1,6 +1,6 @@
 //! The text in which something is typed.
 
-use sv_source::Token;
+use sv_types::Token;
 
 /// The tokens of a source, and the instance in whose text they are read.
 #[derive(Clone, Copy)]

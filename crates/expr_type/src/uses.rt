@@ -1,6 +1,6 @@
 //! What stands in typed expressions.
 
-use sv_source::Items;
+use sv_types::Items;
 
 /// What stands in an expression or a statement, as far as the rules on constants ask.
 #[derive(Drop)]

@@ -3,7 +3,7 @@ use Rattle.std.specs.Prelude.{ℕ, Bool, ◌&&◌, nat_eq, if◌then◌else◌, 
 use Rattle.std.specs.Option.{option_map}
 use Rattle.std.specs.Str.{bytes_eq}
 use Rattle.indexmap.specs.IndexMap as map
-use Rattle.sv_types.specs.declared.statement.Function.{Function}
+use Rattle.expr_type.specs.SvTypes.{Function}
 use Rattle.expr_type.specs.Names.{Called}
 use Rattle.expr_type.specs.Functions.{known_from}
 use Rattle.function_places.specs.declared.places.FunctionPlaces.{FunctionPlaces}

@@ -9,13 +9,11 @@ ghost use Rattle.given_types.specs.Casts as cast;
 
 use crate::giving::is_above;
 use crate::matching::is_assignable;
-use eval_parts::is_signed;
 use expr_type::{Halt, Source, Valued};
-use operand_types::by_itself;
+use operand_types::{by_itself, is_signed, vector};
 use std::alloc::{AllocError, Global};
 use sv_source::Boxed;
 use sv_types::{Expr, Form, SvType, width};
-use type_kinds::vector;
 
 /// The most bits that an expression may have.
 pub const MOST_BITS: u32 = 65_536;

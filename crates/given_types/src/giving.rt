@@ -10,8 +10,8 @@ ghost use Rattle.sv_types.specs.Layouts.{width_of};
 
 use crate::matching::is_assignable;
 use expr_type::{Halt, Source, Valued};
+use operand_types::is_plain_to_enum;
 use sv_types::{Expr, SvType, is_narrow, width};
-use type_kinds::is_plain_to_enum;
 
 /// Whether a type has more bits than this, which are at most 2^22 - 1.
 pub fn is_above(bits: u32, t: &SvType) -> bool

@@ -9,4 +9,5 @@ mod system;
 pub use casts::{cast_of, converted, size_cast, with_sign};
 pub use giving::{is_above, is_given, is_streamed, may_give};
 pub use matching::is_assignable;
+pub use operand_types::{copy_type, spot_at};
 pub use system::clog2_of;

@@ -6,9 +6,9 @@ ghost use Rattle.given_types.specs.Matching.{matching_member};
 ghost use Rattle.pattern_fit.specs.Same.{same_members};
 ghost use Rattle.sv_types.specs.Layouts.{count_of};
 
+use operand_types::is_unpacked;
 use pattern_fit::is_same;
 use sv_types::{Member, SvType};
-use type_kinds::is_unpacked;
 
 // How many elements the bounds give.
 fn count_between(left: i64, right: i64) -> u128

@@ -10,11 +10,10 @@ ghost use Rattle.operand_types.specs.Allowed.{IsNarrow};
 ghost use Rattle.sv_types.specs.Layouts.{width_of};
 
 use expr_type::{Source, Valued};
-use operand_types::by_itself;
+use operand_types::{by_itself, vector};
 use std::alloc::{AllocError, Global};
 use sv_source::Boxed;
 use sv_types::{Form, SvType, of_bits};
-use type_kinds::vector;
 
 // The type `integer`.
 fn integer(alloc: Global) -> Result<SvType, AllocError>

@@ -14,10 +14,9 @@ ghost use Rattle.literal_types.specs.Sizes.{number_size};
 use crate::based::{Based, decimal_bits, fill_digit, is_known_bit};
 use crate::numbers::{LARGE, digits_in, number_of};
 use expr_type::{Halt, Source, Valued};
-use operand_types::by_itself;
+use operand_types::{by_itself, one_bit, vector};
 use std::alloc::{AllocError, Global};
 use sv_types::Form;
-use type_kinds::{one_bit, vector};
 
 /// The most bits that a number may have.
 pub const MOST_OF_LITERAL: u64 = 128;

@@ -6,8 +6,7 @@ ghost use Rattle.proc_rules.specs.Processes.{IsLoops};
 ghost use Rattle.unroll_laws.specs.Bodies.{BodyFits};
 
 use bound_values::lesser;
-use loop_breaks::least_unbounded;
-use loop_unrolls::unrolled;
+use loop_unrolls::{least_unbounded, unrolled};
 use proc_rules::Loops;
 use std::alloc::{AllocError, Global};
 use sv_types::{Design, Stmt};

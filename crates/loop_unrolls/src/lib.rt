@@ -5,4 +5,5 @@
 mod counts;
 mod walks;
 
+pub use loop_breaks::least_unbounded;
 pub use walks::unrolled;

@@ -15,9 +15,8 @@ use crate::operands::{
     is_unpacked_pair, raised, same_type, shifted, width_of_operand,
 };
 use b4_core::{BinOp, EqOp, OrdOp, ShiftOp};
-use expr_type::{BinaryKind, Halt, Source, Valued};
+use expr_type::{BinaryKind, BinaryOperator, Halt, Source, Valued};
 use std::alloc::{AllocError, Global};
-use sv_tree::BinaryOperator;
 use sv_types::{Form, SvType};
 use type_kinds::one_bit;
 

@@ -10,8 +10,12 @@ mod spots;
 mod unary;
 
 pub use binary::{binary_kind, binary_of};
+pub use eval_parts::{bounds_of, is_signed};
 pub use joins::{concat_of, is_part, repeat_of};
 pub use makes::{Parts, by_itself, in_context};
 pub use operands::{MOST_ARITHMETIC, Operands, Pair, beside, both_type, has_bits};
 pub use spots::spot_at;
+pub use type_kinds::{
+    copy_type, element_of, is_indexed, is_plain_to_enum, is_unpacked, one_bit, vector,
+};
 pub use unary::{unary_kind, unary_of};

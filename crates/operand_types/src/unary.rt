@@ -10,10 +10,9 @@ ghost use Rattle.operand_types.specs.Allowed.{IsNarrow};
 use crate::makes::{Parts, by_itself, in_context};
 use crate::operands::same_type;
 use b4_core::{RedOp, UnOp};
-use expr_type::{Halt, Source, UnaryKind, Valued};
+use expr_type::{Halt, Source, UnaryKind, UnaryOperator, Valued};
 use std::alloc::{AllocError, Global};
 use sv_source::{Boxed, Items};
-use sv_tree::UnaryOperator;
 use sv_types::{Expr, Form};
 use type_kinds::{enum_of, is_unpacked, one_bit};
 

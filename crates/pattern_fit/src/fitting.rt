@@ -12,8 +12,7 @@ ghost use Rattle.pattern_fit.specs.declared.pattern.PatternItem.TheVariants.{Ite
 use crate::pattern::{FitFail, Key, Pattern, PatternItem, PatternItems, Rest};
 use crate::same::is_same;
 use std::alloc::{AllocError, Global};
-use sv_source::Text;
-use sv_types::{Member, SvType};
+use sv_types::{Member, SvType, Text};
 
 // Whether a key is left out.
 fn is_left_out(key: &Key) -> bool

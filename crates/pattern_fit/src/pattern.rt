@@ -4,8 +4,7 @@ ghost use Rattle.std.specs.Prelude.{◌≡◌};
 ghost use Rattle.pattern_fit.specs.declared.pattern.FitFail.TheVariants.{Memory};
 
 use std::alloc::{AllocError, AllocFailed};
-use sv_source::{Items, Text};
-use sv_types::SvType;
+use sv_types::{Items, SvType, Text};
 
 /// Keys of the items of a pattern, in order, `default` left out.
 pub type Keys = Items<Key>;

@@ -1,6 +1,6 @@
 -- What may be given.
 use Rattle.std.specs.Prelude.{⊤}
-use Rattle.operand_types.specs.Allowed.{IsShort}
+use Rattle.given_types.specs.OperandTypes.{IsShort}
 use Rattle.pattern_types.specs.declared.operand.Operand.{Operand-F, out-Operand}
 use Rattle.pattern_types.specs.declared.operand.Operand as O
 

@@ -18,12 +18,11 @@ use crate::takes::{Taking, takes_of};
 use crate::wanted::remainder;
 use expr_copies::copy_expr;
 use expr_type::{Halt, Source};
-use operand_types::spot_at;
+use given_types::{copy_type, spot_at};
 use pattern_fit::{PatternItem, Rest};
 use std::alloc::{AllocError, Global};
 use sv_source::Items;
 use sv_types::{Expr, Exprs, Form, Member, SvType};
-use type_kinds::copy_type;
 
 // The number among all items of a pattern of the one that a member or element takes.
 fn item_number(taking: &Taking, take: PatternItem) -> Option<usize>

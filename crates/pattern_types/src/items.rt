@@ -11,10 +11,10 @@ ghost use Rattle.expr_type.specs.Answers.{source};
 
 use crate::operand::{Item, ItemKey, Operand};
 use expr_type::Source;
+use given_types::copy_type;
 use pattern_fit::{Rest, is_same};
 use std::alloc::{AllocError, Global};
 use sv_types::SvType;
-use type_kinds::copy_type;
 
 /// Whether it is `default`.
 pub fn is_default(key: &ItemKey) -> bool

@@ -24,3 +24,5 @@ pub use operand::{Item, ItemKey, Items, NameKey, Operand, Parts, listed};
 pub fn patterns_are_fitted()
     ensures { FittedAsFound }
 {}
+
+pub use expr_copies::copy_value;

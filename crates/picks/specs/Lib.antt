@@ -1,1 +1,3 @@
 pub mod Windows
+pub mod RowMachine
+pub mod RowMachineMachine

@@ -1,7 +1,7 @@
 -- The bits that a select path names (IEEE 1800-2017 clause 11.5.1, IEEE 1364-2005 clause 5.2).
 use Rattle.std.specs.Prelude.{ℕ, zero, suc, max, min, Bool, ◌&&◌, ◌==◌, nat_le, nat_lt, cond, ℤ, pos, negsuc, ◌+ℤ◌, ◌-ℤ◌, int_le, int_lt, List, [], ◌∷◌, Option, Some, None, slice_index_or}
-use Rattle.b4_core.specs.declared.bit.Bit4.{Bit4}
-use Rattle.b4_core.specs.declared.bit.Bit4.TheVariants.{X}
+use Rattle.row_machine.specs.B4Core.{Bit4}
+use Rattle.row_machine.specs.B4Core.{X}
 use Rattle.row_machine.specs.Valuation.{Changes}
 
 -- Bit j of a path is bit j + shift of the signal or local on which it stands, where that lies from low up to, but not

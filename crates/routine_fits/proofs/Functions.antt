@@ -5,8 +5,8 @@ use Rattle.sv_types.specs.declared.statement.Function.{Function}
 use Rattle.sv_types.specs.declared.statement.Stmt.{Stmt}
 use Rattle.sv_types.specs.Surroundings.{Parameter}
 use Rattle.eval_parts.specs.Targets.{AllNarrow}
-use Rattle.eval_forms.specs.Callees.{formals_in}
-use Rattle.eval_runs.specs.Functions.{EachCanRun, AllCanRun}
+use Rattle.run_fits.specs.EvalForms.{formals_in}
+use Rattle.run_fits.specs.EvalRuns.{EachCanRun, AllCanRun}
 use Rattle.typing_fits.specs.Sound.{Knows, Extends, IsNarrowType}
 use Rattle.typing_fits.specs.Operands.{AllFormalsFull}
 use Rattle.typing_fits.proofs.Given.{knows-itself, knows-fewer, extends-more}

@@ -15,7 +15,7 @@ use Rattle.sv_types.specs.Meanings.{Meaning, most}
 use Rattle.sv_types.specs.Runs.{widest_of}
 use Rattle.sv_types.specs.Expressions.{meaning}
 use Rattle.eval_parts.proofs.TypeKinds.{wide-is}
-use Rattle.eval_stmts.specs.Targets.{values_of}
+use Rattle.run_fits.specs.EvalStmts.{values_of}
 use Rattle.expr_type.specs.declared.operand.Valued.{Valued}
 use Rattle.expr_type.specs.Typings.{Checked, refused, unless, at_all, where_whole, joined, all_of}
 use Rattle.expr_type.specs.Names.{Called, Context, position, spot}

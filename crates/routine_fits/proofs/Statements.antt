@@ -20,9 +20,9 @@ use Rattle.sv_types.specs.Expressions.{meaning}
 use Rattle.sv_types.specs.Functions.{parameter, parameters}
 use Rattle.eval_parts.specs.Limits.{Fits, AllFit}
 use Rattle.eval_parts.proofs.TypeKinds.{wide-is}
-use Rattle.eval_stmts.specs.Environments.{AllHeld}
-use Rattle.eval_stmts.specs.Limits.{AllStmtsFit, PerhapsFits, AllItemsFit, AllLocalsFit, StartFits}
-use Rattle.eval_stmts.specs.Targets.{AllFitWide, ItemsFitWide, values_of, roots_of_all}
+use Rattle.run_fits.specs.EvalStmts.{AllHeld}
+use Rattle.run_fits.specs.EvalStmts.{AllStmtsFit, PerhapsFits, AllItemsFit, AllLocalsFit, StartFits}
+use Rattle.run_fits.specs.EvalStmts.{AllFitWide, ItemsFitWide, values_of, roots_of_all}
 use Rattle.run_fits.specs.Statements.{AllPassed}
 use Rattle.run_fits.proofs.Shapes as S
 use Rattle.expr_type.specs.Names.{Called}

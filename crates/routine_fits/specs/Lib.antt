@@ -1,2 +1,4 @@
 pub mod Sound
 pub mod Targets
+pub mod TypingFits
+pub mod EvalParts

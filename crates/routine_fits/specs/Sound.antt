@@ -12,10 +12,10 @@ use Rattle.sv_types.specs.Operators.{width_of_all}
 use Rattle.sv_types.specs.Runs.{widest_of}
 use Rattle.sv_types.specs.Statements.{doing}
 use Rattle.sv_types.specs.Expressions.{meaning}
-use Rattle.eval_stmts.specs.Environments.{AllHeld}
-use Rattle.eval_stmts.specs.Limits.{StmtFits}
-use Rattle.eval_stmts.specs.Targets.{values_of}
-use Rattle.eval_runs.specs.Functions.{CanRun}
+use Rattle.run_fits.specs.EvalStmts.{AllHeld}
+use Rattle.run_fits.specs.EvalStmts.{StmtFits}
+use Rattle.run_fits.specs.EvalStmts.{values_of}
+use Rattle.run_fits.specs.EvalRuns.{CanRun}
 use Rattle.typing_fits.specs.Operands.{AllFormalsFull}
 use Rattle.typing_fits.specs.Sound.{Knows, IsNarrowType, LimitedAt, SoundAlone, AllSoundAlone, SoundFor}
 

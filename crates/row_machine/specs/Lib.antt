@@ -15,3 +15,4 @@ pub mod Unsettled
 pub mod Places
 pub mod Steps
 pub mod Footprints
+pub mod B4Core

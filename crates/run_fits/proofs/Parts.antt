@@ -23,9 +23,9 @@ use Rattle.eval_parts.proofs.Lists as Q
 use Rattle.eval_parts.proofs.Streaming as T
 use Rattle.eval_parts.proofs.Selecting as S
 use Rattle.eval_parts.proofs.TypeKinds.{wide-is}
-use Rattle.eval_stmts.specs.Environments.{AllHeld}
-use Rattle.eval_stmts.specs.Limits.{StartFits, LocalFits}
-use Rattle.eval_stmts.specs.Targets.{AllFitWide, ItemsFitWide, values_of}
+use Rattle.eval_runs.specs.EvalStmts.{AllHeld}
+use Rattle.eval_runs.specs.EvalStmts.{StartFits, LocalFits}
+use Rattle.eval_runs.specs.EvalStmts.{AllFitWide, ItemsFitWide, values_of}
 use Rattle.expr_fits.specs.Needs.{FitsIf}
 use Rattle.expr_fits.specs.Results.{own_of}
 use Rattle.expr_fits.proofs.OwnTypes.{fits-own}

@@ -20,10 +20,10 @@ use Rattle.sv_types.proofs.DoingLevels as D
 use Rattle.sv_types.proofs.DoingLevels.{item_of, item-of}
 use Rattle.sv_types.proofs.Heads.{heads}
 use Rattle.eval_parts.specs.Limits.{Fits, AllFit}
-use Rattle.eval_stmts.specs.Environments.{AllHeld}
-use Rattle.eval_stmts.specs.Limits.{Keeps, StmtFits, AllStmtsFit, StartFits, AllLocalsFit, PerhapsFits, AllItemsFit, perhaps, widest_place, width_of_locals}
-use Rattle.eval_stmts.specs.Targets.{AssignFits, CaseFits, AllFitWide, ItemsFitWide, values_of}
-use Rattle.eval_stmts.proofs.Places as P
+use Rattle.eval_runs.specs.EvalStmts.{AllHeld}
+use Rattle.eval_runs.specs.EvalStmts.{Keeps, StmtFits, AllStmtsFit, StartFits, AllLocalsFit, PerhapsFits, AllItemsFit, perhaps, widest_place, width_of_locals}
+use Rattle.eval_runs.specs.EvalStmts.{AssignFits, CaseFits, AllFitWide, ItemsFitWide, values_of}
+use Rattle.eval_runs.proofs.EvalStmtsPlaces as P
 use Rattle.eval_runs.proofs.Levels.{perhaps-is, values-are}
 use Rattle.eval_parts.specs.Steps.{can_read}
 use Rattle.run_fits.proofs.Parts.{held-append}

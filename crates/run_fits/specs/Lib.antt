@@ -1,1 +1,4 @@
 pub mod Statements
+pub mod EvalRuns
+pub mod EvalForms
+pub mod EvalStmts

@@ -13,9 +13,9 @@ use Rattle.sv_types.specs.Meanings.{Meaning, most}
 use Rattle.sv_types.specs.Operators.{assigned_width}
 use Rattle.sv_types.specs.Expressions.{meaning}
 use Rattle.eval_parts.specs.Limits.{Fits, FitsAlone, AllFit}
-use Rattle.eval_stmts.specs.Environments.{AllHeld}
-use Rattle.eval_stmts.specs.Limits.{StmtFits, AllStmtsFit, PerhapsFits, AllItemsFit, LocalFits, AllLocalsFit}
-use Rattle.eval_stmts.specs.Targets.{AssignFits, CaseFits, AllFitWide, ItemsFitWide}
+use Rattle.eval_runs.specs.EvalStmts.{AllHeld}
+use Rattle.eval_runs.specs.EvalStmts.{StmtFits, AllStmtsFit, PerhapsFits, AllItemsFit, LocalFits, AllLocalsFit}
+use Rattle.eval_runs.specs.EvalStmts.{AssignFits, CaseFits, AllFitWide, ItemsFitWide}
 use Rattle.eval_runs.specs.Functions.{CanRun, EachCanRun}
 use Rattle.expr_fits.specs.Results.{own_of}
 

@@ -1,2 +1,3 @@
 pub mod Found
 pub mod Selected
+pub mod OperandTypes

@@ -9,10 +9,10 @@ ghost use Rattle.select_types.specs.Selected.{GivesIf};
 
 use crate::steps::selected;
 use expr_type::{Halt, Source, Valued};
+use operand_types::{element_of, is_indexed};
 use std::alloc::{AllocError, Global};
 use sv_source::Boxed;
 use sv_types::{Expr, Form, SvType, width};
-use type_kinds::{element_of, is_indexed};
 
 /// The most bits of an index.
 const MOST_OF_INDEX: u32 = 64;

@@ -12,10 +12,10 @@ ghost use Rattle.select_types.specs.Selected.{GivesIf};
 
 use crate::steps::selected;
 use expr_type::{Halt, Source, Valued};
+use operand_types::copy_type;
 use std::alloc::{AllocError, Global};
 use sv_source::{Boxed, Text};
 use sv_types::{Form, Member, SvType};
-use type_kinds::copy_type;
 
 /// A member by its number and its type.
 #[derive(Drop)]

@@ -10,12 +10,11 @@ ghost use Rattle.sv_types.specs.Layouts.{width_of};
 
 use crate::elements::{Boxes, Indexed, boxed};
 use crate::steps::selected;
-use eval_parts::bounds_of;
 use expr_type::{Halt, Number, Source, Valued};
+use operand_types::{bounds_of, element_of, is_unpacked};
 use std::alloc::{AllocError, Global};
 use sv_source::Boxed;
 use sv_types::{Form, SvType};
-use type_kinds::{element_of, is_unpacked};
 
 // The array of the elements of a type between two bounds.
 fn part_type(alloc: Global, t: &SvType, left: i64, right: i64) -> Result<SvType, AllocError>

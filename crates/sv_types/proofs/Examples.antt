@@ -7,9 +7,9 @@ use Rattle.b4_core.specs.declared.operators.BinOp.TheVariants as B
 use Rattle.b4_core.specs.declared.operators.OrdOp.TheVariants as O
 use Rattle.b4_core.specs.declared.operators.EqOp.TheVariants as E
 use Rattle.b4_core.specs.declared.operators.ShiftOp.TheVariants as S
-use Rattle.row_machine.specs.Valuation.{Place, Valuation, has}
-use Rattle.row_machine.specs.Runs.{trace_of}
-use Rattle.row_machine.specs.Places.{vector_at}
+use Rattle.picks.specs.RowMachine.{Place, Valuation, has}
+use Rattle.picks.specs.RowMachine.{trace_of}
+use Rattle.picks.specs.RowMachine.{vector_at}
 use Rattle.sv_types.specs.declared.types.SvType.{SvType-F}
 use Rattle.sv_types.specs.declared.expression.Form.{Form-F}
 use Rattle.sv_types.specs.declared.statement.Outcome.TheVariants.{Normal}

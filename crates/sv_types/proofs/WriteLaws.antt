@@ -8,8 +8,8 @@ use Rattle.std.proofs.lemmas.List.{get_or_append_left, get_or-take, get_or-drop,
 use Rattle.std.proofs.Math.Seq.{get_or-append_right, take-append_seam, drop-length}
 use Rattle.b4_core.specs.declared.bit.Bit4.{Bit4}
 use Rattle.b4_core.specs.declared.bit.Bit4.TheVariants.{X}
-use Rattle.row_machine.specs.Valuation.{Place, Valuation, put, changed}
-use Rattle.row_machine.specs.Places.{vector_at, bits_from}
+use Rattle.picks.specs.RowMachine.{Place, Valuation, put, changed}
+use Rattle.picks.specs.RowMachine.{vector_at, bits_from}
 use Rattle.sv_types.specs.declared.types.SvType.TheVariants.{Struct}
 use Rattle.sv_types.specs.declared.types.Value.{Value}
 use Rattle.sv_types.specs.declared.types.Value.TheVariants.{Items}

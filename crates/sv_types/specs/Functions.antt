@@ -2,9 +2,9 @@
 use Rattle.std.specs.Prelude.{ℕ, zero, suc, Bool, false, List, [], ◌∷◌, length, map, Option, Some, None, slice_get}
 use Rattle.b4_core.specs.declared.bit.Bit4.{Bit4}
 use Rattle.b4_core.specs.declared.bit.Bit4.TheVariants.{X}
-use Rattle.row_machine.specs.Valuation.{Changes}
-use Rattle.row_machine.specs.Places.{vector_at}
-use Rattle.row_machine.specs.Steps.{unchanged, then_changes}
+use Rattle.picks.specs.RowMachine.{Changes}
+use Rattle.picks.specs.RowMachine.{vector_at}
+use Rattle.picks.specs.RowMachine.{unchanged, then_changes}
 use Rattle.sv_types.specs.declared.statement.Formal.{Formal}
 use Rattle.sv_types.specs.declared.statement.Function.{Function}
 use Rattle.sv_types.specs.declared.statement.Outcome.TheVariants.{Normal}

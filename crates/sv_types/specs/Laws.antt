@@ -4,8 +4,8 @@ use Rattle.std.specs.Prelude.{◌≡◌, ◌⊎◌, ℕ, ◌<◌, Bool, ℤ, ◌
 use Rattle.std.specs.List.{AllZip}
 use Rattle.b4_core.specs.declared.bit.Bit4.{Bit4}
 use Rattle.b4_core.specs.declared.bit.Bit4.TheVariants.{X}
-use Rattle.row_machine.specs.Valuation.{Place, Valuation, put}
-use Rattle.row_machine.specs.Places.{vector_at}
+use Rattle.picks.specs.RowMachine.{Place, Valuation, put}
+use Rattle.picks.specs.RowMachine.{vector_at}
 use Rattle.sv_types.specs.declared.types.Member.{Member}
 use Rattle.sv_types.specs.declared.types.SvType.TheVariants.{Struct}
 use Rattle.sv_types.specs.declared.types.Value.{Value}

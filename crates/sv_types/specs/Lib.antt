@@ -13,3 +13,5 @@ pub mod Statements
 pub mod Functions
 pub mod Machine
 pub mod Laws
+pub mod RowMachine
+pub mod SvSource

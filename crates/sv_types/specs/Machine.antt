@@ -5,10 +5,10 @@ use Rattle.std.specs.List.{list_any}
 use Rattle.b4_core.specs.declared.bit.Bit4.{Bit4}
 use Rattle.b4_core.specs.declared.bit.Bit4.TheVariants.{Zero, X, Z}
 use Rattle.b4_core.specs.Bitwise.{edge_of}
-use Rattle.row_machine.specs.Valuation.{Place, Valuation, Changes}
-use Rattle.row_machine.specs.Machine as M
-use Rattle.row_machine.specs.Places.{places_of}
-use Rattle.row_machine.specs.Steps.{unchanged, is_edge}
+use Rattle.picks.specs.RowMachine.{Place, Valuation, Changes}
+use Rattle.picks.specs.RowMachineMachine as M
+use Rattle.picks.specs.RowMachine.{places_of}
+use Rattle.picks.specs.RowMachine.{unchanged, is_edge}
 use Rattle.sv_types.specs.declared.design.SignalKind.{SignalKind}
 use Rattle.sv_types.specs.declared.design.SignalKind.TheVariants.{InputNet, InputVar, OutputNet, OutputVar, Net, Variable}
 use Rattle.sv_types.specs.declared.design.Signal.{Signal}

@@ -4,8 +4,8 @@ use Rattle.std.specs.Prelude.{ℕ, ◌+◌, max, Bool, true, false, ◌&&◌, �
 use Rattle.std.specs.List.{list_all}
 use Rattle.b4_core.specs.declared.bit.Bit4.{Bit4}
 use Rattle.b4_core.specs.Vectors.{ext}
-use Rattle.row_machine.specs.Valuation.{Changes}
-use Rattle.row_machine.specs.Steps.{unchanged}
+use Rattle.picks.specs.RowMachine.{Changes}
+use Rattle.picks.specs.RowMachine.{unchanged}
 use Rattle.sv_types.specs.Layouts.{Layout, stored}
 use Rattle.sv_types.specs.Windows.{Window, whole, seen, written}
 use Rattle.sv_types.specs.Surroundings.{Around, Tally, Stop, stopped, onward, Use, Write, Sight, is_signal, Parameter}

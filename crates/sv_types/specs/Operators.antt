@@ -22,8 +22,8 @@ use Rattle.b4_core.specs.Shift.{shift_value}
 use Rattle.b4_core.specs.Power.{power_value}
 use Rattle.b4_core.specs.Reduce.{reduction}
 use Rattle.b4_core.specs.Compare.{order_value, equality}
-use Rattle.row_machine.specs.Valuation.{Changes}
-use Rattle.row_machine.specs.Steps.{unchanged, then_changes}
+use Rattle.picks.specs.RowMachine.{Changes}
+use Rattle.picks.specs.RowMachine.{unchanged, then_changes}
 use Rattle.sv_types.specs.declared.types.Value.{Value}
 use Rattle.sv_types.specs.Values.{bits}
 use Rattle.sv_types.specs.Layouts.{Layout, Part, stored, stacked, repeated, count_of}

@@ -1,7 +1,7 @@
 -- Select paths, step by step (IEEE 1800-2017 clauses 7.2.1, 7.4.5, 7.4.6 and 11.5.1).
 use Rattle.std.specs.Prelude.{ℕ, ◌+◌, max, Bool, true, false, ◌&&◌, cond, ℤ, List, [], ◌∷◌, ◌++◌, length, Option, Some, None, slice_get}
 use Rattle.b4_core.specs.Vectors.{known, number}
-use Rattle.row_machine.specs.Places.{vector_at}
+use Rattle.picks.specs.RowMachine.{vector_at}
 use Rattle.sv_types.specs.Layouts.{Layout, Part, repeated, count_of}
 use Rattle.sv_types.specs.Windows.{Window, whole, member_of, element_of, between, slide}
 use Rattle.sv_types.specs.Surroundings.{onward, Around, Tally, Use, Sight, local_number}

@@ -6,8 +6,8 @@ use Rattle.b4_core.specs.declared.bit.Bit4.{Bit4}
 use Rattle.b4_core.specs.declared.bit.Bit4.TheVariants.{Zero, One, X, Z}
 use Rattle.b4_core.specs.Bits.{known4, is_one, same4}
 use Rattle.b4_core.specs.Vectors.{ext}
-use Rattle.row_machine.specs.Valuation.{Changes, put}
-use Rattle.row_machine.specs.Steps.{then_changes}
+use Rattle.picks.specs.RowMachine.{Changes, put}
+use Rattle.picks.specs.RowMachine.{then_changes}
 use Rattle.sv_types.specs.declared.statement.CaseKind.{CaseKind}
 use Rattle.sv_types.specs.declared.statement.CaseKind.TheVariants as K
 use Rattle.sv_types.specs.declared.statement.Outcome.{Outcome}

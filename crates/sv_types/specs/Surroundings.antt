@@ -2,7 +2,7 @@
 -- much of its run is left.
 use Rattle.std.specs.Prelude.{ℕ, zero, suc, ◌+◌, ◌^◌, nat_lt, Bool, List, Option, Some, None}
 use Rattle.b4_core.specs.declared.bit.Bit4.{Bit4}
-use Rattle.row_machine.specs.Valuation.{Place, Valuation}
+use Rattle.picks.specs.RowMachine.{Place, Valuation}
 use Rattle.sv_types.specs.declared.statement.Way.{Way}
 
 -- Signals and locals have one numbering: the locals stand behind all signals, whose numbers are below 2^32.

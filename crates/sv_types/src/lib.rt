@@ -27,4 +27,5 @@ pub use statement::{
     CaseItem, CaseItems, CaseKind, Formal, Formals, Function, FunctionKind, Functions, Local,
     Locals, Outcome, Spots, Stmt, Stmts, Way,
 };
+pub use sv_source::{Items, Text, Token};
 pub use types::{EnumName, EnumNames, Member, Members, SvType, Value, Values};

@@ -2,7 +2,7 @@
 
 ghost use Rattle.std.specs.Prelude.{◌≡◌, IfOk};
 
-use b4_core::Vec4;
+use expr_type::Vec4;
 use std::alloc::{AllocError, Global};
 use sv_source::Boxed;
 use sv_types::{EnumName, EnumNames, Member, Members, SvType};

@@ -3,7 +3,7 @@
 ghost use Rattle.std.specs.Prelude.{◌≡◌};
 ghost use Rattle.expr_type.specs.Shapes as shape;
 
-use pattern_fit::is_same;
+use expr_type::is_same;
 use sv_types::SvType;
 
 /// Whether values of a type have no bits that operators take: it is an unpacked struct or array.

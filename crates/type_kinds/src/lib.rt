@@ -12,3 +12,4 @@ pub use kinds::{
     enum_of, is_array, is_enum, is_indexed, is_plain_to_enum, is_same_enum, is_unpacked,
 };
 pub use makes::{one_bit, vector};
+pub use sv_types::{Choice, Choices, Expr, Exprs, Form, SvType, Value, Values};

@@ -8,13 +8,13 @@ ghost use Rattle.sv_tree.specs.Extents.{qualified_first};
 ghost use Rattle.typing_calls.specs.Calls.{CallsAt, passed_in};
 
 use crate::lists::{all_made, followed};
-use call_types::called;
 use expr_type::{Halt, Source, Valued};
 use pattern_types::{Operand, passed};
 use std::alloc::Global;
 use sv_tree::QualifiedName;
 use sv_types::{Expr, Exprs, Formal, Function};
 use typing_parts::{Known, Names};
+use typing_values::called;
 
 /// Actuals as they are passed to formals, as far as there are both: what each formal's type is given (IEEE 1800-2017 clause 13.5).
 pub fn passed_all(

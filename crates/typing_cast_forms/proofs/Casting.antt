@@ -15,10 +15,10 @@ use Rattle.pattern_types.specs.declared.operand.Operand as O
 use Rattle.typing_parts.specs.declared.known.Known.{Known}
 use Rattle.typing_parts.specs.Typists.{AllCanType}
 use Rattle.typing_steps.specs.Steps.{TypesTo}
-use Rattle.typing_values.specs.Children.{in_cast}
-use Rattle.typing_values.specs.Parts.{by_size, call}
-use Rattle.walk_laws.specs.Children.{in_casts}
-use Rattle.walk_laws.proofs.Operands as L
+use Rattle.typing_casts.specs.TypingValues.{in_cast}
+use Rattle.typing_casts.specs.TypingValues.{by_size, call}
+use Rattle.typing_forms.specs.WalkLaws.{in_casts}
+use Rattle.typing_forms.proofs.WalkLawsOperands as L
 use Rattle.typing_cast_forms.specs.Casts.{called_of, in_parentheses, parenthesized_of}
 
 pub parenthesized-alone : (k : Context) (opening : ℕ) (v : Expr) (o : Option Cast) (r : Result V.Operand Halt) (fs gs : List Function) → o ≡ None → TypesTo r (in_parentheses k opening v fs) gs → TypesTo r (parenthesized_of k opening v o fs) gs

@@ -1,1 +1,3 @@
 pub mod Casting
+pub mod TypingFormsForms
+pub mod TypingForms

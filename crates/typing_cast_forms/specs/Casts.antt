@@ -9,7 +9,7 @@ use Rattle.expr_type.specs.Forms.{plain}
 use Rattle.expr_type.specs.Names.{Context}
 use Rattle.expr_type.specs.Operands as V
 use Rattle.expr_type.specs.Typings.{Typing, checked, whole}
-use Rattle.typing_values.specs.Parts.{by_size, call}
+use Rattle.typing_casts.specs.TypingValues.{by_size, call}
 
 abbrev pub in_parentheses : Context → ℕ → Expr → Typing V.Operand
 in_parentheses k opening v = checked ((meaning v).typed k) (λ o. whole (V.parenthesized opening o))

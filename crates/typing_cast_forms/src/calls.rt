@@ -1,14 +1,14 @@
 //! Calls of functions.
 
 ghost use Rattle.std.specs.Prelude.{◌≡◌};
-ghost use Rattle.routine_fits.specs.Sound.{AllSoundFunctions};
+ghost use Rattle.typing_parts.specs.RoutineFits.{AllSoundFunctions};
 ghost use Rattle.typing_walks.specs.Keeps.{Surrounded};
 ghost use Rattle.typing_fits.specs.Sound.{Extends};
 ghost use Rattle.typing_steps.specs.Steps.{TypesTo};
 ghost use Rattle.typing_parts.specs.Operands.{as_operand};
 ghost use Rattle.typing_parts.specs.Typists.{AllCanType, IsReady, MakesKnown};
 ghost use Rattle.typing_cast_forms.specs.Casts.{called_of};
-ghost use Rattle.walk_laws.specs.Children.{AllWritten, in_casts};
+ghost use Rattle.typing_forms.specs.WalkLaws.{AllWritten, in_casts};
 
 use crate::parentheses::as_plain;
 use expr_type::Halt;

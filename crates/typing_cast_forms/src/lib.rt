@@ -6,3 +6,5 @@ mod parentheses;
 
 pub use calls::called;
 pub use parentheses::{as_plain, parenthesized};
+pub use typing_casts::{by_sign, by_written_size};
+pub use typing_forms::{as_stream, pattern};

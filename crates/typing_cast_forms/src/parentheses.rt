@@ -12,9 +12,9 @@ ghost use Rattle.typing_fits.specs.Sound.{Extends};
 ghost use Rattle.typing_steps.specs.Steps.{TypesTo};
 ghost use Rattle.typing_parts.specs.Operands.{as_operand};
 ghost use Rattle.typing_parts.specs.Typists.{AllCanType, CanType, FitsIfOk, IsReady};
-ghost use Rattle.typing_values.specs.Numbers.{CanBeValued};
+ghost use Rattle.typing_casts.specs.TypingValues.{CanBeValued};
 ghost use Rattle.typing_cast_forms.specs.Casts.{parenthesized_of};
-ghost use Rattle.walk_laws.specs.Children.{in_casts};
+ghost use Rattle.typing_forms.specs.WalkLaws.{in_casts};
 
 use expr_type::{Halt, Valued};
 use pattern_types::Operand;

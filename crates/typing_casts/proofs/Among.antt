@@ -15,7 +15,7 @@ use Rattle.expr_type.specs.Names.{Context}
 use Rattle.pattern_types.specs.declared.operand.Operand as P
 use Rattle.typing_parts.specs.declared.known.Known.{Known}
 use Rattle.typing_parts.specs.Typists.{AllCanType, CanType}
-use Rattle.typing_values.specs.Children.{in_cast, in_pattern}
+use Rattle.typing_patterns.specs.TypingValues.{in_cast, in_pattern}
 
 -- the expressions in one level of a cast
 abbrev in_layer : Cast-F Cast Dimension Expr Pattern PatternItem Select SliceSize ValueRange → List Expr

@@ -25,8 +25,8 @@ use Rattle.typing_steps.proofs.Combining.{beside-fine, checked-fine, checked-sto
 use Rattle.typing_casts.specs.Insides.{bits_of, inside_bits, inside_of, operand_bits}
 use Rattle.typing_casts.specs.Sized.{size_of, sized, typed_by}
 use Rattle.typing_patterns.specs.Written.{pattern_by}
-use Rattle.typing_values.specs.Numbers.{operand_number}
-use Rattle.typing_values.specs.Parts.{by_size, pattern_meaning}
+use Rattle.typing_patterns.specs.TypingValues.{operand_number}
+use Rattle.typing_patterns.specs.TypingValues.{by_size, pattern_meaning}
 
 -- what is made of what is whole, and a rule on that
 then-by : {A B C : Type 0} (r : Checked A) (m : A → B) (f : B → Typing C) (fs : List Function)

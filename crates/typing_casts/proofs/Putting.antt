@@ -1,6 +1,6 @@
 -- Laws as rulesets.
 use Rattle.typing_steps.proofs.Combining.{beside-fine, beside-breaks, beside-second, beside-quiet, beside-behind-quiet, checked-fine, checked-stops, rule-types}
-use Rattle.typing_values.proofs.Operands.{value-narrow, bits-narrow}
+use Rattle.typing_patterns.proofs.TypingValues.{value-narrow, bits-narrow}
 use Rattle.typing_casts.proofs.Crossing.{where-fine, where-stops, inside-pattern, inside-value, bits-types, bits-stop, size-types, size-stop}
 
 pub ruleset operands = (where-fine, where-stops, value-narrow, bits-narrow)

@@ -10,7 +10,7 @@ use Rattle.expr_type.specs.Typings.{Checked, Typing, where_whole}
 use Rattle.pattern_types.specs.Meaning.{operand_of}
 use Rattle.typing_casts.specs.declared.insides.Bits.{Bits}
 use Rattle.typing_casts.specs.declared.insides.Inside.{Inside}
-use Rattle.typing_values.specs.Parts.{cast_meaning}
+use Rattle.typing_patterns.specs.TypingValues.{cast_meaning}
 
 abbrev pub inside_of : Context → Cast → Typing F.Inside
 inside_of k c = cast_meaning c k

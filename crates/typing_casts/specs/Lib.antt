@@ -1,2 +1,4 @@
 pub mod Insides
 pub mod Sized
+pub mod TypingValues
+pub mod TypingValuesParts

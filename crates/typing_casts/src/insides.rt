@@ -12,7 +12,7 @@ ghost use Rattle.typing_parts.specs.Typists.{AllCanType, CanType, IsNarrowOperan
 ghost use Rattle.typing_parts.specs.Operands.{as_operand};
 ghost use Rattle.typing_rows.specs.Rows.{mapped};
 ghost use Rattle.typing_steps.specs.Steps.{TypesTo};
-ghost use Rattle.typing_values.specs.Children.{in_cast};
+ghost use Rattle.typing_patterns.specs.TypingValues.{in_cast};
 
 use expr_type::{Halt, Source, Valued};
 use operand_types::has_bits;
@@ -20,8 +20,7 @@ use pattern_types::Operand;
 use std::alloc::Global;
 use sv_tree::{Cast, Expr};
 use typing_parts::{Known, Names};
-use typing_patterns::pattern;
-use typing_values::as_value;
+use typing_patterns::{as_value, pattern};
 
 /// What stands behind the tick of a cast.
 #[derive(Drop)]

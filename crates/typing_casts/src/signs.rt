@@ -7,8 +7,8 @@ ghost use Rattle.typing_fits.specs.Operands.{SoundContext};
 ghost use Rattle.typing_fits.specs.Sound.{Extends};
 ghost use Rattle.typing_parts.specs.Typists.{AllCanType, IsReady};
 ghost use Rattle.typing_steps.specs.Steps.{TypesTo};
-ghost use Rattle.typing_values.specs.Children.{in_cast};
-ghost use Rattle.typing_values.specs.Parts as part;
+ghost use Rattle.typing_patterns.specs.TypingValues.{in_cast};
+ghost use Rattle.typing_patterns.specs.TypingValuesParts as part;
 
 use crate::insides::{Bits, bits_inside};
 use expr_type::{Halt, Valued};

@@ -10,8 +10,8 @@ ghost use Rattle.typing_fits.specs.Sound.{Extends};
 ghost use Rattle.typing_parts.specs.Operands.{as_operand};
 ghost use Rattle.typing_parts.specs.Typists.{AllCanType, FitsIfOk, IsReady};
 ghost use Rattle.typing_steps.specs.Steps.{TypesTo};
-ghost use Rattle.typing_values.specs.Children.{in_cast};
-ghost use Rattle.typing_values.specs.Parts as part;
+ghost use Rattle.typing_patterns.specs.TypingValues.{in_cast};
+ghost use Rattle.typing_patterns.specs.TypingValuesParts as part;
 
 use crate::insides::{Bits, bits_inside};
 use expr_type::{Halt, Valued};
@@ -21,7 +21,7 @@ use pattern_types::Operand;
 use std::alloc::Global;
 use sv_tree::{Cast, Expr};
 use typing_parts::{Known, Names};
-use typing_values::{behind_quiet, number_of_operand};
+use typing_patterns::{behind_quiet, number_of_operand};
 
 // The greatest size.
 const MOST_OF_SIZE: i64 = 4_294_967_295;

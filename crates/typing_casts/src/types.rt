@@ -15,7 +15,7 @@ ghost use Rattle.typing_fits.specs.Operands.{SoundContext};
 ghost use Rattle.typing_fits.specs.Sound.{Extends};
 ghost use Rattle.typing_parts.specs.Typists.{AllCanType, IsReady};
 ghost use Rattle.typing_steps.specs.Steps.{TypesTo};
-ghost use Rattle.typing_values.specs.Children.{in_cast};
+ghost use Rattle.typing_patterns.specs.TypingValues.{in_cast};
 
 use crate::insides::{Inside, behind_tick};
 use expr_type::{Halt, Source, Valued};
@@ -26,7 +26,7 @@ use sv_source::Items;
 use sv_tree::{Cast, Expr};
 use sv_types::SvType;
 use typing_parts::{Known, Names};
-use typing_values::behind_quiet;
+use typing_patterns::behind_quiet;
 
 // What has a type in front of it, which is whole by itself.
 fn whole(alloc: Global, first: u32, expr: sv_types::Expr) -> Valued

@@ -1,1 +1,3 @@
 pub mod Dimensions
+pub mod TypingValues
+pub mod TypingValuesParts

@@ -15,7 +15,7 @@ use Rattle.typing_walks.specs.Written as W
 use Rattle.typing_walks.specs.Written.{is_written, cast_written, dimension_written, pattern_written, item_written, select_written, slice_written, range_written}
 use Rattle.walk_laws.specs.Children.{AllWritten, children_in, in_casts}
 use Rattle.walk_laws.proofs.Written.{children-written}
-use Rattle.typing_forms.specs.Levels.{Level}
+use Rattle.typing_cast_forms.specs.TypingForms.{Level}
 
 front-written : (xs ys : List Expr) → AllWritten (xs ++ ys) → AllWritten xs
 front-written [] ys w = tt

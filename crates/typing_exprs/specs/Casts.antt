@@ -10,7 +10,7 @@ use Rattle.expr_type.specs.Forms.{plain}
 use Rattle.expr_type.specs.Names.{Context}
 use Rattle.expr_type.specs.Operands as V
 use Rattle.expr_type.specs.Typings.{Typing, broken}
-use Rattle.typing_values.specs.Parts.{named_path, to_name, to_word}
+use Rattle.typing_operators.specs.TypingValues.{named_path, to_name, to_word}
 
 abbrev pub word_of : Context → KeywordType → List Dimension → Option Cast → Typing V.Operand
 word_of k of ds None = broken Quiet

@@ -1,1 +1,3 @@
 pub mod Casts
+pub mod TypingForms
+pub mod WalkLaws

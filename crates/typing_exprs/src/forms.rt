@@ -17,13 +17,10 @@ use literal_types::{based_number, decimal, fill, sized_number};
 use pattern_types::Operand;
 use std::alloc::Global;
 use sv_tree::Expr;
-use typing_cast_forms::{called, parenthesized};
-use typing_casts::{by_sign, by_written_size};
-use typing_forms::as_stream;
+use typing_cast_forms::{as_stream, by_sign, by_written_size, called, parenthesized, pattern};
 use typing_insides::inside;
 use typing_operators::{binary, concatenation, conditional, replication, stream, unary};
 use typing_parts::{Known, Names};
-use typing_patterns::pattern;
 use typing_system::system_call;
 use typing_type_casts::plain_operand;
 

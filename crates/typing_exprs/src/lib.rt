@@ -7,4 +7,5 @@ mod names;
 mod walk;
 
 pub use forms::form;
+pub use typing_operators::{reverses, written_size};
 pub use walk::{operand, type_expr};

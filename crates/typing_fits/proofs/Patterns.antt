@@ -22,9 +22,9 @@ use Rattle.sv_types.proofs.Components.{member-layout}
 use Rattle.sv_types.proofs.Lengths.{layout-PackedArray, layout-UnpackedArray, layout-Struct, width-PackedArray, width-UnpackedArray, width-Struct}
 use Rattle.eval_parts.proofs.Steps.{at-form}
 use Rattle.eval_parts.proofs.TypeKinds.{wide-is}
-use Rattle.pattern_fit.specs.declared.pattern.PatternItem.{PatternItem}
-use Rattle.pattern_fit.specs.declared.pattern.PatternItem.TheVariants as I
-use Rattle.pattern_fit.specs.declared.pattern.Rest.{Rest}
+use Rattle.expr_type.specs.PatternFit.{PatternItem}
+use Rattle.expr_type.specs.PatternFitPatternItem as I
+use Rattle.expr_type.specs.PatternFit.{Rest}
 use Rattle.expr_type.specs.Typings.{Checked, where_whole, all_of}
 use Rattle.expr_type.specs.Names.{Context, Source}
 use Rattle.expr_type.specs.Operators.{expr_at, not_too_long}

@@ -13,7 +13,7 @@ use Rattle.sv_types.proofs.Terms.{Each}
 use Rattle.sv_types.proofs.TypeShapes.{Kinds, by-type}
 use Rattle.sv_types.proofs.Components.{member-layout}
 use Rattle.sv_types.proofs.Lengths.{layout-Scalar, layout-PackedArray, layout-UnpackedArray, layout-Struct, layout-Union, layout-Enum, width-PackedArray, width-UnpackedArray, width-Struct, width-Union}
-use Rattle.pattern_fit.specs.Same.{same_type, of_member, same_bool, of_scalar, is_packed_array, same_members, of_struct, of_union, of_enum, is_unpacked_array}
+use Rattle.expr_type.specs.PatternFit.{same_type, of_member, same_bool, of_scalar, is_packed_array, same_members, of_struct, of_union, of_enum, is_unpacked_array}
 use Rattle.expr_type.specs.Shapes.{enum_of, is_same_number, sign_of, is_same_enum}
 use Rattle.expr_type.specs.Operands.{width}
 use Rattle.expr_type.specs.Operators.{is_signed}

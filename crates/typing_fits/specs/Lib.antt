@@ -5,3 +5,5 @@ pub mod Alternatives
 pub mod Operands
 pub mod Patterns
 pub mod Laws
+pub mod EvalForms
+pub mod EvalParts

@@ -12,8 +12,8 @@ use Rattle.sv_tree.specs.declared.expressions.ValueRange.{ValueRange}
 use Rattle.expr_type.specs.declared.halt.Halt.{Halt}
 use Rattle.expr_type.specs.Names.{Context}
 use Rattle.pattern_types.specs.declared.operand.Operand as O
-use Rattle.typing_parts.specs.declared.known.Known.{Known}
-use Rattle.typing_parts.specs.Typists.{AllCanType, CanType}
+use Rattle.typing_operators.specs.TypingParts.{Known}
+use Rattle.typing_operators.specs.TypingParts.{AllCanType, CanType}
 use Rattle.typing_walks.specs.Written.{is_written}
 use Rattle.walk_laws.specs.Children as C
 use Rattle.walk_laws.specs.Children.{cast_nodes, children, children_in, dimension_nodes, if_there, item_nodes, nodes, pattern_nodes, range_nodes, select_nodes, slice_nodes, sum}

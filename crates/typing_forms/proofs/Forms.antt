@@ -29,9 +29,9 @@ use Rattle.expr_type.specs.Operands as V
 use Rattle.expr_type.specs.Operators.{Alternative, inside_of}
 use Rattle.expr_type.specs.Typings.{Typing, all, both, broken, checked, rule, whole}
 use Rattle.typing_steps.specs.Steps.{TypesTo}
-use Rattle.typing_values.specs.Parts as P
-use Rattle.typing_values.specs.Parts.{cast_meaning, range_meaning}
-use Rattle.typing_values.specs.Values.{value_of}
+use Rattle.typing_operators.specs.TypingValuesParts as P
+use Rattle.typing_operators.specs.TypingValues.{cast_meaning, range_meaning}
+use Rattle.typing_operators.specs.TypingValues.{value_of}
 use Rattle.typing_operators.specs.Joins as J
 use Rattle.typing_operators.specs.Operators as O
 use Rattle.typing_patterns.specs.Written.{pattern_by}

@@ -10,7 +10,7 @@ use Rattle.sv_tree.specs.declared.expressions.ValueRange.{ValueRange}
 use Rattle.expr_type.specs.Expressions as E
 use Rattle.expr_type.specs.Expressions.{CastMeaning, DimensionMeaning, ItemMeaning, Meaning, PatternMeaning, RangeMeaning, SliceMeaning, dimension_meaning, meaning, select_meaning, slice_meaning}
 use Rattle.expr_type.specs.Forms.{SelectMeaning}
-use Rattle.typing_values.specs.Parts.{cast_meaning, pattern_meaning, range_meaning}
+use Rattle.typing_operators.specs.TypingValues.{cast_meaning, pattern_meaning, range_meaning}
 
 abbrev pub Level : Type 0
 Level = Expr-F Cast Dimension Expr Pattern PatternItem Select SliceSize ValueRange

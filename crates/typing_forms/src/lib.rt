@@ -5,3 +5,4 @@
 mod operands;
 
 pub use operands::{as_parenthesized, as_stream};
+pub use typing_patterns::pattern;

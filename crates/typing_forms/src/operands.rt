@@ -9,7 +9,7 @@ ghost use Rattle.pattern_types.specs.Meaning.{operand_of};
 ghost use Rattle.expr_type.specs.Names as names;
 ghost use Rattle.expr_type.specs.Typings.{Typing, checked, whole};
 ghost use Rattle.typing_steps.specs.Steps.{TypesTo};
-ghost use Rattle.typing_parts.specs.Operands.{as_operand};
+ghost use Rattle.typing_operators.specs.TypingParts.{as_operand};
 
 use expr_type::{Halt, Valued};
 use pattern_types::Operand;

@@ -25,7 +25,7 @@ use Rattle.typing_assigns.specs.Assigning.{assigned_by}
 use Rattle.typing_assigns.specs.Targets.{StandsFor, TargetsTo}
 use Rattle.typing_assigns.specs.declared.target.Target.{Target}
 use Rattle.typing_assigns.proofs.Joining.{where-stops}
-use Rattle.typing_operators.proofs.Exprs.{then-types}
+use Rattle.typing_exprs.proofs.TypingOperators.{then-types}
 use Rattle.typing_lvalues.specs.Loops as Y
 use Rattle.typing_lvalues.specs.Sides.{first_stop, stop}
 use Rattle.typing_lvalues.specs.Walks as W

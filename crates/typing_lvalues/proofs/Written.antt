@@ -18,9 +18,9 @@ use Rattle.typing_parts.specs.Typists.{AllCanType, CanType}
 use Rattle.typing_values.specs.Children.{in_selects, in_slice}
 use Rattle.typing_walks.specs.Written as W
 use Rattle.typing_walks.specs.Written.{is_written, cast_written, dimension_written, pattern_written, item_written, select_written, slice_written, range_written}
-use Rattle.walk_laws.specs.Children.{AllWritten, children_in}
-use Rattle.walk_laws.proofs.Written.{children-written}
-use Rattle.typing_forms.specs.Levels.{Level}
+use Rattle.typing_exprs.specs.WalkLaws.{AllWritten, children_in}
+use Rattle.typing_exprs.proofs.WalkLaws.{children-written}
+use Rattle.typing_exprs.specs.TypingForms.{Level}
 
 module _ (R S : Type 0) (tree : R → Expr) (held : S → Known) (pre : R → S → Type 0) (post : R → S → Result O.Operand Halt → S → Type 0) (k : Context) where
   pub each-can : (es : List Expr) → ((e : Expr) → is_written e ≡ true → CanType R S tree held pre post k e) → AllWritten es → AllCanType R S tree held pre post k es

@@ -16,3 +16,5 @@ pub use loops::loop_step;
 pub use lvalues::target;
 pub use paths::name_target;
 pub use sides::beside;
+pub use typing_exprs::operand;
+pub use typing_targets::Nets;

@@ -17,7 +17,7 @@ use expr_type::{Halt, Valued};
 use std::alloc::Global;
 use sv_tree::StreamOperator;
 use typing_assigns::{Target, TargetPart, joined_target, stream_target, target_part, whole_of};
-use typing_operators::reverses;
+use typing_exprs::reverses;
 use typing_parts::Names;
 
 /// A target as a part of a concatenated one, where it is whole.

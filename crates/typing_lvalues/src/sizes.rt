@@ -16,8 +16,7 @@ use expr_type::Halt;
 use pattern_types::Operand;
 use std::alloc::Global;
 use sv_tree::{Expr, SliceSize};
-use typing_exprs::operand;
-use typing_operators::written_size;
+use typing_exprs::{operand, written_size};
 use typing_parts::{Known, Names};
 
 // The bits of a slice as it is written.

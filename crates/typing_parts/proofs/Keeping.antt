@@ -1,7 +1,7 @@
 -- Functions that stay known: their places in one list are theirs in a longer one.
 use Rattle.std.specs.Prelude.{List}
 use Rattle.sv_types.specs.declared.statement.Function.{Function}
-use Rattle.typing_fits.specs.Sound.{Extends}
+use Rattle.routine_fits.specs.TypingFits.{Extends}
 
 -- where none is made known
 pub extends-same : (fs : List Function) → Extends fs fs

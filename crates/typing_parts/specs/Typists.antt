@@ -4,7 +4,7 @@ use Rattle.sv_types.specs.declared.statement.Function.{Function}
 use Rattle.sv_types.specs.Layouts.{width_of}
 use Rattle.sv_types.specs.Expressions as T
 use Rattle.sv_tree.specs.declared.expressions.Expr.{Expr}
-use Rattle.eval_parts.specs.Limits.{FitsAlone}
+use Rattle.routine_fits.specs.EvalParts.{FitsAlone}
 use Rattle.eval_forms.specs.Callees.{formals_in}
 use Rattle.expr_type.specs.declared.halt.Halt.{Halt}
 use Rattle.expr_type.specs.Expressions.{meaning}
@@ -17,7 +17,7 @@ use Rattle.pattern_types.specs.declared.operand.Operand.{out-Operand, Operand-F}
 use Rattle.typing_parts.specs.declared.known.Known.{Known}
 use Rattle.typing_parts.specs.Operands.{as_operand}
 use Rattle.routine_fits.specs.Sound.{AllSoundFunctions}
-use Rattle.typing_fits.specs.Sound.{Extends}
+use Rattle.routine_fits.specs.TypingFits.{Extends}
 use Rattle.typing_steps.specs.Steps.{StopsBy, TypesTo}
 
 -- each mark says whether its function holds a stream, each function is found by where it is declared, and each can be run where these

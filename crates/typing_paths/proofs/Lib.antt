@@ -1,2 +1,3 @@
 pub mod Selecting
 pub mod Naming
+pub mod TypingDimensions

@@ -8,3 +8,4 @@ mod steps;
 
 pub use names::named_path;
 pub use paths::path;
+pub use typing_dimensions::{dimensioned, leaf, type_of_name, type_of_word};

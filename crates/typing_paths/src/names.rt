@@ -7,8 +7,8 @@ ghost use Rattle.typing_fits.specs.Operands.{SoundContext};
 ghost use Rattle.typing_fits.specs.Sound.{Extends};
 ghost use Rattle.typing_steps.specs.Steps.{TypesTo};
 ghost use Rattle.typing_parts.specs.Typists.{AllCanType, IsReady};
-ghost use Rattle.typing_values.specs.Children.{in_selects};
-ghost use Rattle.typing_values.specs.Parts as part;
+ghost use Rattle.typing_dimensions.specs.TypingValues.{in_selects};
+ghost use Rattle.typing_dimensions.specs.TypingValuesParts as part;
 ghost use Rattle.typing_paths.specs.Paths.{member_of, member_path_of, value_path_of};
 
 use crate::paths::path;
@@ -17,8 +17,8 @@ use pattern_types::Operand;
 use std::alloc::Global;
 use sv_tree::{Expr, QualifiedName, Select};
 use sv_types::Form;
+use typing_dimensions::{leaf, named};
 use typing_parts::{Known, Names, Thing};
-use typing_values::{leaf, named};
 
 // The member of an interface's instance or port whose name stands at a token (E405).
 fn member<S: Names>(

@@ -8,7 +8,7 @@ ghost use Rattle.operand_types.specs.Allowed.{IsNarrow};
 ghost use Rattle.typing_fits.specs.Sound.{Extends};
 ghost use Rattle.typing_steps.specs.Steps.{TypesTo};
 ghost use Rattle.typing_parts.specs.Typists.{AllCanType, IsReady};
-ghost use Rattle.typing_values.specs.Children.{in_select, in_selects};
+ghost use Rattle.typing_dimensions.specs.TypingValues.{in_select, in_selects};
 ghost use Rattle.typing_paths.specs.Paths.{CanStep, path_of, selected_of, stepping_of};
 
 use crate::steps::step;
@@ -17,8 +17,8 @@ use pattern_types::Operand;
 use select_types::stepped;
 use std::alloc::Global;
 use sv_tree::{Expr, Select};
+use typing_dimensions::behind_quiet;
 use typing_parts::{Known, Names};
-use typing_values::behind_quiet;
 
 // A value and the select behind it: where what stands before isn't whole and breaks nothing, the select is looked at for its breaks.
 #[tactic(auto, using(typing_steps::proofs::Combining::besides, typing_parts::proofs::Keeping::keepings))]

@@ -4,3 +4,4 @@ pub mod Levels
 pub mod Placing
 pub mod Among
 pub mod Putting
+pub mod TypingValues

@@ -1,2 +1,4 @@
 pub mod Keyed
 pub mod Written
+pub mod TypingValues
+pub mod TypingValuesParts

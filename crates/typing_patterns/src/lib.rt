@@ -7,3 +7,4 @@ mod keys;
 mod patterns;
 
 pub use patterns::pattern;
+pub use typing_values::{as_value, behind_quiet, number_of_operand};

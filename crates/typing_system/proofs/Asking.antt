@@ -15,7 +15,7 @@ use Rattle.expr_type.specs.Names.{Context, Source, thing}
 use Rattle.expr_type.specs.Operands.{Operand, value, width}
 use Rattle.expr_type.specs.Typings.{Checked, Typed, Typing, applied, checked, maybe, whole}
 use Rattle.typing_steps.specs.Steps.{StopsBy, TypesTo}
-use Rattle.typing_values.specs.Parts as part
+use Rattle.typing_dimensions.specs.TypingValuesParts as part
 use Rattle.typing_system.specs.System.{named_type_of}
 use Rattle.typing_steps.proofs.Combining.{checked-fine, checked-stops}
 

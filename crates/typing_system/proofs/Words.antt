@@ -11,8 +11,8 @@ use Rattle.expr_type.specs.Expressions.{DimensionMeaning, Meaning, dimension_mea
 use Rattle.expr_type.specs.KeywordTypes.{Dim, keyword_type}
 use Rattle.expr_type.specs.Names.{Context}
 use Rattle.expr_type.specs.Typings.{Typing, all, checked, whole}
-use Rattle.typing_values.specs.Children.{in_dimensions}
-use Rattle.typing_values.specs.Parts as part
+use Rattle.typing_dimensions.specs.TypingValues.{in_dimensions}
+use Rattle.typing_dimensions.specs.TypingValuesParts as part
 use Rattle.typing_dimensions.proofs.Rows.{map-of-map}
 use Rattle.typing_system.specs.Children.{in_type}
 use Rattle.typing_system.specs.Forms.{IsWord}

@@ -2,7 +2,7 @@
 use Rattle.std.specs.Prelude.{List, [], Option, Some, None}
 use Rattle.sv_tree.specs.declared.expressions.Cast.{Cast}
 use Rattle.sv_tree.specs.declared.expressions.Expr.{Expr, Expr-F, out-Expr}
-use Rattle.typing_values.specs.Children.{in_dimensions, in_selects}
+use Rattle.typing_dimensions.specs.TypingValues.{in_dimensions, in_selects}
 
 -- a word or a name with something cast to it is no type
 abbrev pub uncast : Option Cast → List Expr → List Expr

@@ -7,8 +7,8 @@ use Rattle.sv_tree.specs.declared.names.QualifiedName.{QualifiedName}
 use Rattle.sv_tree.specs.declared.types.KeywordType.{KeywordType}
 use Rattle.expr_type.specs.Expressions.{meaning, select_meaning, type_of_name}
 use Rattle.expr_type.specs.Names.{Context}
-use Rattle.typing_values.specs.Children.{in_dimensions, in_selects}
-use Rattle.typing_values.specs.Parts as part
+use Rattle.typing_dimensions.specs.TypingValues.{in_dimensions, in_selects}
+use Rattle.typing_dimensions.specs.TypingValuesParts as part
 use Rattle.typing_system.specs.Children.{in_type}
 use Rattle.typing_system.specs.declared.types.TypeForm.{TypeForm}
 use Rattle.typing_system.specs.declared.types.TypeForm.TheVariants as T

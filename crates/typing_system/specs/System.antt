@@ -15,8 +15,8 @@ use Rattle.expr_type.specs.Operators.{by_itself}
 use Rattle.expr_type.specs.Shapes.{integer}
 use Rattle.expr_type.specs.Operands.{width}
 use Rattle.expr_type.specs.Typings.{Typing, checked, maybe, whole}
-use Rattle.typing_values.specs.Parts as part
-use Rattle.typing_values.specs.Values.{bits_of, value_of}
+use Rattle.typing_dimensions.specs.TypingValuesParts as part
+use Rattle.typing_dimensions.specs.TypingValues.{bits_of, value_of}
 
 -- an expression as a type, if it is one
 abbrev pub as_type_of : Context → Expr → Typing (Option SvType)

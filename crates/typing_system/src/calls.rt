@@ -6,8 +6,8 @@ ghost use Rattle.expr_type.specs.Forms as form;
 ghost use Rattle.operand_types.specs.Allowed.{IsNarrow};
 ghost use Rattle.typing_fits.specs.Sound.{Extends};
 ghost use Rattle.typing_steps.specs.Steps.{TypesTo};
-ghost use Rattle.typing_parts.specs.Typists.{AllCanType, CanType, IsReady};
-ghost use Rattle.typing_values.specs.Parts as part;
+ghost use Rattle.typing_dimensions.specs.TypingValues.{AllCanType, CanType, IsReady};
+ghost use Rattle.typing_dimensions.specs.TypingValuesParts as part;
 ghost use Rattle.typing_system.specs.Children.{in_type};
 ghost use Rattle.typing_system.specs.System.{bits_call_of, bits_function_of, bits_of_part_of, value_call_of};
 
@@ -18,8 +18,7 @@ use given_types::{clog2_of, with_sign};
 use pattern_types::Operand;
 use std::alloc::Global;
 use sv_tree::Expr;
-use typing_parts::{Known, Names};
-use typing_values::{bits, value};
+use typing_dimensions::{Known, Names, bits, value};
 
 // Whether the word of a token is this one.
 fn is_word<S: Names>(names: &S, at: u32, word: &[u8]) -> bool

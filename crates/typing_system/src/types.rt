@@ -2,8 +2,8 @@
 
 ghost use Rattle.typing_fits.specs.Sound.{Extends};
 ghost use Rattle.typing_steps.specs.Steps.{TypesTo};
-ghost use Rattle.typing_parts.specs.Typists.{AllCanType, IsReady};
-ghost use Rattle.typing_values.specs.Children.{in_dimensions, in_selects};
+ghost use Rattle.typing_dimensions.specs.TypingValues.{AllCanType, IsReady};
+ghost use Rattle.typing_dimensions.specs.TypingValues.{in_dimensions, in_selects};
 ghost use Rattle.typing_system.specs.Children.{in_type};
 ghost use Rattle.typing_system.specs.Forms.{HasForm};
 ghost use Rattle.typing_system.specs.System.{as_type_of, named_type_of, word_type_of};
@@ -13,8 +13,7 @@ use pattern_types::Operand;
 use std::alloc::Global;
 use sv_tree::{Dimension, Expr, KeywordType, QualifiedName, Select};
 use sv_types::SvType;
-use typing_dimensions::{dimensioned, type_of_name, type_of_word};
-use typing_parts::{Known, Names};
+use typing_dimensions::{Known, Names, dimensioned, type_of_name, type_of_word};
 
 // How an expression may be a type.
 #[derive(Clone, Copy)]

@@ -24,8 +24,8 @@ use Rattle.sv_tree.specs.declared.expressions.Expr.{Expr}
 use Rattle.pattern_types.specs.declared.operand.Operand as O
 use Rattle.typing_parts.specs.declared.known.Known.{Known}
 use Rattle.typing_parts.specs.Typists.{AllCanType}
-use Rattle.typing_values.specs.Children.{in_select, in_selects}
-use Rattle.typing_dimensions.proofs.Typable.{can-rest}
+use Rattle.typing_paths.specs.TypingValues.{in_select, in_selects}
+use Rattle.typing_paths.proofs.TypingDimensions.{can-rest}
 use Rattle.typing_steps.specs.Steps.{TypesTo}
 use Rattle.typing_paths.specs.Paths.{path_of}
 use Rattle.typing_targets.specs.Names.{local_path_of, member_path_of, member_target_of, named_target_of, signal_path_of}

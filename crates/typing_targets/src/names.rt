@@ -9,7 +9,7 @@ ghost use Rattle.typing_fits.specs.Operands.{SoundContext};
 ghost use Rattle.typing_fits.specs.Sound.{Extends};
 ghost use Rattle.typing_steps.specs.Steps.{TypesTo};
 ghost use Rattle.typing_parts.specs.Typists.{AllCanType, IsReady};
-ghost use Rattle.typing_values.specs.Children.{in_selects};
+ghost use Rattle.typing_paths.specs.TypingValues.{in_selects};
 ghost use Rattle.typing_targets.specs.Names.{local_path_of, member_path_of, member_target_of, named_target_of, signal_path_of, signal_target_of};
 
 use crate::nets::Nets;
@@ -19,8 +19,7 @@ use std::alloc::Global;
 use sv_tree::{Expr, QualifiedName, Select};
 use sv_types::{Form, SvType};
 use typing_parts::{Known, Thing};
-use typing_paths::path;
-use typing_values::leaf;
+use typing_paths::{leaf, path};
 
 // Whether what a name finds is a net.
 fn finds_net<S: Nets>(names: &S, of: QualifiedName) -> bool

@@ -25,7 +25,7 @@ use sv_tree::Expr;
 use sv_types::{Formal, Way};
 use typing_actuals::actual_target;
 use typing_calls::followed;
-use typing_exprs::operand;
+use typing_loops::operand;
 use typing_parts::{Known, Names};
 use typing_targets::Nets;
 use typing_values::not_streamed;

@@ -18,7 +18,7 @@ use std::alloc::Global;
 use sv_tree::{Expr, QualifiedName};
 use sv_types::Stmt;
 use typing_calls::needed;
-use typing_lvalues::beside;
+use typing_loops::beside;
 use typing_parts::{Known, Names};
 use typing_targets::Nets;
 

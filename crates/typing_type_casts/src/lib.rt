@@ -5,4 +5,5 @@ mod names;
 mod words;
 
 pub use names::{plain_operand, to_name};
+pub use typing_paths::named_path;
 pub use words::to_word;

@@ -21,9 +21,8 @@ use pattern_types::Operand;
 use std::alloc::Global;
 use sv_tree::{Cast, Expr, QualifiedName, Select};
 use typing_casts::{by_size, by_type};
-use typing_dimensions::{dimensioned, type_of_name};
 use typing_parts::{Known, Names};
-use typing_paths::named_path;
+use typing_paths::{dimensioned, named_path, type_of_name};
 
 /// A value as an operand.
 #[tactic(auto, using(crate::proofs::Naming::plains))]

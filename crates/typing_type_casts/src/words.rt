@@ -13,8 +13,8 @@ use pattern_types::Operand;
 use std::alloc::Global;
 use sv_tree::{Cast, Dimension, Expr, KeywordType};
 use typing_casts::by_type;
-use typing_dimensions::type_of_word;
 use typing_parts::{Known, Names};
+use typing_paths::type_of_word;
 
 /// A cast to the type of a word with packed dimensions behind it.
 #[tactic(auto, using(typing_parts::proofs::Keeping::keepings))]

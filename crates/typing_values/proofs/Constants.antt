@@ -3,8 +3,8 @@ use Rattle.std.proofs.Common.{◌≡◌, ℤ, true, List, arith}
 use Rattle.std.specs.Prelude.{◌≤ℤ◌, int_le, IfOk, Result, Ok, Err, pos}
 use Rattle.std.proofs.lemmas.Int.{ints}
 use Rattle.sv_types.specs.declared.statement.Function.{Function}
-use Rattle.eval_runs.specs.Functions.{AllCanRun}
-use Rattle.routine_fits.proofs.Functions.{all-run}
+use Rattle.constant_types.specs.EvalRuns.{AllCanRun}
+use Rattle.typing_parts.proofs.RoutineFits.{all-run}
 use Rattle.select_types.specs.Selected.{IsWidth}
 use Rattle.expr_type.specs.declared.halt.Halt.{Halt}
 use Rattle.expr_type.specs.declared.operand.Number.{Number}

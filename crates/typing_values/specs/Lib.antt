@@ -3,3 +3,4 @@ pub mod Numbers
 pub mod Leaves
 pub mod Children
 pub mod Parts
+pub mod TypingParts

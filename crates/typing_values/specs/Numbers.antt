@@ -4,7 +4,7 @@ use Rattle.sv_tree.specs.declared.expressions.Expr.{Expr}
 use Rattle.sv_types.specs.declared.statement.Function.{Function}
 use Rattle.sv_types.specs.Expressions as T
 use Rattle.eval_parts.specs.Limits.{FitsAlone}
-use Rattle.eval_forms.specs.Callees.{formals_in}
+use Rattle.typing_fits.specs.EvalForms.{formals_in}
 use Rattle.expr_type.specs.declared.operand.Number.{Number}
 use Rattle.expr_type.specs.declared.operand.Valued.{Valued}
 use Rattle.expr_type.specs.Expressions.{count, meaning}

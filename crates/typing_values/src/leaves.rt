@@ -1,21 +1,20 @@
 //! Names by themselves, as values.
 
 ghost use Rattle.std.specs.Prelude.{◌≡◌, IfOk, Ok};
-ghost use Rattle.operand_types.specs.Allowed.{IsNarrow};
+ghost use Rattle.select_types.specs.OperandTypes.{IsNarrow};
 ghost use Rattle.expr_type.specs.Answers.{Gives};
 ghost use Rattle.expr_type.specs.Operators as operator;
 ghost use Rattle.typing_fits.specs.Operands.{SoundContext};
 ghost use Rattle.typing_values.specs.Leaves.{as_thing, leaf_of, named_alone};
 ghost use Rattle.typing_values.specs.Numbers.{CanBeValued};
 
-use expr_copies::copy_value;
+use constant_types::copy_type;
 use expr_type::{Halt, Valued};
-use operand_types::by_itself;
+use select_types::by_itself;
 use std::alloc::Global;
 use sv_tree::QualifiedName;
 use sv_types::{Form, SvType};
-use type_kinds::copy_type;
-use typing_parts::{Names, Thing};
+use typing_parts::{Names, Thing, copy_value};
 
 /// A name alone at its first token.
 pub fn leaf<S: Names>(

@@ -6,11 +6,14 @@ mod leaves;
 mod numbers;
 mod values;
 
+pub use call_types::{called, stream_of};
+pub use constant_types::key_number;
 pub use leaves::{leaf, named};
 pub use numbers::{
     as_constant, bound, constant, constant_stream, count, number, number_of_operand,
     number_of_value, width,
 };
+pub use typing_parts::{Known, Names, Thing};
 pub use values::{
     as_streamed, as_value, behind_quiet, bits, index, not_streamed, part, streamed, two,
     unstreamed, value,

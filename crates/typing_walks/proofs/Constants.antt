@@ -4,8 +4,8 @@ use Rattle.std.specs.Prelude.{Ok}
 use Rattle.sv_tree.specs.declared.expressions.Expr.{Expr}
 use Rattle.sv_types.specs.declared.statement.Function.{Function}
 use Rattle.sv_types.specs.Expressions as T
-use Rattle.eval_parts.specs.Limits.{FitsAlone}
-use Rattle.eval_forms.specs.Callees.{formals_in}
+use Rattle.typing_fits.specs.EvalParts.{FitsAlone}
+use Rattle.typing_fits.specs.EvalForms.{formals_in}
 use Rattle.expr_type.specs.declared.operand.Valued.{Valued}
 use Rattle.expr_type.specs.Names.{Context}
 use Rattle.expr_type.specs.Operands.{Operand, constant_in}

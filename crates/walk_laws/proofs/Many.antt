@@ -5,8 +5,8 @@ use Rattle.sv_tree.specs.declared.expressions.Expr.{Expr}
 use Rattle.expr_type.specs.declared.halt.Halt.{Halt}
 use Rattle.expr_type.specs.Names.{Context}
 use Rattle.pattern_types.specs.declared.operand.Operand as O
-use Rattle.typing_parts.specs.declared.known.Known.{Known}
-use Rattle.typing_parts.specs.Typists.{AllCanType, CanType}
+use Rattle.typing_values.specs.TypingParts.{Known}
+use Rattle.typing_values.specs.TypingParts.{AllCanType, CanType}
 use Rattle.typing_walks.specs.Written.{is_written}
 use Rattle.walk_laws.specs.Children.{AllWithin, AllWritten, nodes}
 

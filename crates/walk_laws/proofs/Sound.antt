@@ -23,8 +23,8 @@ use Rattle.routine_fits.specs.Sound.{AllSoundFunctions}
 use Rattle.typing_walks.specs.Keeps.{Surrounded}
 use Rattle.typing_walks.specs.Written.{is_written}
 use Rattle.typing_walks.proofs.Constants.{operand-kept}
-use Rattle.typing_parts.specs.Operands.{as_operand}
-use Rattle.typing_parts.specs.Typists.{FitsIfOk, NarrowIfOk}
+use Rattle.typing_values.specs.TypingParts.{as_operand}
+use Rattle.typing_values.specs.TypingParts.{FitsIfOk, NarrowIfOk}
 
 abbrev narrow_layer : Operand-F O.Operand Item → Type 0
 narrow_layer z = elim z [

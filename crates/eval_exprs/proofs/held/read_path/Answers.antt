@@ -1,6 +1,6 @@
 use Rattle.std.proofs.Common.{arith, ap, ◌∙◌}
 use Rattle.b4_core.specs.Vectors.{ext}
-use Rattle.picks.specs.Windows.{picked, tabulated}
+use Rattle.eval_parts.specs.Picks.{picked, tabulated}
 use Rattle.sv_types.specs.Layouts.{layout, stored}
 use Rattle.sv_types.proofs.Widths.{wide-widest}
 use Rattle.eval_parts.specs.Places.{window_of, bit_of, bit_or_x}

@@ -1,7 +1,7 @@
 use Rattle.std.proofs.Common.{◌-◌, get_or, Ok, arith, ap, sym, subst}
 use Rattle.sv_types.specs.Functions.{absent, callees_within, callee_of, not_run}
 use Rattle.eval_parts.specs.Surroundings.{running}
-use Rattle.eval_forms.specs.Callees.{formals_in}
+use Rattle.eval_exprs.specs.EvalForms.{formals_in}
 use Rattle.eval_exprs.specs.Calls.{Ends, CalledGives}
 use Rattle.eval_runs.specs.Functions.{CanRun}
 use Rattle.eval_runs.proofs.Knots as K

@@ -1,6 +1,6 @@
 use Rattle.std.proofs.Common.{arith}
 use Rattle.eval_forms.specs.Callees.{formals_in}
-use Rattle.eval_stmts.specs.Targets.{AllFitWide}
+use Rattle.eval_runs.specs.EvalStmts.{AllFitWide}
 use Rattle.expr_fits.proofs.Walks as W
 use Rattle.run_fits.proofs.expressions.fit_wide.Goals as goal
 

@@ -1,6 +1,6 @@
 use Rattle.std.proofs.Common.{arith, rules}
 use Rattle.eval_forms.specs.Callees.{formals_in}
-use Rattle.eval_stmts.specs.Targets.{AllFitWide, ItemsFitWide}
+use Rattle.eval_runs.specs.EvalStmts.{AllFitWide, ItemsFitWide}
 use Rattle.expr_fits.proofs.Walks as W
 use Rattle.run_fits.proofs.expressions.items_wide.Goals as goal
 

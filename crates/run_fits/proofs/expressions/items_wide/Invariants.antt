@@ -1,6 +1,6 @@
 use Rattle.std.proofs.Common.{drop}
 use Rattle.eval_forms.specs.Callees.{formals_in}
-use Rattle.eval_stmts.specs.Targets.{ItemsFitWide}
+use Rattle.eval_runs.specs.EvalStmts.{ItemsFitWide}
 use Rattle.run_fits.proofs.expressions.items_wide.Given as goal
 
 abbrev pub invariant-loop-item : goal.invariant-loop-item

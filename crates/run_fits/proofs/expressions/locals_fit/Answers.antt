@@ -1,6 +1,6 @@
 use Rattle.std.proofs.Common.{arith}
 use Rattle.eval_forms.specs.Callees.{formals_in}
-use Rattle.eval_stmts.specs.Limits.{AllLocalsFit}
+use Rattle.eval_runs.specs.EvalStmts.{AllLocalsFit}
 use Rattle.expr_fits.proofs.Walks as W
 use Rattle.run_fits.proofs.expressions.locals_fit.Goals as goal
 

@@ -1,6 +1,6 @@
 use Rattle.std.proofs.Common.{drop}
 use Rattle.eval_forms.specs.Callees.{formals_in}
-use Rattle.eval_stmts.specs.Limits.{AllLocalsFit}
+use Rattle.eval_runs.specs.EvalStmts.{AllLocalsFit}
 use Rattle.run_fits.proofs.expressions.locals_fit.Given as goal
 
 abbrev pub invariant-loop-l : goal.invariant-loop-l

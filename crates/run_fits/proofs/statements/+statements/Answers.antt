@@ -1,7 +1,7 @@
 use Rattle.std.proofs.Common.{arith}
 use Rattle.eval_forms.specs.Callees.{formals_in}
 use Rattle.eval_parts.specs.Steps.{is_held}
-use Rattle.eval_stmts.specs.Limits.{AllStmtsFit, AllItemsFit}
+use Rattle.eval_runs.specs.EvalStmts.{AllStmtsFit, AllItemsFit}
 use Rattle.expr_fits.proofs.Walks as W
 use Rattle.run_fits.proofs.statements.+statements.Goals as goal
 

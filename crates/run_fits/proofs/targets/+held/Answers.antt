@@ -1,7 +1,7 @@
 use Rattle.std.proofs.Common.{◌+◌, drop, arith}
 use Rattle.sv_types.specs.Expressions.{meaning}
 use Rattle.eval_parts.specs.Steps.{is_held}
-use Rattle.eval_stmts.specs.Environments.{AllHeld}
+use Rattle.eval_runs.specs.EvalStmts.{AllHeld}
 use Rattle.expr_fits.proofs.Walks as W
 use Rattle.run_fits.specs.Statements.{roots_in}
 use Rattle.run_fits.proofs.Parts.{held-append}

@@ -1,6 +1,6 @@
 use Rattle.std.proofs.Common.{drop}
 use Rattle.eval_parts.specs.Steps.{is_held}
-use Rattle.eval_stmts.specs.Environments.{AllHeld}
+use Rattle.eval_runs.specs.EvalStmts.{AllHeld}
 use Rattle.run_fits.specs.Statements.{roots_in}
 use Rattle.run_fits.proofs.targets.+held.Given as goal
 

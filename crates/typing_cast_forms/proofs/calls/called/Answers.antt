@@ -2,8 +2,8 @@ use Rattle.std.proofs.Common.{◌≡◌, Some, subst, ℕ}
 use Rattle.expr_type.specs.Forms.{plain}
 use Rattle.typing_parts.specs.Operands.{as_operand}
 use Rattle.typing_steps.specs.Steps.{TypesTo}
-use Rattle.typing_values.specs.Parts as P
-use Rattle.walk_laws.proofs.Premises.{call-fits}
+use Rattle.typing_casts.specs.TypingValuesParts as P
+use Rattle.typing_forms.proofs.WalkLaws.{call-fits}
 use Rattle.typing_cast_forms.proofs.Casting.{called-alone, called-sized, cast-can}
 use Rattle.typing_cast_forms.proofs.calls.called.Goals as goal
 

@@ -1,7 +1,7 @@
 use Rattle.std.proofs.Common.{◌≡◌, Some}
 use Rattle.expr_type.specs.Expressions.{meaning}
 use Rattle.typing_parts.specs.Operands.{as_operand}
-use Rattle.typing_values.specs.Parts.{by_size}
+use Rattle.typing_casts.specs.TypingValues.{by_size}
 use Rattle.typing_cast_forms.proofs.Casting.{cast-can, parenthesized-alone, parenthesized-sized}
 use Rattle.typing_cast_forms.proofs.parentheses.parenthesized.Goals as goal
 

@@ -7,14 +7,14 @@ use Rattle.expr_type.specs.Names.{Source}
 use Rattle.expr_type.specs.Typings.{rule}
 use Rattle.typing_steps.proofs.Combining.{rule-types}
 use Rattle.typing_parts.specs.Operands.{as_operand}
-use Rattle.typing_values.specs.Children.{in_dimensions, in_selects, in_slice}
-use Rattle.typing_values.specs.Parts as P
+use Rattle.typing_operators.specs.TypingValues.{in_dimensions, in_selects, in_slice}
+use Rattle.typing_operators.specs.TypingValuesParts as P
 use Rattle.typing_operators.specs.Joins as J
 use Rattle.typing_operators.specs.Operators as O
 use Rattle.walk_laws.specs.Children.{in_casts}
 use Rattle.walk_laws.proofs.Many.{behind-can, front-can}
-use Rattle.typing_forms.proofs.Children.{level-can}
-use Rattle.typing_forms.proofs.Forms as M
+use Rattle.typing_cast_forms.proofs.TypingForms.{level-can}
+use Rattle.typing_cast_forms.proofs.TypingFormsForms as M
 use Rattle.typing_exprs.proofs.Casting as K
 use Rattle.typing_exprs.proofs.Parted.{arguments-written, selects-written}
 use Rattle.typing_exprs.proofs.forms.form.Goals as goal

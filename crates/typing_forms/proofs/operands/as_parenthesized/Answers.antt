@@ -2,7 +2,7 @@ use Rattle.std.proofs.Common.{subst}
 use Rattle.std.specs.Prelude.{Result}
 use Rattle.expr_type.specs.declared.halt.Halt.{Halt}
 use Rattle.pattern_types.specs.declared.operand.Operand.{Operand}
-use Rattle.typing_parts.specs.Operands.{as_operand}
+use Rattle.typing_operators.specs.TypingParts.{as_operand}
 use Rattle.typing_steps.specs.Steps.{TypesTo}
 use Rattle.walk_laws.proofs.Operands.{paren-fine}
 use Rattle.typing_forms.proofs.operands.as_parenthesized.Goals as goal

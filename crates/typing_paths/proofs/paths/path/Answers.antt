@@ -1,6 +1,6 @@
 use Rattle.std.proofs.Common.{take}
 use Rattle.typing_parts.proofs.Keeping.{extends-then}
-use Rattle.typing_values.specs.Children.{in_select}
+use Rattle.typing_dimensions.specs.TypingValues.{in_select}
 use Rattle.typing_dimensions.proofs.Typable.{can-in}
 use Rattle.typing_paths.specs.Paths.{path_of}
 use Rattle.typing_paths.proofs.Selecting.{path-turn}

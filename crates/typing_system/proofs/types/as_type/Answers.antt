@@ -1,6 +1,6 @@
 use Rattle.std.proofs.Common.{Some}
 use Rattle.expr_type.specs.Expressions.{meaning}
-use Rattle.typing_values.specs.Parts as part
+use Rattle.typing_dimensions.specs.TypingValuesParts as part
 use Rattle.typing_system.specs.Forms.{IsWord}
 use Rattle.typing_system.proofs.Asking.{as-one}
 use Rattle.typing_system.proofs.types.as_type.Goals as goal

@@ -1,0 +1,2 @@
+-- What crates above use of eval_forms.
+pub use Rattle.eval_forms.specs.Callees.{FunctionFits, formals_in, AllFunctionsFit}

@@ -1,0 +1,2 @@
+-- What crates above use of picks.
+pub use Rattle.picks.specs.Windows.{picked, tabulated, Window, whole, written}

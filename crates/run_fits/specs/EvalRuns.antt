@@ -1,0 +1,2 @@
+-- What crates above use of eval_runs.
+pub use Rattle.eval_runs.specs.Functions.{CanRun, EachCanRun, AllCanRun}

@@ -1,0 +1,2 @@
+-- What crates above use of walk_laws.
+pub use Rattle.walk_laws.specs.Children.{AllWritten, children_in}
