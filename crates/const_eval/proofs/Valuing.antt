@@ -24,8 +24,8 @@ use Rattle.eval_parts.specs.Surroundings.{now_of}
 use Rattle.eval_parts.proofs.TypeKinds.{wide-is}
 use Rattle.eval_exprs.specs.declared.held.Scope.{Scope}
 use Rattle.eval_exprs.proofs.Paths.{own-gives}
-use Rattle.eval_runs.specs.EvalStmts.{Env}
-use Rattle.eval_runs.specs.EvalStmts.{IsAt, StepGives, step_of}
+use Rattle.eval_stmts.specs.declared.env.Env.{Env}
+use Rattle.eval_stmts.specs.Stepping.{IsAt, StepGives, step_of}
 use Rattle.const_eval.specs.Values.{surroundings, starting, result_of, AloneGives, FunctionGives, StmtRuns}
 
 at-own : (r : Result (List Bit4) Halt) (e : Expr) (fs : List Function) (env : Env) (new : Option ℕ) → Gives r (meaning e) (wide (meaning e)) (signed (meaning e)) (surroundings fs env) env.budget new → AloneGives r e fs env

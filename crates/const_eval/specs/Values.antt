@@ -22,8 +22,8 @@ use Rattle.eval_parts.specs.Answers.{Halts}
 use Rattle.eval_parts.specs.Insides.{Runs}
 use Rattle.eval_parts.specs.Steps.{is_held}
 use Rattle.eval_parts.specs.Surroundings.{now_of, running}
-use Rattle.eval_runs.specs.EvalStmts.{Env}
-use Rattle.eval_runs.specs.EvalStmts.{updates}
+use Rattle.eval_stmts.specs.declared.env.Env.{Env}
+use Rattle.eval_stmts.specs.Environments.{updates}
 use Rattle.const_eval.specs.declared.fails.EvalFail.{EvalFail}
 use Rattle.const_eval.specs.declared.fails.EvalFail.TheVariants as F
 use Rattle.const_eval.specs.declared.fails.SizeFail.{SizeFail}

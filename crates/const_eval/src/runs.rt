@@ -6,7 +6,7 @@ ghost use Rattle.sv_types.specs.Values.{bits};
 ghost use Rattle.eval_parts.specs.Steps.{is_held};
 ghost use Rattle.eval_forms.specs.Callees.{formals_in};
 ghost use Rattle.eval_exprs.specs.Calls.{CalledGives};
-ghost use Rattle.eval_runs.specs.EvalStmts.{StmtFits};
+ghost use Rattle.eval_stmts.specs.Limits.{StmtFits};
 ghost use Rattle.eval_runs.specs.Functions.{AllCanRun, CanRun};
 ghost use Rattle.const_eval.specs.Values.{FunctionGives, FunctionIs, StmtIs, StmtRuns};
 
@@ -14,7 +14,8 @@ use crate::fails::{EvalFail, fail_of};
 use b4_core::Vec4;
 use eval_exprs::{Call, Called, Scope, Vectors};
 use eval_parts::Halt;
-use eval_runs::{Env, run, run_body, run_call};
+use eval_runs::{run, run_body, run_call};
+use eval_stmts::Env;
 use std::alloc::{AllocError, Global};
 use sv_types::{Formal, Function, Functions, Outcome, Stmt, Value, Values, bits_of, of_bits};
 

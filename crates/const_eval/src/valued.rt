@@ -15,7 +15,8 @@ use crate::numbers::{number_if_known, number_within};
 use b4_core::Vec4;
 use eval_exprs::{Call, Called, Held, Scope, bits};
 use eval_parts::{Halt, own_sign, own_width};
-use eval_runs::{Env, run_call};
+use eval_runs::run_call;
+use eval_stmts::Env;
 use std::alloc::Global;
 use sv_types::{Expr, Function, Functions, Value, of_bits};
 

@@ -5,7 +5,8 @@ ghost use Rattle.std.specs.Prelude.{◌≡◌, IfOk};
 use crate::leaves::{copy_bits, copy_spot, copy_value};
 use std::alloc::{AllocError, Global};
 use sv_source::{Boxed, Spot};
-use type_kinds::{Choice, Choices, Expr, Exprs, Form, SvType, copy_type};
+use sv_types::{Choice, Choices, Expr, Exprs, Form, SvType};
+use type_kinds::copy_type;
 
 #[cycle(copy)]
 fn copy_exprs(alloc: Global, exprs: &[Expr]) -> Result<Exprs, AllocError>

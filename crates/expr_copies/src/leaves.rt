@@ -5,7 +5,7 @@ ghost use Rattle.std.specs.Prelude.{◌≡◌, IfOk};
 use b4_core::Vec4;
 use std::alloc::{AllocError, Global};
 use sv_source::Spot;
-use type_kinds::{Value, Values};
+use sv_types::{Value, Values};
 
 /// A copy of a vector.
 pub fn copy_bits(alloc: Global, bits: &Vec4) -> Result<Vec4, AllocError>

@@ -9,6 +9,5 @@ mod steps;
 
 pub use elements::{element, is_index};
 pub use members::member_of;
-pub use operand_types::{Operands, by_itself, has_bits, is_part};
 pub use parts::{part, slide};
 pub use steps::stepped;

@@ -5,8 +5,8 @@ use Rattle.sv_tree.specs.declared.expressions.Expr.{Expr}
 use Rattle.expr_type.specs.declared.halt.Halt.{Halt}
 use Rattle.expr_type.specs.Names.{Context}
 use Rattle.pattern_types.specs.declared.operand.Operand as O
-use Rattle.typing_values.specs.TypingParts.{Known}
-use Rattle.typing_values.specs.TypingParts.{AllCanType}
+use Rattle.typing_parts.specs.declared.known.Known.{Known}
+use Rattle.typing_parts.specs.Typists.{AllCanType}
 
 pub can-first : (R S : Type 0) (tree : R → Expr) (held : S → Known) (pre : R → S → Type 0) (post : R → S → Result O.Operand Halt → S → Type 0) (k : Context) (xs ys : List Expr)
     → AllCanType R S tree held pre post k (xs ++ ys) → AllCanType R S tree held pre post k xs

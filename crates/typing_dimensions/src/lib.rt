@@ -8,5 +8,5 @@ mod written;
 
 pub use ranges::bounds;
 pub use types::{dimensioned, type_of_name, type_of_word};
-pub use typing_values::{Known, Names, behind_quiet, bits, index, leaf, named, value, width};
+pub use typing_values::{behind_quiet, bits, index, leaf, named, value, width};
 pub use written::{Dims, dimensions, select_dimensions};

@@ -3,7 +3,7 @@
 ghost use Rattle.std.specs.Prelude.{◌≡◌};
 ghost use Rattle.typing_fits.specs.Sound.{Extends};
 ghost use Rattle.typing_steps.specs.Steps.{TypesTo};
-ghost use Rattle.typing_values.specs.TypingParts.{CanType, IsReady};
+ghost use Rattle.typing_parts.specs.Typists.{CanType, IsReady};
 ghost use Rattle.typing_dimensions.specs.Dimensions.{bounds_of, range_of};
 
 use expr_type::{Halt, Number};
@@ -11,7 +11,8 @@ use pattern_types::Operand;
 use std::alloc::Global;
 use sv_tree::Expr;
 use type_texts::Dim;
-use typing_values::{Known, Names, behind_quiet, bound};
+use typing_parts::{Known, Names};
+use typing_values::{behind_quiet, bound};
 
 /// Two bounds in the order of the text, each a constant of 64 bits: where the first one isn't whole and breaks nothing, the second
 /// one is looked at for its breaks.

@@ -5,7 +5,7 @@ ghost use Rattle.expr_type.specs.Forms as form;
 ghost use Rattle.expr_type.specs.Names.{thing};
 ghost use Rattle.typing_fits.specs.Sound.{Extends};
 ghost use Rattle.typing_steps.specs.Steps.{TypesTo};
-ghost use Rattle.typing_values.specs.TypingParts.{AllCanType, IsReady};
+ghost use Rattle.typing_parts.specs.Typists.{AllCanType, IsReady};
 ghost use Rattle.typing_values.specs.Children.{in_dimensions, in_selects};
 ghost use Rattle.typing_values.specs.Parts as part;
 
@@ -17,7 +17,7 @@ use sv_tree::{Dimension, Expr, KeywordType, QualifiedName, Select};
 use sv_types::SvType;
 use type_kinds::copy_type;
 use type_texts::{keyword_type, under};
-use typing_values::{Known, Names, Thing};
+use typing_parts::{Known, Names, Thing};
 
 /// The type of a word with packed dimensions.
 #[tactic(auto, using(typing_steps::proofs::Combining::steps))]

@@ -6,7 +6,7 @@ ghost use Rattle.expr_type.specs.KeywordTypes as written;
 ghost use Rattle.expr_type.specs.Typings.{Typing, all};
 ghost use Rattle.typing_fits.specs.Sound.{Extends};
 ghost use Rattle.typing_steps.specs.Steps.{TypesTo};
-ghost use Rattle.typing_values.specs.TypingParts.{AllCanType, CanType, IsReady};
+ghost use Rattle.typing_parts.specs.Typists.{AllCanType, CanType, IsReady};
 ghost use Rattle.typing_values.specs.Children.{in_dimension, in_dimensions, in_select, in_selects};
 ghost use Rattle.typing_values.specs.Parts as part;
 ghost use Rattle.typing_dimensions.specs.Dimensions.{AddsTo, dimension_of, select_dimension_of, select_dimensions_of, size_of};
@@ -18,7 +18,8 @@ use std::alloc::Global;
 use sv_source::Items;
 use sv_tree::{Dimension, Expr, PartOperator, Select};
 use type_texts::Dim;
-use typing_values::{Known, Names, behind_quiet, number};
+use typing_parts::{Known, Names};
+use typing_values::{behind_quiet, number};
 
 /// Dimensions, the outermost one first.
 pub type Dims = Items<Dim>;

@@ -28,9 +28,10 @@ use stmt_forms::{Head, loop_stmt};
 use sv_tree::LoopStep;
 use sv_types::{Expr, Stmt};
 use typing_controls::condition;
-use typing_lvalues::{Nets, beside, loop_step};
+use typing_lvalues::{beside, loop_step};
 use typing_parts::Known;
 use typing_scopes::{Base, Scope};
+use typing_targets::Nets;
 
 /// The variable of a loop, with its first value.
 #[derive(Drop)]

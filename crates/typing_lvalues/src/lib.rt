@@ -17,4 +17,3 @@ pub use lvalues::target;
 pub use paths::name_target;
 pub use sides::beside;
 pub use typing_exprs::operand;
-pub use typing_targets::Nets;

@@ -14,11 +14,12 @@ use crate::lists::{parts, streamed_parts};
 use crate::slices::slice;
 use expr_type::{Halt, Valued};
 use operand_types::{concat_of, repeat_of};
+use pattern_types::Operand;
 use std::alloc::Global;
 use sv_source::Boxed;
 use sv_tree::{Expr, SliceSize, StreamOperator};
 use sv_types::Exprs;
-use typing_parts::{Known, Names, Operand};
+use typing_parts::{Known, Names};
 use typing_values::{behind_quiet, count, stream_of};
 
 // A concatenation, by its parts as expressions.

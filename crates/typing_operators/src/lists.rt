@@ -9,10 +9,11 @@ ghost use Rattle.typing_parts.specs.Typists.{AllCanType, CanType, IsReady};
 ghost use Rattle.typing_operators.specs.Lists.{part_expr, parts_of, streamed_expr, streamed_parts_of};
 
 use expr_type::Halt;
+use pattern_types::Operand;
 use std::alloc::Global;
 use sv_tree::Expr;
 use sv_types::Exprs;
-use typing_parts::{Known, Names, Operand};
+use typing_parts::{Known, Names};
 use typing_rows::{add, all_whole};
 use typing_values::{part, streamed};
 

@@ -11,9 +11,10 @@ ghost use Rattle.typing_operators.specs.Operators.{AreArmsNarrow, arms_of, as_ar
 use choice_types::choice_of;
 use expr_type::{Halt, Valued};
 use operand_types::{Operands, binary_of, unary_of};
+use pattern_types::Operand;
 use std::alloc::Global;
 use sv_tree::{BinaryOperator, Expr, UnaryOperator};
-use typing_parts::{Known, Names, Operand};
+use typing_parts::{Known, Names};
 use typing_values::{behind_quiet, two, value};
 
 /// An operator at a token between two operands.

@@ -18,12 +18,13 @@ ghost use Rattle.typing_operators.specs.Slices.{slice_in, slice_of_constant, sli
 
 use expr_type::{Halt, Source, Valued};
 use literal_types::written_slice;
+use pattern_types::Operand;
 use std::alloc::Global;
 use sv_source::Boxed;
 use sv_tree::{Expr, KeywordType, QualifiedName, SliceSize};
 use sv_types::{SvType, is_narrow, width};
 use type_texts::keyword_type;
-use typing_parts::{Known, Names, Operand, Thing};
+use typing_parts::{Known, Names, Thing};
 use typing_values::{named, number, number_of_value};
 
 // The most bits of a slice.

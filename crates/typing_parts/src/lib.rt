@@ -7,4 +7,4 @@ mod names;
 
 pub use known::Known;
 pub use names::{Names, Thing};
-pub use pattern_types::{Operand, copy_value};
+pub use pattern_types::copy_value;

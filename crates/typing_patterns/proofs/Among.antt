@@ -13,8 +13,8 @@ use Rattle.sv_tree.specs.declared.expressions.ValueRange.{ValueRange}
 use Rattle.expr_type.specs.declared.halt.Halt.{Halt}
 use Rattle.expr_type.specs.Names.{Context}
 use Rattle.pattern_types.specs.declared.operand.Operand as P
-use Rattle.typing_values.specs.TypingParts.{Known}
-use Rattle.typing_values.specs.TypingParts.{AllCanType, CanType}
+use Rattle.typing_parts.specs.declared.known.Known.{Known}
+use Rattle.typing_parts.specs.Typists.{AllCanType, CanType}
 use Rattle.typing_values.specs.Children.{in_item, in_pattern}
 
 -- the expressions in one level of a pattern

@@ -4,7 +4,7 @@ ghost use Rattle.std.specs.Prelude.{◌≡◌, map, flat_map, IfOk};
 ghost use Rattle.expr_type.specs.Patterns as rule;
 ghost use Rattle.typing_fits.specs.Operands.{SoundContext};
 ghost use Rattle.typing_fits.specs.Sound.{Extends};
-ghost use Rattle.typing_values.specs.TypingParts.{AllCanType, CanType, IsReady};
+ghost use Rattle.typing_parts.specs.Typists.{AllCanType, CanType, IsReady};
 ghost use Rattle.typing_patterns.specs.Written.{AllFoundIn, AllInPlace, IsFoundIn, IsInPlace, as_item, as_value, item_by, items_by, keyed_by, numbered_by, valued_by, values_by};
 ghost use Rattle.typing_rows.specs.Rows.{mapped};
 ghost use Rattle.typing_steps.specs.Steps.{TypesTo};
@@ -16,8 +16,9 @@ use expr_type::Halt;
 use pattern_types::{Item, ItemKey, Items, Operand};
 use std::alloc::Global;
 use sv_tree::{Expr, PatternItem, QualifiedName};
+use typing_parts::{Known, Names};
 use typing_rows::{add, all_whole};
-use typing_values::{Known, Names, behind_quiet, unstreamed};
+use typing_values::{behind_quiet, unstreamed};
 
 // A value behind `default`.
 #[tactic(auto, using(crate::proofs::Putting::steps))]

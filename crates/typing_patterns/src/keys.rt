@@ -3,7 +3,7 @@
 ghost use Rattle.std.specs.Prelude.{◌≡◌, IfOk};
 ghost use Rattle.typing_fits.specs.Operands.{SoundContext};
 ghost use Rattle.typing_fits.specs.Sound.{Extends};
-ghost use Rattle.typing_values.specs.TypingParts.{CanType, IsReady};
+ghost use Rattle.typing_parts.specs.Typists.{CanType, IsReady};
 ghost use Rattle.typing_patterns.specs.Keyed.{NamesConstant, NameStandsFor, alone, key_by, key_number_of, unselected};
 ghost use Rattle.typing_steps.specs.Steps.{TypesTo};
 
@@ -11,7 +11,8 @@ use expr_type::Halt;
 use pattern_types::{NameKey, Operand};
 use std::alloc::Global;
 use sv_tree::{Expr, QualifiedName, Select};
-use typing_values::{Known, Names, Thing, constant, key_number as number_of_constant, named};
+use typing_parts::{Known, Names, Thing};
+use typing_values::{constant, key_number as number_of_constant, named};
 
 // A name with nothing selected behind it and no package before it.
 fn unselected(of: QualifiedName, selects: &[Select]) -> Option<QualifiedName>

@@ -3,8 +3,8 @@
 ghost use Rattle.std.specs.Prelude.{◌≡◌};
 ghost use Rattle.typing_fits.specs.Operands.{SoundContext};
 ghost use Rattle.typing_fits.specs.Sound.{Extends};
-ghost use Rattle.typing_values.specs.TypingParts.{as_operand};
-ghost use Rattle.typing_values.specs.TypingParts.{AllCanType, IsReady, NarrowIfOk};
+ghost use Rattle.typing_parts.specs.Operands.{as_operand};
+ghost use Rattle.typing_parts.specs.Typists.{AllCanType, IsReady, NarrowIfOk};
 ghost use Rattle.typing_patterns.specs.Written.{pattern_by};
 ghost use Rattle.typing_steps.specs.Steps.{TypesTo};
 ghost use Rattle.typing_values.specs.Children.{in_pattern};
@@ -14,7 +14,8 @@ use expr_type::Halt;
 use pattern_types::Operand;
 use std::alloc::Global;
 use sv_tree::{Expr, Pattern};
-use typing_values::{Known, Names, behind_quiet, count};
+use typing_parts::{Known, Names};
+use typing_values::{behind_quiet, count};
 
 /// A pattern behind its tick: its items as they are written, or values that are repeated (E510 where they are not even once).
 #[tactic(auto, using(crate::proofs::Putting::patterns))]

@@ -18,7 +18,8 @@ use given_types::{clog2_of, with_sign};
 use pattern_types::Operand;
 use std::alloc::Global;
 use sv_tree::Expr;
-use typing_dimensions::{Known, Names, bits, value};
+use typing_dimensions::{bits, value};
+use typing_parts::{Known, Names};
 
 // Whether the word of a token is this one.
 fn is_word<S: Names>(names: &S, at: u32, word: &[u8]) -> bool

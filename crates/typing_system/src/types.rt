@@ -13,7 +13,8 @@ use pattern_types::Operand;
 use std::alloc::Global;
 use sv_tree::{Dimension, Expr, KeywordType, QualifiedName, Select};
 use sv_types::SvType;
-use typing_dimensions::{Known, Names, dimensioned, type_of_name, type_of_word};
+use typing_dimensions::{dimensioned, type_of_name, type_of_word};
+use typing_parts::{Known, Names};
 
 // How an expression may be a type.
 #[derive(Clone, Copy)]

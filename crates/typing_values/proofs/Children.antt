@@ -4,7 +4,7 @@ use Rattle.std.specs.Prelude.{Result}
 use Rattle.sv_tree.specs.declared.expressions.Expr.{Expr}
 use Rattle.expr_type.specs.declared.halt.Halt.{Halt}
 use Rattle.expr_type.specs.Names.{Context}
-use Rattle.typing_parts.specs.PatternTypesOperand as O
+use Rattle.pattern_types.specs.declared.operand.Operand as O
 use Rattle.typing_parts.specs.declared.known.Known.{Known}
 use Rattle.typing_parts.specs.Typists.{AllCanType, CanType}
 

@@ -3,4 +3,3 @@ pub mod Constants
 pub mod Names
 pub mod Children
 pub mod Putting
-pub mod TypingParts

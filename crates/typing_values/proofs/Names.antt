@@ -5,7 +5,7 @@ use Rattle.sv_tree.specs.declared.names.QualifiedName.{QualifiedName}
 use Rattle.sv_tree.specs.Extents.{qualified_first}
 use Rattle.sv_types.specs.declared.expression.Form.TheVariants as F
 use Rattle.sv_types.specs.declared.statement.Function.{Function}
-use Rattle.select_types.specs.OperandTypes.{IsNarrow}
+use Rattle.operand_types.specs.Allowed.{IsNarrow}
 use Rattle.expr_type.specs.declared.halt.Halt.{Halt}
 use Rattle.expr_type.specs.declared.operand.Valued.{Valued}
 use Rattle.expr_type.specs.Answers.{Gives}

@@ -6,7 +6,7 @@ use Rattle.eval_parts.specs.Limits.{FitsAlone}
 use Rattle.typing_fits.specs.EvalForms.{formals_in}
 use Rattle.sv_types.specs.declared.statement.Function.{Function}
 use Rattle.sv_types.specs.Layouts.{width_of}
-use Rattle.select_types.specs.OperandTypes.{IsNarrow}
+use Rattle.operand_types.specs.Allowed.{IsNarrow}
 use Rattle.expr_type.specs.declared.halt.Halt.{Halt}
 use Rattle.expr_type.specs.declared.operand.Valued.{Valued}
 use Rattle.expr_type.specs.Answers.{Gives}
@@ -17,13 +17,13 @@ use Rattle.expr_type.specs.Operands.{has_bits}
 use Rattle.expr_type.specs.Operators.{is_part}
 use Rattle.expr_type.specs.Shapes.{is_unpacked}
 use Rattle.expr_type.specs.Typings.{Typing, refused, rule}
-use Rattle.typing_parts.specs.PatternTypes.{Item}
-use Rattle.typing_parts.specs.PatternTypes.{Operand, Operand-F, out-Operand, the_lemmas}
-use Rattle.typing_parts.specs.PatternTypesOperand as O
+use Rattle.pattern_types.specs.declared.operand.Item.{Item}
+use Rattle.pattern_types.specs.declared.operand.Operand.{Operand, Operand-F, out-Operand, the_lemmas}
+use Rattle.pattern_types.specs.declared.operand.Operand.TheVariants as O
 use Rattle.typing_values.specs.Numbers.{CanBeValued}
 use Rattle.typing_fits.proofs.Contexts.{refused-then}
 use Rattle.typing_fits.proofs.Operators.{ok-is}
-use Rattle.typing_parts.specs.PatternTypes.{operand_of}
+use Rattle.pattern_types.specs.Meaning.{operand_of}
 use Rattle.typing_steps.specs.Steps.{TypesTo}
 use Rattle.typing_steps.proofs.Combining.{checked-fine, rule-types}
 use Rattle.typing_parts.specs.Operands.{as_operand}

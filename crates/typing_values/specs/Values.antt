@@ -1,8 +1,8 @@
 -- Operands that are values, and what is asked of them where they stand.
 use Rattle.std.specs.Prelude.{Result, Ok, Err}
 use Rattle.sv_tree.specs.declared.expressions.Expr.{Expr}
-use Rattle.select_types.specs.OperandTypes.{Operands}
-use Rattle.select_types.specs.OperandTypes.{IsNarrow}
+use Rattle.operand_types.specs.declared.operands.Operands.{Operands}
+use Rattle.operand_types.specs.Allowed.{IsNarrow}
 use Rattle.expr_type.specs.declared.halt.Halt.{Halt}
 use Rattle.expr_type.specs.declared.halt.Halt.TheVariants as H
 use Rattle.expr_type.specs.declared.operand.Valued.{Valued}

@@ -1,7 +1,7 @@
 //! Names by themselves, as values.
 
 ghost use Rattle.std.specs.Prelude.{◌≡◌, IfOk, Ok};
-ghost use Rattle.select_types.specs.OperandTypes.{IsNarrow};
+ghost use Rattle.operand_types.specs.Allowed.{IsNarrow};
 ghost use Rattle.expr_type.specs.Answers.{Gives};
 ghost use Rattle.expr_type.specs.Operators as operator;
 ghost use Rattle.typing_fits.specs.Operands.{SoundContext};
@@ -10,7 +10,7 @@ ghost use Rattle.typing_values.specs.Numbers.{CanBeValued};
 
 use constant_types::copy_type;
 use expr_type::{Halt, Valued};
-use select_types::by_itself;
+use operand_types::by_itself;
 use std::alloc::Global;
 use sv_tree::QualifiedName;
 use sv_types::{Form, SvType};

@@ -4,8 +4,8 @@ ghost use Rattle.std.specs.Prelude.{◌≡◌, pos, IfOk};
 ghost use Rattle.expr_type.specs.Answers.{Gives, source};
 ghost use Rattle.expr_type.specs.Expressions.{is_count};
 ghost use Rattle.expr_type.specs.Operands as rule;
-ghost use Rattle.typing_parts.specs.PatternTypes.{operand_of};
-ghost use Rattle.typing_parts.specs.PatternTypesOperand as O;
+ghost use Rattle.pattern_types.specs.Meaning.{operand_of};
+ghost use Rattle.pattern_types.specs.declared.operand.Operand.TheVariants as O;
 ghost use Rattle.select_types.specs.Selected.{IsWidth};
 ghost use Rattle.typing_fits.specs.Sound.{Extends};
 ghost use Rattle.typing_steps.specs.Steps.{TypesTo};
@@ -14,9 +14,10 @@ ghost use Rattle.typing_values.specs.Numbers.{CanBeValued, NumberIsWithin, bound
 
 use constant_types::{number_in, uses_of};
 use expr_type::{Halt, Number, Source, Valued};
+use pattern_types::Operand;
 use std::alloc::Global;
 use sv_tree::Expr;
-use typing_parts::{Known, Names, Operand};
+use typing_parts::{Known, Names};
 
 /// The greatest size and count.
 pub const MOST_OF_SIZE: i64 = 4_294_967_295;

@@ -1,13 +1,13 @@
 //! Operands that are values, and what is asked of them where they stand.
 
 ghost use Rattle.std.specs.Prelude.{◌≡◌, IfOk};
-ghost use Rattle.select_types.specs.OperandTypes.{IsNarrow};
+ghost use Rattle.operand_types.specs.Allowed.{IsNarrow};
 ghost use Rattle.expr_type.specs.Answers.{Gives, source};
 ghost use Rattle.expr_type.specs.Forms as form;
 ghost use Rattle.expr_type.specs.Operands as rule;
 ghost use Rattle.expr_type.specs.Operators as operator;
-ghost use Rattle.typing_parts.specs.PatternTypes.{operand_of};
-ghost use Rattle.typing_parts.specs.PatternTypesOperand as O;
+ghost use Rattle.pattern_types.specs.Meaning.{operand_of};
+ghost use Rattle.pattern_types.specs.declared.operand.Operand.TheVariants as O;
 ghost use Rattle.typing_fits.specs.Sound.{Extends};
 ghost use Rattle.typing_steps.specs.Steps.{TypesTo};
 ghost use Rattle.typing_parts.specs.Operands.{as_operand};
@@ -16,9 +16,11 @@ ghost use Rattle.typing_values.specs.Values.{ArePairNarrow, as_pair, behind, bit
 
 use call_types::is_streamed_value;
 use expr_type::{Halt, Source, Valued};
-use select_types::{Operands, has_bits, is_index, is_part};
+use operand_types::{Operands, has_bits, is_part};
+use pattern_types::Operand;
+use select_types::is_index;
 use sv_tree::Expr;
-use typing_parts::{Known, Names, Operand};
+use typing_parts::{Known, Names};
 
 /// An operand to which no type is given: a pattern has none there (E505 at its `'`), and a stream can't stand there (E512 at its `{`).
 pub fn as_value(text: Source<'_>, o: Operand) -> Result<Valued, Halt>

@@ -1,5 +1,5 @@
 use Rattle.std.proofs.Common.{map, take}
-use Rattle.typing_values.proofs.TypingParts.{extends-then}
+use Rattle.typing_parts.proofs.Keeping.{extends-then}
 use Rattle.typing_values.specs.Children.{in_dimension}
 use Rattle.typing_dimensions.specs.Dimensions.{dimension_of}
 use Rattle.typing_dimensions.proofs.Rows.{next-turn}

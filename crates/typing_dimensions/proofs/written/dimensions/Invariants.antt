@@ -2,7 +2,7 @@ use Rattle.std.proofs.Common.{map, take}
 use Rattle.expr_type.specs.Typings.{all}
 use Rattle.typing_fits.specs.Sound.{Extends}
 use Rattle.typing_steps.specs.Steps.{TypesTo}
-use Rattle.typing_values.specs.TypingParts.{IsReady}
+use Rattle.typing_parts.specs.Typists.{IsReady}
 use Rattle.typing_dimensions.specs.Dimensions.{dimension_of}
 use Rattle.typing_dimensions.proofs.written.dimensions.Given as goal
 

@@ -1,4 +1,4 @@
-use Rattle.typing_values.proofs.TypingParts.{extends-then}
+use Rattle.typing_parts.proofs.Keeping.{extends-then}
 use Rattle.typing_patterns.proofs.items.numbered_item.Goals as goal
 
 pub returns-in-Err-Quiet-clause-keeps : goal.returns-in-Err-Quiet-clause-keeps

@@ -3,7 +3,7 @@ use Rattle.expr_type.specs.Typings.{all}
 use Rattle.typing_fits.specs.Sound.{Extends}
 use Rattle.typing_steps.specs.Steps.{TypesTo}
 use Rattle.typing_rows.specs.Rows.{so_far}
-use Rattle.typing_values.specs.TypingParts.{IsReady}
+use Rattle.typing_parts.specs.Typists.{IsReady}
 use Rattle.typing_values.specs.Values.{unstreamed_of}
 use Rattle.typing_patterns.specs.Written.{AllInPlace, as_value}
 use Rattle.typing_patterns.proofs.items.repeated.Given as goal

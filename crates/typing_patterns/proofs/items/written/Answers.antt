@@ -1,7 +1,7 @@
 use Rattle.std.proofs.Common.{Ok, Err, map, ap, sym, ◌∙◌, subst}
 use Rattle.std.proofs.lemmas.Result.{err_from_is_err_and}
 use Rattle.typing_steps.specs.Steps.{TypesTo}
-use Rattle.typing_values.proofs.TypingParts.{extends-then}
+use Rattle.typing_parts.proofs.Keeping.{extends-then}
 use Rattle.typing_rows.specs.Rows.{mapped}
 use Rattle.typing_rows.proofs.Walking.{adds-mapped, turn, turn-ends}
 use Rattle.typing_values.specs.Children.{in_item}

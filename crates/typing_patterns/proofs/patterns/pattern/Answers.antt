@@ -3,8 +3,8 @@ use Rattle.std.proofs.lemmas.Result.{err_from_is_err_and}
 use Rattle.sv_tree.specs.declared.expressions.Pattern.TheVariants as P
 use Rattle.expr_type.specs.declared.halt.Halt.TheVariants as H
 use Rattle.typing_steps.specs.Steps.{StopsBy, TypesTo}
-use Rattle.typing_values.specs.TypingParts.{as_operand}
-use Rattle.typing_values.proofs.TypingParts.{extends-then}
+use Rattle.typing_parts.specs.Operands.{as_operand}
+use Rattle.typing_parts.proofs.Keeping.{extends-then}
 use Rattle.typing_values.specs.Numbers.{count_of}
 use Rattle.typing_patterns.specs.Written.{pattern_by}
 use Rattle.typing_patterns.proofs.Among.{can-count}
