@@ -13,7 +13,6 @@ pub use numbers::{
     as_constant, bound, constant, constant_stream, count, number, number_of_operand,
     number_of_value, width,
 };
-pub use typing_parts::{Known, Names};
 pub use values::{
     as_streamed, as_value, behind_quiet, bits, index, not_streamed, part, streamed, two,
     unstreamed, value,
