@@ -1,6 +1,6 @@
 -- Nodes of derivations: each was read by a row of the table, and its parts are those of the row.
-use Rattle.std.proofs.Common.{◌≡◌, ⊤, ℕ, zero, suc, ◌+◌, Bool, true, false, ◌&&◌, ◌==◌, List, [], ◌∷◌, drop, Option, Some, None, refl, sym, ap, ◌∙◌, subst, arith}
-use Rattle.std.specs.Prelude.{if◌then◌else◌, slice_get}
+use Rattle.std.proofs.Common.{◌≡◌, ℕ, zero, suc, ◌+◌, Bool, true, false, ◌&&◌, ◌==◌, List, [], ◌∷◌, drop, Option, Some, None, refl, sym, ap, ◌∙◌, subst, arith}
+use Rattle.std.specs.Prelude.{⊤, if◌then◌else◌, slice_get}
 use Rattle.std.proofs.lemmas.Bool.{eqb-true}
 use Rattle.ll_engine.specs.declared.table.Part.{Part}
 use Rattle.ll_engine.specs.declared.table.Part.TheVariants.{Term, Non, Maybe, Many, Chain}
@@ -257,3 +257,7 @@ listed g h (Term e ∷ ps) ts f c = absurd (cc)
 listed g h (Maybe e ∷ ps) ts f c = absurd (cc)
 listed g h (Many e ∷ ps) ts f c = absurd (cc)
 listed g h (Chain e ∷ ps) ts f c = absurd (cc)
+
+-- the derivation of a text
+pub derivation-good : {h to : ℕ} {w rest : List Nested} (t : Tree) → G.Reads table suc 0 0 (Non h ∷ []) 0 w (t ∷ []) to rest → Good t
+derivation-good t r = (each (conforms r)).0

@@ -1,0 +1,9 @@
+pub mod Tests
+pub mod Nodes
+pub mod Rows
+pub mod Lists
+pub mod Levels
+pub mod Expressions
+pub mod Types
+pub mod Declarations
+pub mod Statements
