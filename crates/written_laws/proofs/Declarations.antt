@@ -58,19 +58,19 @@ typed-port of name dims w g = both w (dims-read dims g)
 port-from : (first : ℕ) (t : Tree) → Good t → port_written (D.port_from first t) ≡ true
 port-from first t g =
     by-either port_written (is_blank (kid 1 t)) _ _ (dims-read (kid 0 t) (kid-good 0 t g))
-    (typed-port _ _ (kid 1 (kid 1 t)) (Y.named-written _ (kid 0 t) (kid-good 0 t g)) (kid-good 1 (kid 1 t) (kid-good 1 t g)))
+    (typed-port _ (token 0 (kid 1 t)) (kid 1 (kid 1 t)) (Y.named-written _ (kid 0 t) (kid-good 0 t g)) (kid-good 1 (kid 1 t) (kid-good 1 t g)))
 
 named-port : (first : ℕ) (t : Tree) → Good t → port_written (D.named_port_of first t) ≡ true
 named-port first t g =
     by-either port_written (row_of t == R.MODPORT_PORT) _ _ refl
-    (by-either port_written (row_of t == R.SCOPED_PORT_TYPE) _ _ (typed-port _ _ (kid 4 t) (Y.named-written _ (kid 2 t) (kid-good 2 t g)) (kid-good 4 t g)) (port-from first t g))
+    (by-either port_written (row_of t == R.SCOPED_PORT_TYPE) _ _ (typed-port _ (token 3 t) (kid 4 t) (Y.named-written _ (kid 2 t) (kid-good 2 t g)) (kid-good 4 t g)) (port-from first t g))
 
 pub port-text : Written port_written D.port_text_of
 port-text t g =
-    by-either port_written (row_of t == R.KEYWORD_PORT) _ _ (typed-port _ _ (kid 3 t) (Y.keyword-written (kid 0 t) (kid 1 t) (kid-good 1 t g)) (kid-good 3 t g))
-    (by-either port_written (row_of t == R.SIGNED_PORT) _ _ (typed-port _ _ (kid 3 t) (Y.signed-written (kid 0 t) (kid 1 t) (kid-good 1 t g)) (kid-good 3 t g))
+    by-either port_written (row_of t == R.KEYWORD_PORT) _ _ (typed-port _ (token 2 t) (kid 3 t) (Y.keyword-written (kid 0 t) (kid 1 t) (kid-good 1 t g)) (kid-good 3 t g))
+    (by-either port_written (row_of t == R.SIGNED_PORT) _ _ (typed-port _ (token 2 t) (kid 3 t) (Y.signed-written (kid 0 t) (kid 1 t) (kid-good 1 t g)) (kid-good 3 t g))
     (by-either port_written (row_of t == R.DIMENSIONED_PORT) _ _
-    (typed-port _ _ (kid 3 t) (Y.dimensioned-written (kid 0 t) (kid 1 t) (kid-good 0 t g) (kid-good 1 t g)) (kid-good 3 t g)) (named-port (token 0 t) (kid 1 t) (kid-good 1 t g))))
+    (typed-port _ (token 2 t) (kid 3 t) (Y.dimensioned-written (kid 0 t) (kid 1 t) (kid-good 0 t g) (kid-good 1 t g)) (kid-good 3 t g)) (named-port (token 0 t) (kid 1 t) (kid-good 1 t g))))
 
 header-port : Written header_port_written D.port_of
 unfolding D.port_of
@@ -108,7 +108,7 @@ variables-from first t g =
     by-either variables_written (is_blank (kid 1 t)) _ _
     (both Y.no-type-written (both (declared-written first (kid 0 t) (kid 2 t) (kid-good 0 t g) (kid-good 2 t g)) behind))
     (both (Y.named-written _ (kid 0 t) (kid-good 0 t g))
-    (both (declared-written _ (kid 1 (kid 1 t)) (kid 2 t) (kid-good 1 (kid 1 t) (kid-good 1 t g)) (kid-good 2 t g)) behind))
+    (both (declared-written (token 0 (kid 1 t)) (kid 1 (kid 1 t)) (kid 2 t) (kid-good 1 (kid 1 t) (kid-good 1 t g)) (kid-good 2 t g)) behind))
 
 named-variables : (first : ℕ) (t : Tree) → Good t → variables_written (D.named_variables_of first t) ≡ true
 named-variables first t g =

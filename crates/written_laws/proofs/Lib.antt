@@ -7,3 +7,6 @@ pub mod Expressions
 pub mod Types
 pub mod Declarations
 pub mod Statements
+pub mod Items
+pub mod Routines
+pub mod Texts

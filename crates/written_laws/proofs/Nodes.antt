@@ -31,11 +31,11 @@ pub record OfHead (h : ℕ) (x : Tree) : Type 0 where
   pub fits : Conforms row.parts (kids_of x)
 
 pub record Good (x : Tree) : Type 0 where
-  pub head : ℕ
-  pub is : OfHead head x
+  pub number : ℕ
+  pub is : OfHead number x
 
 pub good : {h : ℕ} {x : Tree} → OfHead h x → Good x
-good {h} o = record { head = h; is = o }
+good {h} o = record { number = h; is = o }
 
 abbrev pub AllGood : List Tree → Type 0
 AllGood [] = ⊤
@@ -84,7 +84,7 @@ conforms (G.Reads.empty {h = h} {i = i} {p = p} {ps = ps} {row = row} {x = x} {k
 leaf-good : (x : Tree) → row_of x ≡ 0 → kids_of x ≡ [] → Good x
 unfolding table
 leaf-good x r k = record {
-  head = 0;
+  number = 0;
   is = record {
     row = plain head.source_text (Many head.description ∷ []);
     is_row = subst (λ i. IsRowOf table 0 i (plain head.source_text (Many head.description ∷ []))) (sym r) (record { is_there = refl; is_of = refl });
@@ -95,7 +95,7 @@ leaf-good x r k = record {
 each : {ps : List Part} {ts : List Tree} → Conforms ps ts → AllGood ts
 each Conforms.ended = tt
 each (Conforms.symbol {x = x} e r k c) = (leaf-good x r k, each c)
-each (Conforms.node {h = h} {row = row} e there c d) = (record { head = h; is = record { row = row; is_row = there; fits = c } }, each d)
+each (Conforms.node {h = h} {row = row} e there c d) = (record { number = h; is = record { row = row; is_row = there; fits = c } }, each d)
 each (Conforms.left_out o c) = each c
 
 pub kids-good : (t : Tree) → Good t → AllGood (kids_of t)
@@ -141,13 +141,13 @@ term-front (Conforms.symbol {x = x} {ts = ts} e r k c) = record { first = x; oth
 term-front (Conforms.node e there c d) = absurd (cc)
 term-front (Conforms.left_out o c) = absurd (cc)
 
-all-of-none : {h : ℕ} {ts : List Tree} → Conforms [] ts → AllOf h ts
-all-of-none Conforms.ended = tt
+all-of-none : (h : ℕ) {ts : List Tree} → Conforms [] ts → AllOf h ts
+all-of-none h Conforms.ended = tt
 
 many-of : {h : ℕ} {ts : List Tree} → Conforms (Many h ∷ []) ts → AllOf h ts
-many-of (Conforms.symbol e r k c) = absurd (cc)
-many-of (Conforms.node e there c d) = (of-named e there c, many-of d)
-many-of (Conforms.left_out o c) = all-of-none c
+many-of {h} (Conforms.symbol e r k c) = absurd (cc)
+many-of {h} (Conforms.node e there c d) = (of-named e there c, many-of d)
+many-of {h} (Conforms.left_out o c) = all-of-none h c
 
 -- a part of the head stands in the place
 abbrev pub is_non : ℕ → Part → Bool

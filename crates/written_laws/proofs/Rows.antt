@@ -12,14 +12,14 @@ use Rattle.expr_build.specs.declared.rows.TheConstants as E
 use Rattle.sv_build.specs.declared.rows.TheConstants as S
 use Rattle.expr_build.specs.Nodes.{kids_of, kid, row_of, is_blank}
 use Rattle.written_laws.proofs.Tests.{left-of, right-of}
-use Rattle.written_laws.proofs.Nodes.{Conforms, OfHead, Good, Listed, has_part, begins, is_list, kid-of, not-blank, listed}
+use Rattle.written_laws.proofs.Nodes.{Conforms, OfHead, Good, good, Listed, has_part, begins, is_list, kid-of, not-blank, listed}
 
 -- a part of the head in the place of one row
-abbrev has_in : Option Row → ℕ → ℕ → Bool
+abbrev pub has_in : Option Row → ℕ → ℕ → Bool
 has_in None n h = false
 has_in (Some row) n h = has_part row.parts n h
 
-abbrev row_has : ℕ → ℕ → ℕ → Bool
+abbrev pub row_has : ℕ → ℕ → ℕ → Bool
 row_has r n h = has_in (slice_get table r) n h
 
 pub of-row : (r n h : ℕ) (t : Tree) → row_has r n h ≡ true → Good t → row_of t ≡ r → OfHead h (kid n t)
@@ -27,7 +27,7 @@ of-row r n h t f g e =
     kid-of n h t g.is.row (sym (ap (λ o. has_in o n h) (ap (slice_get table) (sym e) ∙ g.is.is_row.is_there)) ∙ f) g.is.fits
 
 -- what holds of each row of a head
-abbrev each_row : (ℕ → Row → Bool) → ℕ → List Row → Bool
+abbrev pub each_row : (ℕ → Row → Bool) → ℕ → List Row → Bool
 each_row test n [] = true
 each_row test n (row ∷ rows) = test n row && each_row test (suc n) rows
 
@@ -41,10 +41,10 @@ of-each test (suc i) n (r ∷ rs) row f e =
     let more : i + suc n ≡ suc i + n = omega arith in
     subst (λ m. test m row ≡ true) more (of-each test i (suc n) rs row (right-of (test n r) (each_row test (suc n) rs) f) e)
 
-abbrev of_head : ℕ → (ℕ → List Part → Bool) → ℕ → Row → Bool
+abbrev pub of_head : ℕ → (ℕ → List Part → Bool) → ℕ → Row → Bool
 of_head h test i row = if row.head == h then test i row.parts else true
 
-abbrev head_has : ℕ → (ℕ → List Part → Bool) → Bool
+abbrev pub head_has : ℕ → (ℕ → List Part → Bool) → Bool
 head_has h test = each_row (of_head h test) 0 table
 
 of-head : (h : ℕ) (test : ℕ → List Part → Bool) (t : Tree) (o : OfHead h t) → head_has h test ≡ true → test (row_of t) o.row.parts ≡ true
@@ -65,7 +65,7 @@ pub lists-head : (h g m : ℕ) (t : Tree) → head_has h (λ i ps. is_list g m p
 lists-head h g m t f o = listed g m o.row.parts (kids_of t) (of-head h (λ i ps. is_list g m ps) t o f) o.fits
 
 -- the part in a place, but in one row
-abbrev but : ℕ → ℕ → ℕ → ℕ → List Part → Bool
+abbrev pub but : ℕ → ℕ → ℕ → ℕ → List Part → Bool
 but r n g i ps = if i == r then true else has_part ps n g
 
 pub in-others : (h r n g : ℕ) (t : Tree) → head_has h (but r n g) ≡ true → (row_of t == r) ≡ false → OfHead h t → OfHead g (kid n t)
@@ -119,7 +119,7 @@ concatenation-rest t o = in-head head.lvalue_concatenation 1 head.lvalue_concate
 
 pub plain-lvalues : (t : Tree) → OfHead head.lvalue_concatenation_rest t → row_of t ≡ S.PLAIN_LVALUES → OfHead head.variable_lvalues (kid 0 t)
 unfolding table
-plain-lvalues t o e = of-row S.PLAIN_LVALUES 0 head.variable_lvalues t refl (record { head = head.lvalue_concatenation_rest; is = o }) e
+plain-lvalues t o e = of-row S.PLAIN_LVALUES 0 head.variable_lvalues t refl (good o) e
 
 pub stream-lvalues : (t : Tree) → OfHead head.lvalue_concatenation_rest t → (row_of t == S.PLAIN_LVALUES) ≡ false → OfHead head.variable_lvalues (kid 3 t)
 unfolding table

@@ -43,7 +43,7 @@ use Rattle.written_laws.proofs.Types as Y
 use Rattle.written_laws.proofs.Declarations.{parameters-written, variables_written, variable-text, variables-of}
 
 -- targets
-abbrev ReadsHead : ℕ → (Tree → Lvalue) → Type 0
+abbrev pub ReadsHead : ℕ → (Tree → Lvalue) → Type 0
 ReadsHead h read = (t : Tree) → OfHead h t → lvalue_written (read t) ≡ true
 
 name-lvalue : (name : ℕ) (t : Tree) → Good t → lvalue_written (X.name_lvalue name t) ≡ true

@@ -13,7 +13,7 @@ use Rattle.written_laws.specs.Trees.{routine_written, tree_written}
 pub record TextsAreWritten : Type 0 where
   -- the whole tree, and each function and task in it
   pub tree : (tokens : List Token) (tree : SourceTree) → Reads tokens tree → tree_written tree ≡ true
-  pub routines : (tokens : List Token) (tree : SourceTree) → Reads tokens tree → all (map routine_written (routines tree)) ≡ true
+  pub each : (tokens : List Token) (tree : SourceTree) → Reads tokens tree → all (map routine_written (routines tree)) ≡ true
   -- the function or task whose name stands at a token
   pub head : (tokens : List Token) (tree : SourceTree) (at : ℕ) (t : RoutineText) → Reads tokens tree → named_at at (routines tree) ≡ Some t → head_written t ≡ true
   pub items : (tokens : List Token) (tree : SourceTree) (at : ℕ) (t : RoutineText) → Reads tokens tree → named_at at (routines tree) ≡ Some t → items_written (items_of t) ≡ true

@@ -2,7 +2,7 @@
 //! member with a name. The function is a law, and does nothing; its proof is in `proofs/`.
 #![tactic(auto)]
 
-ghost use Rattle.written_laws.specs.Laws.TextsAreWritten;
+ghost use Rattle.written_laws.specs.Laws.{TextsAreWritten};
 
 /// The tree of a text that is read is written in each part, and so are the heads and the bodies of its functions and tasks (IEEE 1800-2017
 /// annex A).
