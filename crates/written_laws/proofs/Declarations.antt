@@ -1,22 +1,16 @@
 -- The parameters, type names, ports and variables that are read from a text are written.
-use Rattle.std.proofs.Common.{◌≡◌, ℕ, Bool, true, false, ◌&&◌, ◌==◌, List, [], ◌∷◌, map, drop, Option, Some, None, refl, sym, ap, ◌∙◌, subst}
-use Rattle.std.specs.Prelude.{if◌then◌else◌}
-use Rattle.std.specs.Option.{option_map}
+use Rattle.std.proofs.Common.{◌≡◌, ℕ, Bool, true, ◌&&◌, ◌==◌, drop, refl}
 use Rattle.ll_engine.specs.declared.tree.Tree.{Tree}
-use Rattle.sv_tree.specs.declared.ports.ParameterPort.{ParameterPort}
-use Rattle.sv_tree.specs.declared.ports.Port.{Port}
 use Rattle.sv_tree.specs.declared.types.TypeText.{TypeText}
-use Rattle.typing_walks.specs.Written.{all, if_there}
-use Rattle.typing_walks.specs.WrittenTypes.{dims_written, type_written}
-use Rattle.stmt_laws.specs.Written.{declarator_written, declarators_written, body_written, bodies_written}
+use Rattle.typing_walks.specs.WrittenTypes.{type_written}
+use Rattle.stmt_laws.specs.Written.{declarator_written, declarators_written, body_written}
 use Rattle.routine_laws.specs.Texts.{port_written}
 use Rattle.sv_build.specs.declared.rows.TheConstants as R
 use Rattle.sv_build.specs.declared.variables.VariableText.{VariableText}
 use Rattle.sv_build.specs.Declarations as D
-use Rattle.expr_build.specs.Nodes.{kids_of, kid, token, row_of, is_blank, optional, separated}
-use Rattle.expr_build.specs.Types.{type_of}
+use Rattle.expr_build.specs.Nodes.{kids_of, kid, token, row_of, is_blank}
 use Rattle.written_laws.specs.Trees.{parameters_written, typedef_written, data_written, parameter_port_written, parameter_list_written, header_port_written, port_list_written, header_written}
-use Rattle.written_laws.proofs.Tests.{both, by-test, by-either}
+use Rattle.written_laws.proofs.Tests.{both, by-either}
 use Rattle.written_laws.proofs.Nodes.{Good, kid-good, kids-good, drop-good}
 use Rattle.written_laws.proofs.Lists as L
 use Rattle.written_laws.proofs.Lists.{Written}

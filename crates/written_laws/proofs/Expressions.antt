@@ -1,6 +1,5 @@
 -- The expressions that are read from a text are written.
-use Rattle.std.proofs.Common.{◌≡◌, ℕ, zero, suc, Bool, true, false, ◌&&◌, ◌==◌, List, [], ◌∷◌, map, drop, Option, Some, None, refl, sym, ap, ◌∙◌, subst}
-use Rattle.std.specs.Prelude.{if◌then◌else◌}
+use Rattle.std.proofs.Common.{◌≡◌, ℕ, zero, suc, true, ◌==◌, List, [], ◌∷◌, map, drop, Option, Some, None, refl}
 use Rattle.std.specs.Option.{option_map}
 use Rattle.std.proofs.lemmas.Bool.{eqb-true}
 use Rattle.ll_engine.specs.declared.tree.Tree.{Tree}
@@ -22,7 +21,7 @@ use Rattle.sv_tree.specs.declared.operators.StreamOperator.{StreamOperator}
 use Rattle.sv_tree.specs.declared.types.KeywordType.{KeywordType}
 use Rattle.typing_walks.specs.Written.{all, some_and_all, if_there, is_written, cast_written, dimension_written, pattern_written, item_written, select_written, slice_written, range_written}
 use Rattle.expr_build.specs.declared.rows.TheConstants as R
-use Rattle.expr_build.specs.Nodes.{kids_of, kid, token, row_of, is_blank, separated, behind_marks}
+use Rattle.expr_build.specs.Nodes.{kids_of, kid, token, row_of, is_blank}
 use Rattle.expr_build.specs.Expressions as X
 use Rattle.expr_build.specs.Expressions.{expr_within, unary_within, operation_within, chain_of, expr_of, nesting_limit, precedence_levels}
 use Rattle.written_laws.proofs.Tests.{both, by-test, by-either}

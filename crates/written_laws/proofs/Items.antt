@@ -1,6 +1,5 @@
 -- The functions, tasks, processes, instances, items and units that are read from a text are written.
-use Rattle.std.proofs.Common.{◌≡◌, ℕ, zero, suc, Bool, true, false, ◌&&◌, ◌==◌, List, [], ◌∷◌, ◌++◌, map, drop, Option, Some, None, refl, rules, sym, ap, ◌∙◌, subst}
-use Rattle.std.specs.Prelude.{if◌then◌else◌}
+use Rattle.std.proofs.Common.{◌≡◌, ℕ, zero, suc, Bool, true, ◌&&◌, ◌==◌, List, [], ◌∷◌, map, drop, Option, Some, None, refl, rules, sym, ap, ◌∙◌, subst}
 use Rattle.std.specs.Option.{option_map}
 use Rattle.std.proofs.lemmas.Bool.{eqb-true}
 use Rattle.ll_engine.specs.declared.tree.Tree.{Tree}
@@ -8,7 +7,6 @@ use Rattle.sv_tree.specs.Heads as head
 use Rattle.sv_tree.specs.declared.expressions.Expr.{Expr}
 use Rattle.sv_tree.specs.declared.functions.Formal.{Formal}
 use Rattle.sv_tree.specs.declared.functions.FormalList.{FormalList}
-use Rattle.sv_tree.specs.declared.functions.FunctionResult.{FunctionResult}
 use Rattle.sv_tree.specs.declared.instances.Instance.{Instance}
 use Rattle.sv_tree.specs.declared.instances.ParameterBinds.{ParameterBinds}
 use Rattle.sv_tree.specs.declared.items.CaseGenerateItem.{CaseGenerateItem, CaseGenerateItem-F, roll-CaseGenerateItem, map-CaseGenerateItem, fold-roll-CaseGenerateItem}
@@ -18,22 +16,17 @@ use Rattle.sv_tree.specs.declared.items.GenerateBlock.TheVariants as K
 use Rattle.sv_tree.specs.declared.items.GenerateElse.{GenerateElse}
 use Rattle.sv_tree.specs.declared.items.Item.{Item, Item-F, roll-Item, map-Item, fold-roll-Item, the_lemmas}
 use Rattle.sv_tree.specs.declared.items.Item.TheVariants as I
-use Rattle.sv_tree.specs.declared.processes.ContinuousAssign.{ContinuousAssign}
-use Rattle.sv_tree.specs.declared.processes.NetAssignment.{NetAssignment}
 use Rattle.sv_tree.specs.declared.types.TypeText.{TypeText}
 use Rattle.expr_type.specs.Names.{OfFunction, OfTask}
 use Rattle.expr_type.specs.Functions as F
 use Rattle.typing_walks.specs.Written.{all, if_there, is_written}
 use Rattle.typing_walks.specs.WrittenTypes.{dims_written, type_written}
-use Rattle.stmt_laws.specs.Written.{declarators_written, stmt_written, items_written}
-use Rattle.routine_laws.specs.Texts.{port_written, formals_written, result_written, head_written}
+use Rattle.routine_laws.specs.Texts.{port_written, formals_written, result_written}
 use Rattle.sv_build.specs.declared.functions.FunctionName.{FunctionName}
 use Rattle.sv_build.specs.declared.rows.TheConstants as R
-use Rattle.sv_build.specs.Declarations as D
 use Rattle.sv_build.specs.Items as X
-use Rattle.expr_build.specs.Nodes.{kids_of, kid, token, row_of, is_blank, optional, separated, behind_marks}
-use Rattle.expr_build.specs.Expressions.{expr_of, nesting_limit}
-use Rattle.expr_build.specs.Types.{dims_of}
+use Rattle.expr_build.specs.Nodes.{kids_of, kid, token, row_of, is_blank, separated, behind_marks}
+use Rattle.expr_build.specs.Expressions.{nesting_limit}
 use Rattle.written_laws.specs.Trees as W
 use Rattle.written_laws.specs.Trees.{routine_written, assignment_written, assign_written, always_written, bind_written, binds_written, connection_written, instance_written, generate_loop_written, choice_written, block_written, item_written, else_written, module_written, package_item_written, unit_written}
 use Rattle.written_laws.proofs.Tests.{both, by-test, by-either}
@@ -44,7 +37,6 @@ use Rattle.written_laws.proofs.Lists.{Written}
 use Rattle.written_laws.proofs.Expressions.{expr-written, all-exprs}
 use Rattle.written_laws.proofs.Types as Y
 use Rattle.written_laws.proofs.Types.{dims-read, initial-written, behind-written}
-use Rattle.written_laws.proofs.Declarations as G
 use Rattle.written_laws.proofs.Declarations.{port-text, parameters-written, typedef-written, data-written, header-written, variables-of, declared-written}
 use Rattle.written_laws.proofs.Statements.{lvalue-written, step-written, optional-written, stmt-written, block-items-written}
 

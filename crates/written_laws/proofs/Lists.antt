@@ -1,6 +1,5 @@
 -- Lists and optional parts that are read from the parts of a node.
-use Rattle.std.proofs.Common.{◌≡◌, Bool, true, false, ◌&&◌, List, [], ◌∷◌, ◌++◌, map, drop, Option, Some, None, refl, sym, ap, ◌∙◌, subst}
-use Rattle.std.specs.Prelude.{if◌then◌else◌}
+use Rattle.std.proofs.Common.{◌≡◌, Bool, true, false, List, [], ◌∷◌, ◌++◌, map, Option, Some, None, refl}
 use Rattle.std.specs.Option.{option_map}
 use Rattle.ll_engine.specs.declared.tree.Tree.{Tree}
 use Rattle.typing_walks.specs.Written.{all, some_and_all, if_there}

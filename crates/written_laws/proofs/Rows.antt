@@ -5,14 +5,13 @@ use Rattle.std.proofs.lemmas.Bool.{eq-eqb}
 use Rattle.ll_engine.specs.declared.table.Part.{Part}
 use Rattle.ll_engine.specs.declared.table.Row.{Row}
 use Rattle.ll_engine.specs.declared.tree.Tree.{Tree}
-use Rattle.ll_engine.specs.Grammar.{IsRowOf}
 use Rattle.sv_tree.specs.Heads as head
 use Rattle.sv_tree.specs.Table.{table}
 use Rattle.expr_build.specs.declared.rows.TheConstants as E
 use Rattle.sv_build.specs.declared.rows.TheConstants as S
 use Rattle.expr_build.specs.Nodes.{kids_of, kid, row_of, is_blank}
 use Rattle.written_laws.proofs.Tests.{left-of, right-of}
-use Rattle.written_laws.proofs.Nodes.{Conforms, OfHead, Good, good, Listed, has_part, begins, is_list, kid-of, not-blank, listed}
+use Rattle.written_laws.proofs.Nodes.{OfHead, Good, good, Listed, has_part, begins, is_list, kid-of, not-blank, listed}
 
 -- a part of the head in the place of one row
 abbrev pub has_in : Option Row → ℕ → ℕ → Bool

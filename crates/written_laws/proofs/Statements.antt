@@ -1,6 +1,5 @@
 -- The targets and statements that are read from a text are written.
-use Rattle.std.proofs.Common.{◌≡◌, ℕ, zero, suc, Bool, true, false, ◌&&◌, ◌==◌, List, [], ◌∷◌, ◌++◌, map, drop, Option, Some, None, refl, rules, sym, ap, ◌∙◌, subst}
-use Rattle.std.specs.Prelude.{if◌then◌else◌}
+use Rattle.std.proofs.Common.{◌≡◌, ℕ, zero, suc, Bool, true, ◌==◌, List, [], ◌∷◌, map, drop, Option, Some, None, refl, rules, sym, ap, ◌∙◌, subst}
 use Rattle.std.specs.Option.{option_map}
 use Rattle.std.proofs.lemmas.Bool.{eqb-true}
 use Rattle.ll_engine.specs.declared.tree.Tree.{Tree}
@@ -12,28 +11,22 @@ use Rattle.sv_tree.specs.declared.statements.BlockItem.TheVariants as I
 use Rattle.sv_tree.specs.declared.statements.CaseItem.{CaseItem, CaseItem-F, roll-CaseItem, map-CaseItem, fold-roll-CaseItem}
 use Rattle.sv_tree.specs.declared.statements.CaseItem.TheVariants as C
 use Rattle.sv_tree.specs.declared.statements.Else.{Else}
-use Rattle.sv_tree.specs.declared.statements.LoopStart.{LoopStart}
-use Rattle.sv_tree.specs.declared.statements.LoopStep.{LoopStep}
-use Rattle.sv_tree.specs.declared.statements.LoopStep.TheVariants as P
 use Rattle.sv_tree.specs.declared.statements.Lvalue.{Lvalue}
 use Rattle.sv_tree.specs.declared.statements.Lvalue.TheVariants as V
 use Rattle.sv_tree.specs.declared.statements.Stmt.{Stmt, Stmt-F, roll-Stmt, map-Stmt, fold-roll-Stmt, the_lemmas}
 use Rattle.sv_tree.specs.declared.statements.Stmt.TheVariants as S
 use Rattle.sv_tree.specs.declared.statements.UniquePriority.{UniquePriority}
-use Rattle.sv_tree.specs.declared.types.TypeText.{TypeText}
 use Rattle.typing_walks.specs.Written.{all, some_and_all, if_there, is_written}
-use Rattle.typing_walks.specs.WrittenTypes.{type_written}
 use Rattle.stmt_walks.specs.Written.{lvalue_written}
 use Rattle.stmt_laws.specs.Written as W
 use Rattle.stmt_laws.specs.Written.{declarators_written, exprs_written, selects_written, start_written, step_written, stmt_written, item_written, case_written, else_written, items_written}
-use Rattle.sv_build.specs.declared.loops.LoopControl.{LoopControl}
 use Rattle.sv_build.specs.declared.rows.TheConstants as R
 use Rattle.sv_build.specs.declared.variables.VariableText.{VariableText}
 use Rattle.sv_build.specs.Statements as X
-use Rattle.expr_build.specs.Nodes.{kids_of, kid, token, row_of, is_blank, optional, separated, behind_marks}
+use Rattle.expr_build.specs.Nodes.{kids_of, kid, token, row_of, separated, behind_marks}
 use Rattle.expr_build.specs.Expressions.{expr_of, nesting_limit}
 use Rattle.written_laws.proofs.Tests.{both, by-test, by-either}
-use Rattle.written_laws.proofs.Nodes.{OfHead, Good, AllGood, AllOf, Listed, good, kid-good, kids-good, drop-good}
+use Rattle.written_laws.proofs.Nodes.{OfHead, Good, AllGood, AllOf, good, kid-good, kids-good, drop-good}
 use Rattle.written_laws.proofs.Rows as N
 use Rattle.written_laws.proofs.Lists as L
 use Rattle.written_laws.proofs.Lists.{Written}

@@ -1,12 +1,8 @@
 -- The tree of a text is written in each part.
 use Rattle.std.proofs.Common.{◌≡◌, ℕ, true, List, Some, map, sym, subst}
 use Rattle.sv_source.specs.declared.token.Token.{Token}
-use Rattle.ll_engine.specs.declared.tree.Tree.{Tree}
-use Rattle.ll_engine.specs.Texts.{IsReading}
-use Rattle.sv_tree.specs.Table.{table}
 use Rattle.sv_tree.specs.declared.units.SourceTree.{SourceTree}
 use Rattle.sv_tree.specs.declared.units.Unit.{Unit as Description}
-use Rattle.expr_build.specs.Expressions.{nesting_limit}
 use Rattle.sv_build.specs.Reading.{Reads}
 use Rattle.expr_type.specs.Names.{RoutineText}
 use Rattle.expr_type.specs.Routines.{named_at, routines}
@@ -15,7 +11,7 @@ use Rattle.stmt_laws.specs.Written.{items_written}
 use Rattle.routine_laws.specs.Texts.{head_written, items_of}
 use Rattle.written_laws.specs.Trees.{routine_written, unit_written, tree_written}
 use Rattle.written_laws.proofs.Tests.{left-of, right-of}
-use Rattle.written_laws.proofs.Nodes.{Good, derivation-good}
+use Rattle.written_laws.proofs.Nodes.{derivation-good}
 use Rattle.written_laws.proofs.Items.{units-read}
 use Rattle.written_laws.proofs.Routines.{AllRead, routines-read, named-read}
 

@@ -1,26 +1,23 @@
 -- The types and declared names that are read from a text are written.
-use Rattle.std.proofs.Common.{◌≡◌, ℕ, zero, suc, Bool, true, false, ◌&&◌, ◌==◌, List, [], ◌∷◌, map, Option, Some, None, refl, sym, ap, ◌∙◌, subst}
-use Rattle.std.specs.Prelude.{if◌then◌else◌}
+use Rattle.std.proofs.Common.{◌≡◌, ℕ, zero, suc, Bool, true, ◌==◌, List, [], ◌∷◌, map, Some, None, refl, sym, ◌∙◌, subst}
 use Rattle.std.proofs.lemmas.Bool.{eqb-true}
 use Rattle.ll_engine.specs.declared.tree.Tree.{Tree}
 use Rattle.sv_tree.specs.Heads as head
-use Rattle.sv_tree.specs.declared.declarations.Initializer.{Initializer}
 use Rattle.sv_tree.specs.declared.names.QualifiedName.{QualifiedName}
 use Rattle.sv_tree.specs.declared.types.EnumBase.{EnumBase}
-use Rattle.sv_tree.specs.declared.types.EnumBase.TheVariants as B
 use Rattle.sv_tree.specs.declared.types.EnumName.{EnumName}
 use Rattle.sv_tree.specs.declared.types.TypeText.{TypeText}
 use Rattle.sv_tree.specs.declared.types.TypeText.TheVariants as T
-use Rattle.typing_walks.specs.Written.{all, some_and_all, if_there, is_written, dimension_written}
+use Rattle.typing_walks.specs.Written.{all, some_and_all}
 use Rattle.typing_walks.specs.WrittenTypes.{dims_written, initial_written, base_written, name_written, names_written, type_written}
 use Rattle.stmt_laws.specs.Written.{declarator_written, declarators_written}
 use Rattle.expr_build.specs.declared.rows.TheConstants as R
-use Rattle.expr_build.specs.Nodes.{kids_of, kid, token, row_of, is_blank, optional, separated}
-use Rattle.expr_build.specs.Expressions.{dimension_of, expr_of, nesting_limit}
+use Rattle.expr_build.specs.Nodes.{kid, row_of, is_blank}
+use Rattle.expr_build.specs.Expressions.{expr_of, nesting_limit}
 use Rattle.expr_build.specs.Types as Y
 use Rattle.expr_build.specs.Types.{dims_of, type_within, type_of, declarator_of, declarators_of, declarators_behind, optional_initializer_of, initializer_of}
 use Rattle.written_laws.proofs.Tests.{both, by-test, by-either}
-use Rattle.written_laws.proofs.Nodes.{OfHead, Good, AllGood, AllOf, good, kid-good, kids-good}
+use Rattle.written_laws.proofs.Nodes.{OfHead, Good, AllGood, AllOf, good, kid-good}
 use Rattle.written_laws.proofs.Rows.{members, member-names}
 use Rattle.written_laws.proofs.Lists as L
 use Rattle.written_laws.proofs.Lists.{Written}

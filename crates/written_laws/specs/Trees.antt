@@ -1,6 +1,6 @@
 -- Source trees in which each concatenation, replication and stream has a part, and each struct and union a member with a name, wherever
 -- they stand, as in those that are read from a text.
-use Rattle.std.specs.Prelude.{Bool, true, ◌&&◌, List, map, Option, Some, None}
+use Rattle.std.specs.Prelude.{Bool, true, ◌&&◌, map}
 use Rattle.std.specs.Option.{option_map}
 use Rattle.sv_tree.specs.declared.declarations.ParameterDeclaration.{ParameterDeclaration}
 use Rattle.sv_tree.specs.declared.instances.Bind.{Bind}
