@@ -1,0 +1,12 @@
+pub mod Tests
+pub mod Nodes
+pub mod Rows
+pub mod Lists
+pub mod Levels
+pub mod Expressions
+pub mod Types
+pub mod Declarations
+pub mod Statements
+pub mod Items
+pub mod Routines
+pub mod Texts
