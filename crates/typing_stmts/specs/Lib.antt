@@ -1,0 +1,5 @@
+pub mod Meanings
+pub mod Items
+pub mod Parts
+pub mod Blocks
+pub mod Written
