@@ -1,6 +1,2 @@
-pub mod Levels
-pub mod Blocks
-pub mod Finding
-pub mod Rows
-pub mod Choosing
+pub mod Forms
 pub mod Scopes

@@ -17,7 +17,7 @@ use Rattle.stmt_laws.proofs.Declared.{behind-sound}
 use Rattle.stmt_laws.proofs.Parts.{OfStart, loop-behind, variable-keeps}
 use Rattle.stmt_types.specs.declared.blocks.BlockPart.{BlockPart}
 use Rattle.typing_calls.specs.Lists.{as_meant}
-use Rattle.typing_loops.specs.declared.loops.LoopVariable.{LoopVariable}
+use Rattle.typing_loops.specs.declared.turns.LoopVariable.{LoopVariable}
 use Rattle.typing_loops.specs.declared.turns.Start.{Start}
 use Rattle.typing_loops.specs.Loops.{Entered, known_of, start_of, variable_of}
 use Rattle.typing_fits.proofs.Full.{and-left, and-right}
@@ -27,9 +27,10 @@ use Rattle.typing_steps.specs.Steps.{TypesTo}
 use Rattle.typing_walks.specs.Keeps.{Keeps, Surrounded}
 use Rattle.typing_walks.specs.Written.{is_written}
 use Rattle.typing_walks.specs.WrittenTypes.{type_written}
-use Rattle.typing_stmts.specs.declared.parts.Part.{Part}
-use Rattle.typing_stmts.specs.declared.parts.Part.TheVariants as P
-use Rattle.typing_stmts.specs.Parts.{DeclaredIn, Joins, SoundIn, part_meant}
+use Rattle.typing_stmt_parts.specs.declared.parts.Part.{Part}
+use Rattle.typing_stmt_parts.specs.declared.parts.Part.TheVariants as P
+use Rattle.typing_stmt_parts.specs.Parts.{Joins, SoundIn, part_meant}
+use Rattle.typing_stmt_parts.proofs.Making.{declared-sound}
 
 -- what is typed and keeps something
 pub kept-by : {A : Type 0} (P : A → List Function → Type 0) (x : Typing A) (fs gs : List Function) (a : A) → Keeps AllSoundFunctions P x → AllSoundFunctions fs → TypesTo (Ok a) (x fs) gs → P a gs
@@ -37,15 +38,10 @@ kept-by {A = A} P x fs gs a keeps sound p =
     subst (λ (hs : List Function). P a hs) (ap (λ (t : Typed A). t.functions) p) ((keeps fs sound).sound a (ap (λ (t : Typed A). t.result) p))
 
 -- declarations as items are sound
-declared-sound : (d : Result Declared Halt) (x : Typing D.Declared) (fs gs : List Function) (p : Part) → DeclaredIn d p → TypesTo (as_meant means d) (x fs) gs → Keeps AllSoundFunctions SoundDeclared x → AllSoundFunctions fs → SoundIn gs p
-declared-sound d x fs gs (P.Statement s) is p keeps sound = absurd is
-declared-sound d x fs gs (P.Declared e) is p keeps sound =
-    kept-by SoundDeclared x fs gs (means e) keeps sound (subst (λ (r : Result Declared Halt). TypesTo (as_meant means r) (x fs) gs) is p)
-
-pub part-sound : (d : Result Declared Halt) (r : Result Part Halt) (x : Typing D.Declared) (fs gs : List Function) → IfOk r (DeclaredIn d) → TypesTo (as_meant means d) (x fs) gs → Keeps AllSoundFunctions SoundDeclared x → AllSoundFunctions fs
+pub part-sound : (d : Result Declared Halt) (r : Result Part Halt) (x : Typing D.Declared) (fs gs : List Function) → r ≡ as_meant P.Declared d → TypesTo (as_meant means d) (x fs) gs → Keeps AllSoundFunctions SoundDeclared x → AllSoundFunctions fs
     → IfOk r (SoundIn gs)
-part-sound d (Ok p) x fs gs is t keeps sound = declared-sound d x fs gs p is t keeps sound
-part-sound d (Err h) x fs gs is t keeps sound = tt
+part-sound d r x fs gs is t keeps sound =
+    declared-sound d r gs is (λ e same. kept-by SoundDeclared x fs gs (means e) keeps sound (subst (λ (q : Result Declared Halt). TypesTo (as_meant means q) (x fs) gs) same t))
 
 -- behind one more item of a block
 surrounded-by : (k : Context) (fs : List Function) (p : Part) → Surrounded AllSoundFunctions k → SoundIn fs p → Surrounded AllSoundFunctions (D.behind_part k (Some (part_meant p)))

@@ -1,5 +1,1 @@
-pub mod Meanings
-pub mod Items
-pub mod Parts
-pub mod Blocks
 pub mod Written

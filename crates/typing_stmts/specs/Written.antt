@@ -7,7 +7,7 @@ use Rattle.sv_types.specs.declared.statement.Stmt as R
 use Rattle.expr_type.specs.Names.{Context}
 use Rattle.expr_type.specs.Statements.{else_if}
 use Rattle.expr_type.specs.Typings.{Typing}
-use Rattle.typing_stmts.specs.Meanings.{else_meaning}
+use Rattle.typing_stmt_parts.specs.Meanings.{else_meaning}
 use Rattle.stmt_laws.specs.Written.{case_written, else_written}
 use Rattle.typing_walks.specs.Written.{all, if_there}
 

@@ -2,8 +2,6 @@
 //! makes functions known: with all their parts, or with the first rule that they break.
 #![tactic(auto)]
 
-mod items;
-mod parts;
 mod walk;
 
 pub use walk::{block, statement};

@@ -9,36 +9,38 @@ ghost use Rattle.typing_fits.specs.Sound.{Extends};
 ghost use Rattle.typing_parts.specs.Typists.{IsReady, MakesKnown};
 ghost use Rattle.typing_scopes.specs.Scopes.{context_of};
 ghost use Rattle.typing_steps.specs.Steps.{TypesTo};
-ghost use Rattle.typing_stmts.specs.Items.{AllFoundTo, FoundTo, item_of, items_of};
-ghost use Rattle.typing_stmts.specs.Parts.{SoundIn, part_meant};
+ghost use Rattle.typing_stmt_parts.specs.Items.{AllFoundTo, FoundTo, item_of, items_of};
+ghost use Rattle.typing_stmt_parts.specs.Parts.{SoundIn, part_meant};
 ghost use Rattle.typing_stmts.specs.Written.{cases_written, else_if_written, else_of};
 ghost use Rattle.typing_walks.specs.Keeps.{Surrounded};
 
-use crate::items::{ended, ends, going_on, item_by, no_values};
-use crate::parts::{Part, block_by, joined, of_declared, of_statement};
 use expr_type::Halt;
 use std::alloc::Global;
-use stmt_types::{BlockPart, CaseFound, case_kind, case_stmt};
+use stmt_types::{BlockPart, CaseFound};
 use sv_source::Boxed;
 use sv_tree::{BlockItem, CaseItem, Else, Stmt};
-use sv_types::{Locals, Stmts};
 use typing_blocks::{named_variables, parameters, variables};
 use typing_controls::{condition, item_values, returned};
-use typing_loops::{choice, entered, loop_of, loop_variable, test_and_step};
+use typing_loop_variables::loop_variable;
+use typing_loops::{choice, entered, loop_of, test_and_step};
 use typing_lvalues::{assign, counted};
 use typing_parts::{Known, Names};
 use typing_scopes::{Base, Scope};
+use typing_stmt_parts::{
+    Part,
+    block_by,
+    case_of,
+    empty,
+    ended,
+    ends,
+    item_by,
+    joined,
+    no_values,
+    of_declared,
+    of_statement,
+    some_of,
+};
 use typing_tasks::task_called;
-
-// Nothing, as a statement.
-fn empty(alloc: Global) -> sv_types::Stmt
-    ensures { result ≡ def.empty }
-{
-    sv_types::Stmt::Block {
-        locals: Locals::new(alloc),
-        body: Stmts::new(alloc),
-    }
-}
 
 /// A statement of a text (IEEE 1800-2017 clauses 9.3, 10.4, 11.4.2, 12.4 to 12.8, 13.3 and 13.5), where `needs` is asked to make a
 /// function or task known that isn't. Its first break in the order of the text counts.
@@ -50,7 +52,7 @@ pub fn statement<B: Base, C: Fn(u32, &mut Known) -> Result<u32, Halt>>(
     s: &Stmt,
     known: &mut Known,
 ) -> Result<sv_types::Stmt, Halt>
-    requires needs { MakesKnown _ (C.IsAlwaysCallable needs.now) (λ k. k.now) (C.post needs.now) (context_of B.context names.now) }
+    requires needs { MakesKnown _ ((n : _) (k : _) → IsReady k.now → C.pre needs.now n k) (λ k. k.now) (C.post needs.now) (context_of B.context names.now) }
     requires names { Surrounded AllSoundFunctions (context_of B.context names.now) }
     requires written { stmt_written s.now ≡ true }
     requires ready { IsReady known.old }
@@ -82,10 +84,9 @@ pub fn statement<B: Base, C: Fn(u32, &mut Known) -> Result<u32, Halt>>(
             ..
         } => {
             let sought = condition(alloc, names, needs, value, known);
-            let sought = going_on(sought)?;
             let cases = items.as_slice();
-            let found = case_items(alloc, names, needs, cases, known)?;
-            case_stmt(alloc, case_kind(*keyword), sought, found)
+            let found = case_items(alloc, names, needs, cases, known);
+            case_of(alloc, *keyword, sought, found)
         }
         Stmt::For {
             keyword,
@@ -96,7 +97,7 @@ pub fn statement<B: Base, C: Fn(u32, &mut Known) -> Result<u32, Halt>>(
             ..
         } => {
             let variable = loop_variable(alloc, names, needs, first, known);
-            let (inner, start) = entered(alloc, names, variable)?;
+            let (inner, start) = entered(alloc, &*names, variable)?;
             let controlled = test_and_step(alloc, &inner, needs, test, step, known);
             let repeated = body.get();
             let turn = statement(alloc, &inner, needs, repeated, known);
@@ -152,7 +153,7 @@ fn else_branch<B: Base, C: Fn(u32, &mut Known) -> Result<u32, Halt>>(
     other: &Option<Boxed<Else>>,
     known: &mut Known,
 ) -> Result<Option<sv_types::Stmt>, Halt>
-    requires needs { MakesKnown _ (C.IsAlwaysCallable needs.now) (λ k. k.now) (C.post needs.now) (context_of B.context names.now) }
+    requires needs { MakesKnown _ ((n : _) (k : _) → IsReady k.now → C.pre needs.now n k) (λ k. k.now) (C.post needs.now) (context_of B.context names.now) }
     requires names { Surrounded AllSoundFunctions (context_of B.context names.now) }
     requires written { else_if_written other.now ≡ true }
     requires ready { IsReady known.old }
@@ -164,8 +165,8 @@ fn else_branch<B: Base, C: Fn(u32, &mut Known) -> Result<u32, Halt>>(
         None => Ok(None),
         Some(other) => {
             let behind = other.get();
-            let made = statement(alloc, names, needs, &behind.body, known)?;
-            Ok(Some(made))
+            let made = statement(alloc, names, needs, &behind.body, known);
+            some_of(made)
         }
     }
 }
@@ -179,7 +180,7 @@ fn found_item<B: Base, C: Fn(u32, &mut Known) -> Result<u32, Halt>>(
     item: &CaseItem,
     known: &mut Known,
 ) -> Result<CaseFound, Halt>
-    requires needs { MakesKnown _ (C.IsAlwaysCallable needs.now) (λ k. k.now) (C.post needs.now) (context_of B.context names.now) }
+    requires needs { MakesKnown _ ((n : _) (k : _) → IsReady k.now → C.pre needs.now n k) (λ k. k.now) (C.post needs.now) (context_of B.context names.now) }
     requires names { Surrounded AllSoundFunctions (context_of B.context names.now) }
     requires written { case_written item.now ≡ true }
     requires ready { IsReady known.old }
@@ -216,7 +217,7 @@ fn case_items<B: Base, C: Fn(u32, &mut Known) -> Result<u32, Halt>>(
     items: &[CaseItem],
     known: &mut Known,
 ) -> Result<Vec<CaseFound>, Halt>
-    requires needs { MakesKnown _ (C.IsAlwaysCallable needs.now) (λ k. k.now) (C.post needs.now) (context_of B.context names.now) }
+    requires needs { MakesKnown _ ((n : _) (k : _) → IsReady k.now → C.pre needs.now n k) (λ k. k.now) (C.post needs.now) (context_of B.context names.now) }
     requires names { Surrounded AllSoundFunctions (context_of B.context names.now) }
     requires written { cases_written items.now ≡ true }
     requires ready { IsReady known.old }
@@ -245,7 +246,7 @@ fn part<B: Base, C: Fn(u32, &mut Known) -> Result<u32, Halt>>(
     item: &BlockItem,
     known: &mut Known,
 ) -> Result<Part, Halt>
-    requires needs { MakesKnown _ (C.IsAlwaysCallable needs.now) (λ k. k.now) (C.post needs.now) (context_of B.context names.now) }
+    requires needs { MakesKnown _ ((n : _) (k : _) → IsReady k.now → C.pre needs.now n k) (λ k. k.now) (C.post needs.now) (context_of B.context names.now) }
     requires names { Surrounded AllSoundFunctions (context_of B.context names.now) }
     requires written { item_written item.now ≡ true }
     requires ready { IsReady known.old }
@@ -297,7 +298,7 @@ pub fn block<B: Base, C: Fn(u32, &mut Known) -> Result<u32, Halt>>(
     items: &[BlockItem],
     known: &mut Known,
 ) -> Result<sv_types::Stmt, Halt>
-    requires needs { MakesKnown _ (C.IsAlwaysCallable needs.now) (λ k. k.now) (C.post needs.now) (context_of B.context names.now) }
+    requires needs { MakesKnown _ ((n : _) (k : _) → IsReady k.now → C.pre needs.now n k) (λ k. k.now) (C.post needs.now) (context_of B.context names.now) }
     requires names { Surrounded AllSoundFunctions (context_of B.context names.now) }
     requires written { items_written items.now ≡ true }
     requires ready { IsReady known.old }
@@ -305,7 +306,7 @@ pub fn block<B: Base, C: Fn(u32, &mut Known) -> Result<u32, Halt>>(
     ensures ready { IsReady known.new }
     ensures keeps { Extends known.old.functions known.new.functions }
 {
-    let mut inner = Scope::inside(alloc, names);
+    let mut inner = Scope::inside(alloc, &*names);
     let mut made: Option<Vec<BlockPart>> = Some(Vec::new(alloc));
     for item in items {
         let next = part(alloc, &inner, needs, item, known);

@@ -4,8 +4,8 @@ use Rattle.typing_fits.specs.Sound.{Extends}
 use Rattle.typing_parts.specs.Typists.{IsReady}
 use Rattle.typing_scopes.specs.Scopes.{context_of}
 use Rattle.typing_walks.specs.Keeps.{Surrounded}
-use Rattle.typing_stmts.specs.Blocks.{MadeOf, made_row}
-use Rattle.typing_stmts.proofs.Rows.{FoundSoFar}
+use Rattle.typing_stmt_parts.specs.Blocks.{MadeOf, made_row}
+use Rattle.typing_stmt_parts.proofs.Rows.{FoundSoFar}
 use Rattle.typing_stmts.proofs.walk.+stmt.Given as goal
 
 abbrev pub invariant-case_items-loop-item : goal.invariant-case_items-loop-item

@@ -22,9 +22,9 @@ use Rattle.typing_scopes.specs.Ahead.{mapped}
 use Rattle.typing_scopes.proofs.Turning.{ahead-alike, ahead-breaks, ahead-end, ahead-quiet, ahead-start, ahead-whole, behind-breaks, behind-end, behind-quiet, behind-whole}
 use Rattle.typing_steps.specs.Steps.{StopsBy, TypesTo}
 use Rattle.typing_steps.proofs.Combining.{checked-fine, checked-stops}
-use Rattle.typing_stmts.specs.declared.parts.Part.{Part}
-use Rattle.typing_stmts.specs.Parts.{AddsPart, BlockBy, Joins, part_meant}
-use Rattle.typing_stmts.specs.Blocks.{MadeOf, as_parts, made_row, put_behind, rest_of}
+use Rattle.typing_stmt_parts.specs.declared.parts.Part.{Part}
+use Rattle.typing_stmt_parts.specs.Parts.{AddsPart, BlockBy, Joins, part_meant}
+use Rattle.typing_stmt_parts.specs.Blocks.{MadeOf, as_parts, made_row, put_behind, rest_of}
 
 -- the items that are left
 pub left-at : (xs : List BlockItem) (i : ℕ) (x : BlockItem) → i < length xs → x ≡ get_or xs i x → drop i xs ≡ x ∷ drop (i + 1) xs

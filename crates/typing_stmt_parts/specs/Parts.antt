@@ -13,8 +13,8 @@ use Rattle.stmt_types.specs.Blocks.{block_stmt, built_of, part_of}
 use Rattle.stmt_types.specs.declared.blocks.BlockPart.{BlockPart}
 use Rattle.typing_scopes.specs.declared.declared.Declared.{Declared}
 use Rattle.typing_scopes.specs.Scopes.{means}
-use Rattle.typing_stmts.specs.declared.parts.Part.{Part}
-use Rattle.typing_stmts.specs.declared.parts.Part.TheVariants as P
+use Rattle.typing_stmt_parts.specs.declared.parts.Part.{Part}
+use Rattle.typing_stmt_parts.specs.declared.parts.Part.TheVariants as P
 
 abbrev pub part_meant : Part → D.BlockPart
 part_meant (P.Statement s) = D.IsStatement s
@@ -27,10 +27,6 @@ statement_part x = checked x (λ t. whole (D.IsStatement t))
 abbrev pub declared_part : Typing D.Declared → Typing D.BlockPart
 declared_part x = checked x (λ d. whole (D.IsDeclared d))
 
-abbrev pub DeclaredIn : Result Declared Halt → Part → Type 0
-DeclaredIn d (P.Statement s) = ⊥
-DeclaredIn d (P.Declared e) = d ≡ Ok e
-
 -- what is declared is sound
 abbrev pub SoundIn : List Function → Part → Type 0
 SoundIn fs (P.Statement s) = ⊤
@@ -42,7 +38,7 @@ GoesIn k j p (Ok b) = (b ≡ part_of (part_meant p)) × (j ≡ D.behind_part k (
 GoesIn k j p (Err h) = h ≡ H.Memory
 
 -- one part more
-abbrev pub AddsPart : Option (Vec BlockPart Global) → BlockPart → Result (Option (Vec BlockPart Global)) Halt → Type 0
+abbrev pub AddsPart : {A : Type 0} → Option (Vec A Global) → A → Result (Option (Vec A Global)) Halt → Type 0
 AddsPart None b r = r ≡ Ok None
 AddsPart (Some v) b (Ok None) = ⊥
 AddsPart (Some v) b (Ok (Some w)) = w.items ≡ v.items ++ b ∷ []

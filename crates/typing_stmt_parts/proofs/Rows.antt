@@ -18,18 +18,17 @@ use Rattle.expr_type.specs.Typings.{Checked, Typed, Typing, all, applied, beside
 use Rattle.stmt_types.specs.Cases.{AllFound, Found, IsFound, Stops}
 use Rattle.stmt_types.specs.Lists.{listed}
 use Rattle.stmt_types.specs.declared.cases.CaseFound.{CaseFound}
-use Rattle.typing_controls.specs.Conditions.{conditions_of}
 use Rattle.typing_steps.specs.Steps.{TypesTo}
 use Rattle.typing_steps.proofs.Lists.{all-append}
 use Rattle.typing_steps.proofs.Turns.{next-fine}
-use Rattle.typing_stmts.specs.Items.{AllGoOn, AreFoundTo, IsFoundTo, is_loud, item_of, items_of}
-use Rattle.typing_stmts.proofs.Finding.{known-by}
-use Rattle.typing_stmts.proofs.Levels.{CaseLevel, case_level}
+use Rattle.typing_stmt_parts.specs.Items.{AllGoOn, AreFoundTo, IsFoundTo, is_loud, item_of, items_of, values_of}
+use Rattle.typing_stmt_parts.proofs.Finding.{known-by}
+use Rattle.typing_stmt_parts.proofs.Levels.{CaseLevel, case_level}
 
 -- each item is found, whatever it breaks
 level-whole : (z : CaseLevel) (k : Context) (fs : List Function) → (d : D.CaseFound) × ((case_level z k fs).result ≡ Ok d)
 level-whole (CaseItem-F.Values es colon body) k fs =
-    let r = conditions_of k es fs in
+    let r = values_of k es fs in
     (record { is_default = false; values = r.result; body = (D.stmt_meaning body k r.functions).result }, refl)
 level-whole (CaseItem-F.Default keyword colon body) k fs = (record { is_default = true; values = Ok []; body = (D.stmt_meaning body k fs).result }, refl)
 

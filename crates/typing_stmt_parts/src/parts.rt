@@ -1,14 +1,10 @@
-//! Parts of blocks.
+//! Items of blocks, and the blocks that they make.
 
-ghost use Rattle.std.specs.Prelude.{◌≡◌, List, IfOk};
-ghost use Rattle.expr_type.specs.Statements as statement;
-ghost use Rattle.expr_type.specs.Typings.{Typing};
-ghost use Rattle.sv_types.specs.declared.statement.Function.{Function};
-ghost use Rattle.sv_types.specs.declared.statement.Stmt as s;
+ghost use Rattle.std.specs.Prelude.{◌≡◌};
 ghost use Rattle.typing_calls.specs.Lists.{as_meant};
-ghost use Rattle.typing_scopes.specs.Scopes.{context_of, means};
-ghost use Rattle.typing_steps.specs.Steps.{TypesTo};
-ghost use Rattle.typing_stmts.specs.Parts.{AddsPart, BlockBy, DeclaredIn, GoesIn, Joins, declared_part, part_meant, statement_part};
+ghost use Rattle.typing_scopes.specs.Scopes.{context_of};
+ghost use Rattle.typing_stmt_parts.specs.Parts.{AddsPart, BlockBy, GoesIn, Joins};
+ghost use Rattle.typing_stmt_parts.specs.declared.parts.Part.TheVariants as variant;
 
 use expr_type::Halt;
 use std::alloc::Global;
@@ -18,7 +14,7 @@ use typing_scopes::{Base, Declared, Scope};
 
 /// An item of a block as it is typed.
 #[derive(Drop)]
-pub(crate) enum Part {
+pub enum Part {
     /// A statement.
     Statement(Stmt),
     /// What a declaration brings in.
@@ -26,18 +22,23 @@ pub(crate) enum Part {
 }
 
 /// A statement as an item.
-pub(crate) fn of_statement(s: Result<Stmt, Halt>) -> Result<Part, Halt>
-    ensures { (x : Typing s.Stmt) (fs gs : List Function) → TypesTo s (x fs) gs → TypesTo (as_meant part_meant result) (statement_part x fs) gs }
+pub fn of_statement(s: Result<Stmt, Halt>) -> Result<Part, Halt>
+    ensures { result ≡ as_meant variant.Statement s }
 {
-    Ok(Part::Statement(s?))
+    match s {
+        Ok(whole) => Ok(Part::Statement(whole)),
+        Err(halt) => Err(halt),
+    }
 }
 
 /// What a declaration brings in as an item.
-pub(crate) fn of_declared(d: Result<Declared, Halt>) -> Result<Part, Halt>
-    ensures value { (x : Typing statement.Declared) (fs gs : List Function) → TypesTo (as_meant means d) (x fs) gs → TypesTo (as_meant part_meant result) (declared_part x fs) gs }
-    ensures same { IfOk result (DeclaredIn d) }
+pub fn of_declared(d: Result<Declared, Halt>) -> Result<Part, Halt>
+    ensures { result ≡ as_meant variant.Declared d }
 {
-    Ok(Part::Declared(d?))
+    match d {
+        Ok(whole) => Ok(Part::Declared(whole)),
+        Err(halt) => Err(halt),
+    }
 }
 
 // What a part is in a block: what it declares stands in the scope of those behind it.
@@ -53,8 +54,8 @@ fn gone_in<B: Base>(scope: &mut Scope<'_, B>, part: Part) -> Result<BlockPart, H
     }
 }
 
-// One part more, where all before it are whole.
-fn added(made: Option<Vec<BlockPart>>, part: BlockPart) -> Result<Option<Vec<BlockPart>>, Halt>
+// One thing more, where all before it are whole.
+fn added<T: Drop>(made: Option<Vec<T>>, part: T) -> Result<Option<Vec<T>>, Halt>
     ensures { AddsPart made part result }
 {
     match made {
@@ -66,9 +67,9 @@ fn added(made: Option<Vec<BlockPart>>, part: BlockPart) -> Result<Option<Vec<Blo
     }
 }
 
-/// Parts of a block with one more behind them, whose declarations stand in the scope. None are made where one breaks no rule and isn't
-/// whole.
-pub(crate) fn joined<B: Base>(
+/// Parts of a block with one more behind them, whose declarations stand in the scope. None are made where one isn't whole and breaks no
+/// rule; a broken rule and want of memory are handed on.
+pub fn joined<B: Base>(
     made: Option<Vec<BlockPart>>,
     scope: &mut Scope<'_, B>,
     part: Result<Part, Halt>,
@@ -86,8 +87,8 @@ pub(crate) fn joined<B: Base>(
     }
 }
 
-/// The block of parts, where all of them are whole.
-pub(crate) fn block_by(alloc: Global, made: Option<Vec<BlockPart>>) -> Result<Stmt, Halt>
+/// The block of parts, where all of them are whole (IEEE 1800-2017 clause 9.3.1).
+pub fn block_by(alloc: Global, made: Option<Vec<BlockPart>>) -> Result<Stmt, Halt>
     ensures { BlockBy made result }
 {
     match made {

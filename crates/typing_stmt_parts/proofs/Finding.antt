@@ -20,12 +20,11 @@ use Rattle.routine_fits.specs.Sound.{AllSoundFunctions}
 use Rattle.stmt_types.specs.Cases.{Found, IsFound, Stops}
 use Rattle.stmt_types.specs.Lists.{listed}
 use Rattle.stmt_types.specs.declared.cases.CaseFound.{CaseFound}
-use Rattle.typing_controls.specs.Conditions.{conditions_of}
 use Rattle.typing_fits.specs.Sound.{Extends}
 use Rattle.typing_parts.proofs.Keeping.{extends-same}
 use Rattle.typing_steps.specs.Steps.{TypesTo}
-use Rattle.typing_stmts.specs.Items.{Ends, FoundTo, IsFoundTo, IsItem, Kept, NotLacking, is_loud, item_of}
-use Rattle.typing_stmts.proofs.Levels.{CaseLevel, case-meant, case_level}
+use Rattle.typing_stmt_parts.specs.Items.{Ends, FoundTo, IsFoundTo, IsItem, Kept, NotLacking, is_loud, item_of, values_of}
+use Rattle.typing_stmt_parts.proofs.Levels.{CaseLevel, case-meant, case_level}
 
 -- what is typed, as it is found
 pub found-by : {A : Type 0} (r : Result A Halt) (t : Typed A) (fs : List Function) → NotLacking r (Ok tt) → TypesTo r t fs → Found r t.result
@@ -79,15 +78,15 @@ tried-known {A = A} x (Ok a) gs hs js n p e k =
 tried-known x (Err h) gs hs js n p e k = forgets (x gs).result gs (x gs).functions h (found-by (Err h) (x gs) hs n p) ∙ sym (cut-back gs hs e) ∙ sym k
 
 -- an item with values
-module _ (k : Context) (x : CaseItem) (es : List Expr) (colon : ℕ) (body : X.Stmt) (fs gs : List Function) (vs : Result (Vec Valued Global) Halt) (is : x ≡ roll-CaseItem (CaseItem-F.Values es colon body)) (v : TypesTo (listed vs) (conditions_of k es fs) gs) where
+module _ (k : Context) (x : CaseItem) (es : List Expr) (colon : ℕ) (body : X.Stmt) (fs gs : List Function) (vs : Result (Vec Valued Global) Halt) (is : x ≡ roll-CaseItem (CaseItem-F.Values es colon body)) (v : TypesTo (listed vs) (values_of k es fs) gs) where
   abbrev level : CaseLevel
   level = CaseItem-F.Values es colon body
 
   abbrev behind : List Function
-  behind = (conditions_of k es fs).functions
+  behind = (values_of k es fs).functions
 
   abbrev item : D.CaseFound
-  item = record { is_default = false; values = (conditions_of k es fs).result; body = (D.typed_stmt k body behind).result }
+  item = record { is_default = false; values = (values_of k es fs).result; body = (D.typed_stmt k body behind).result }
 
   here : item_of k x fs ≡ case_level level k fs
   here = ap (λ (t : Typing D.CaseFound). t fs) (case-meant level k x is)
@@ -104,7 +103,7 @@ module _ (k : Context) (x : CaseItem) (es : List Expr) (colon : ℕ) (body : X.S
         functions = subst (λ (r : Result (List Valued) Halt). Stops r ((item_of k x fs).functions ≡ hs)) (sym same) (loud-stops (listed vs) ((item_of k x fs).functions ≡ hs) l n);
         found = record {
           default = e.0;
-          values = subst (λ (r : Result (List Valued) Halt). Found r item.values) (sym same) (found-by (listed vs) (conditions_of k es fs) gs n v);
+          values = subst (λ (r : Result (List Valued) Halt). Found r item.values) (sym same) (found-by (listed vs) (values_of k es fs) gs n v);
           body = subst (λ (r : Result (List Valued) Halt). Stops r (Found c.body item.body)) (sym same) (loud-stops (listed vs) (Found c.body item.body) l n);
         };
       }
@@ -118,7 +117,7 @@ module _ (k : Context) (x : CaseItem) (es : List Expr) (colon : ℕ) (body : X.S
       → IsFoundTo c (item_of k x fs) js
   whole-item c made hs js quiet m e kept i =
       let q : is_loud (listed vs) ≡ false = listed-loud vs ∙ quiet in
-      let known : behind ≡ gs = known-by (listed vs) (conditions_of k es fs) gs q v in
+      let known : behind ≡ gs = known-by (listed vs) (values_of k es fs) gs q v in
       let values : listed c.values ≡ listed vs = ap listed i.1 in
       let n = i.3 in
       let functions : (item_of k x fs).functions ≡ js =
@@ -130,7 +129,7 @@ module _ (k : Context) (x : CaseItem) (es : List Expr) (colon : ℕ) (body : X.S
         functions = subst (λ (r : Result (List Valued) Halt). Stops r ((item_of k x fs).functions ≡ js)) (sym values) (quiet-stops (listed vs) ((item_of k x fs).functions ≡ js) q functions);
         found = record {
           default = i.0;
-          values = subst (λ (r : Result (List Valued) Halt). Found r item.values) (sym values) (found-by (listed vs) (conditions_of k es fs) gs (quiet-lacks (listed vs) q) v);
+          values = subst (λ (r : Result (List Valued) Halt). Found r item.values) (sym values) (found-by (listed vs) (values_of k es fs) gs (quiet-lacks (listed vs) q) v);
           body = subst (λ (r : Result (List Valued) Halt). Stops r (Found c.body item.body)) (sym values)
               (quiet-stops (listed vs) (Found c.body item.body) q (subst (λ (r : Result R.Stmt Halt). Found r item.body) (sym i.2) statement));
         };

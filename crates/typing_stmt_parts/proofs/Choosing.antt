@@ -24,10 +24,10 @@ use Rattle.stmt_types.specs.declared.cases.CaseFound.{CaseFound}
 use Rattle.stmt_types.proofs.Alike.{case-as-found}
 use Rattle.typing_steps.specs.Steps.{TypesTo}
 use Rattle.typing_steps.proofs.Combining.{beside-fine, checked-is, joined-loud, rule-types}
-use Rattle.typing_stmts.specs.Items.{AllFoundTo, AllGoOn, AreFoundTo, GoesOn, NotLacking, is_loud, item_of, items_of}
-use Rattle.typing_stmts.specs.Meanings.{case_meaning}
-use Rattle.typing_stmts.proofs.Finding.{found-by, known-by}
-use Rattle.typing_stmts.proofs.Rows.{items-whole}
+use Rattle.typing_stmt_parts.specs.Items.{AllFoundTo, AllGoOn, AreFoundTo, GoesOn, NotLacking, cases_of, halt_of, is_loud, item_of, items_of}
+use Rattle.typing_stmt_parts.specs.Meanings.{case_meaning}
+use Rattle.typing_stmt_parts.proofs.Finding.{found-by, known-by}
+use Rattle.typing_stmt_parts.proofs.Rows.{items-whole}
 
 -- it breaks a rule
 abbrev Loud : {A : Type 0} → Checked A → Type 0
@@ -122,15 +122,12 @@ loud-types (Err H.Quiet) c fs gs l g = let e = l.1 in absurd (cc)
 abbrev chosen : Context → CaseKeyword → Expr → List CaseItem → Typing R.Stmt
 chosen k keyword sought items = both (looked_at (D.condition k sought)) (items_of k items) (λ v cs. rule (D.case_stmt k (D.case_kind keyword) v cs))
 
-abbrev level : Context → CaseKeyword → Expr → List CaseItem → Typing R.Stmt
-level k keyword sought items = both (looked_at (D.condition k sought)) (all (map (λ (c : CaseMeaning). c k) (map case_meaning items))) (λ v cs. rule (D.case_stmt k (D.case_kind keyword) v cs))
-
 rows-same : (k : Context) (items : List CaseItem) → map (item_of k) items ≡ map (λ (c : CaseMeaning). c k) (map case_meaning items)
 rows-same k [] = refl
 rows-same k (x ∷ xs) = ap (λ (ts : List (Typing D.CaseFound)). item_of k x ∷ ts) (rows-same k xs)
 
-as-level : (k : Context) (keyword : CaseKeyword) (sought : Expr) (items : List CaseItem) (fs gs : List Function) (r : Result R.Stmt Halt) → TypesTo r (chosen k keyword sought items fs) gs → TypesTo r (level k keyword sought items fs) gs
-as-level k keyword sought items fs gs r p =
+as-cases : (k : Context) (keyword : CaseKeyword) (sought : Expr) (items : List CaseItem) (fs gs : List Function) (r : Result R.Stmt Halt) → TypesTo r (chosen k keyword sought items fs) gs → TypesTo r (cases_of k keyword sought items fs) gs
+as-cases_of k keyword sought items fs gs r p =
     subst (λ (ts : List (Typing D.CaseFound)). TypesTo r (both (looked_at (D.condition k sought)) (all ts) (λ v cs. rule (D.case_stmt k (D.case_kind keyword) v cs)) fs) gs) (rows-same k items) p
 
 goes-on-is : {A : Type 0} (s u : Result A Halt) → GoesOn s (Ok u) → u ≡ s
@@ -160,7 +157,7 @@ both-then {C = C} x y f fs gs js hs a b r p q g = subst (λ (t : Typed C). Types
 
 pub case-types : (k : Context) (keyword : CaseKeyword) (sought : Expr) (items : List CaseItem) (fs gs hs : List Function) (s u : Result Valued Halt) (v : Vec CaseFound Global) (r : Result R.Stmt Halt) → GoesOn s (Ok u)
     → TypesTo s (D.condition k sought fs) gs → AllFoundTo (Ok v) (items_of k items gs) hs → Gives r (D.case_stmt k (D.case_kind keyword) (found_by k.source u) (map (item_found k.source) v.items))
-    → TypesTo r (level k keyword sought items fs) hs
+    → TypesTo r (cases_of k keyword sought items fs) hs
 case-types k keyword sought items fs gs hs s u v r on p found g =
     let quiet = goes-on-quiet s u on in
     let m = (D.condition k sought fs).result in
@@ -177,7 +174,7 @@ case-types k keyword sought items fs gs hs s u v r on p found g =
       | inl same ↦ subst (λ (ls : List Function). TypesTo r (rule made js) ls) same (rule-types r made js given)
       | inr loud ↦ loud-types r made js hs (case-loud k kind m found.of loud) given
     ] in
-    as-level k keyword sought items fs hs r
+    as-cases_of k keyword sought items fs hs r
     (both-then (looked_at (D.condition k sought)) (items_of k items) (λ a cs. rule (D.case_stmt k kind a cs)) fs gs js hs m found.of r selector (row-is row found.of found.gives) ends)
   where
     looked : Checked Valued → List Function → Typed (Checked Valued)
@@ -191,10 +188,10 @@ same-stop : (g h : Halt) → stopping g ≡ Err h → g ≡ h
 same-stop g h e = cc
 
 pub case-stops : (k : Context) (keyword : CaseKeyword) (sought : Expr) (items : List CaseItem) (fs gs hs : List Function) (s : Result Valued Halt) (h : Halt) → GoesOn s (Err h) → TypesTo s (D.condition k sought fs) gs
-    → TypesTo {A = R.Stmt} (Err h) (level k keyword sought items fs) hs
+    → TypesTo {A = R.Stmt} (Err h) (cases_of k keyword sought items fs) hs
 case-stops k keyword sought items fs gs hs (Ok v) h on p = absurd (cc)
 case-stops k keyword sought items fs gs hs (Err H.Quiet) h on p = absurd (cc)
-case-stops k keyword sought items fs gs hs (Err H.Memory) h on p = subst (λ (g : Halt). TypesTo {A = R.Stmt} (Err g) (level k keyword sought items fs) hs) (sym (same-stop h H.Memory on)) tt
+case-stops k keyword sought items fs gs hs (Err H.Memory) h on p = subst (λ (g : Halt). TypesTo {A = R.Stmt} (Err g) (cases_of k keyword sought items fs) hs) (sym (same-stop h H.Memory on)) tt
 case-stops k keyword sought items fs gs hs (Err (H.Breaks at n)) h on p =
     let b : Break = record { at = at; rule = n } in
     let kind = D.case_kind keyword in
@@ -205,9 +202,31 @@ case-stops k keyword sought items fs gs hs (Err (H.Breaks at n)) h on p =
     let made = D.case_stmt k kind m row.0 in
     let loud : Loud made = (b, selector-loud k kind m row.0 b p) in
     let ends : TypesTo {A = R.Stmt} (Err (H.Breaks at n)) (rule made js) hs = loud-types (Err (H.Breaks at n)) made js hs loud loud.1 in
-    subst (λ (g : Halt). TypesTo {A = R.Stmt} (Err g) (level k keyword sought items fs) hs) (sym (same-stop h (H.Breaks at n) on))
-    (as-level k keyword sought items fs hs (Err (H.Breaks at n))
+    subst (λ (g : Halt). TypesTo {A = R.Stmt} (Err g) (cases_of k keyword sought items fs) hs) (sym (same-stop h (H.Breaks at n) on))
+    (as-cases_of k keyword sought items fs hs (Err (H.Breaks at n))
     (both-then (looked_at (D.condition k sought)) (items_of k items) (λ a cs. rule (D.case_stmt k kind a cs)) fs ls js hs m row.0 (Err (H.Breaks at n)) refl (row-is (items_of k items ls) row.0 row.1) ends))
 
-pub case-lacks : (k : Context) (keyword : CaseKeyword) (sought : Expr) (items : List CaseItem) (fs hs : List Function) (h : Halt) → h ≡ H.Memory → TypesTo {A = R.Stmt} (Err h) (level k keyword sought items fs) hs
-case-lacks k keyword sought items fs hs h e = subst (λ (g : Halt). TypesTo {A = R.Stmt} (Err g) (level k keyword sought items fs) hs) (sym e) tt
+pub case-lacks : (k : Context) (keyword : CaseKeyword) (sought : Expr) (items : List CaseItem) (fs hs : List Function) (h : Halt) → h ≡ H.Memory → TypesTo {A = R.Stmt} (Err h) (cases_of k keyword sought items fs) hs
+case-lacks k keyword sought items fs hs h e = subst (λ (g : Halt). TypesTo {A = R.Stmt} (Err g) (cases_of k keyword sought items fs) hs) (sym e) tt
+
+-- where the selector or the items aren't there
+abbrev a_halt : Halt → Option Halt
+a_halt h = Some h
+
+same-halt : (g h : Halt) → a_halt g ≡ Some h → h ≡ g
+same-halt g h e = cc
+
+pub case-halts : (k : Context) (keyword : CaseKeyword) (sought : Expr) (items : List CaseItem) (fs gs hs : List Function) (s : Result Valued Halt) (u : Result (Result Valued Halt) Halt) (f : Result (Vec CaseFound Global) Halt) (h : Halt)
+    → GoesOn s u → halt_of u f ≡ Some h → TypesTo s (D.condition k sought fs) gs → AllFoundTo f (items_of k items gs) hs → TypesTo {A = R.Stmt} (Err h) (cases_of k keyword sought items fs) hs
+case-halts k keyword sought items fs gs hs s (Ok v) (Ok w) h on e p q = absurd (cc)
+case-halts k keyword sought items fs gs hs s (Ok v) (Err g) h on e p q = case-lacks k keyword sought items fs hs h (same-halt g h e ∙ q)
+case-halts k keyword sought items fs gs hs s (Err g) f h on e p q =
+    case-stops k keyword sought items fs gs hs s h (subst (λ (i : Halt). GoesOn s (Err i)) (sym (same-halt g h e)) on) p
+
+-- where both are there
+pub case-found : (k : Context) (keyword : CaseKeyword) (sought : Expr) (items : List CaseItem) (fs gs hs : List Function) (s u : Result Valued Halt) (g : Result (Result Valued Halt) Halt) (v : Vec CaseFound Global)
+    (f : Result (Vec CaseFound Global) Halt) (kind : CaseKind) (r : Result R.Stmt Halt) → GoesOn s g → g ≡ Ok u → f ≡ Ok v → kind ≡ D.case_kind keyword
+    → Gives r (D.case_stmt k kind (found_by k.source u) (map (item_found k.source) v.items)) → TypesTo s (D.condition k sought fs) gs → AllFoundTo f (items_of k items gs) hs → TypesTo r (cases_of k keyword sought items fs) hs
+case-found k keyword sought items fs gs hs s u g v f kind r on e is same given p q =
+    case-types k keyword sought items fs gs hs s u v r (subst (λ (x : Result (Result Valued Halt) Halt). GoesOn s x) e on) p (subst (λ (x : Result (Vec CaseFound Global) Halt). AllFoundTo x (items_of k items gs) hs) is q)
+    (subst (λ (c : CaseKind). Gives r (D.case_stmt k c (found_by k.source u) (map (item_found k.source) v.items))) same given)

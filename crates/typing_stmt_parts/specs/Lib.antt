@@ -1,0 +1,4 @@
+pub mod Meanings
+pub mod Items
+pub mod Parts
+pub mod Blocks
