@@ -27,18 +27,8 @@ use typing_lvalues::{assign, counted};
 use typing_parts::{Known, Names};
 use typing_scopes::{Base, Scope};
 use typing_stmt_parts::{
-    Part,
-    block_by,
-    case_of,
-    empty,
-    ended,
-    ends,
-    item_by,
-    joined,
-    no_values,
-    of_declared,
-    of_statement,
-    some_of,
+    Part, block_by, case_of, empty, ended, ends, item_by, joined, no_values, of_declared,
+    of_statement, some_of,
 };
 use typing_tasks::task_called;
 
