@@ -19,7 +19,7 @@ use Rattle.stmt_types.specs.declared.blocks.BlockPart.{BlockPart}
 use Rattle.stmt_types.proofs.Building.{built-is}
 use Rattle.typing_calls.specs.Lists.{as_meant}
 use Rattle.typing_scopes.specs.Ahead.{mapped}
-use Rattle.typing_scopes.proofs.Turning.{ahead-alike, ahead-breaks, ahead-end, ahead-quiet, ahead-start, ahead-whole, behind-breaks, behind-end, behind-quiet, behind-whole}
+use Rattle.typing_scopes.proofs.Turning.{ahead-alike, ahead-breaks, ahead-end, ahead-quiet, ahead-whole, behind-breaks, behind-end, behind-quiet, behind-whole}
 use Rattle.typing_steps.specs.Steps.{StopsBy, TypesTo}
 use Rattle.typing_steps.proofs.Combining.{checked-fine, checked-stops}
 use Rattle.typing_stmt_parts.specs.declared.parts.Part.{Part}

@@ -24,7 +24,7 @@ use Rattle.stmt_types.specs.declared.cases.CaseFound.{CaseFound}
 use Rattle.stmt_types.proofs.Alike.{case-as-found}
 use Rattle.typing_steps.specs.Steps.{TypesTo}
 use Rattle.typing_steps.proofs.Combining.{beside-fine, checked-is, joined-loud, rule-types}
-use Rattle.typing_stmt_parts.specs.Items.{AllFoundTo, AllGoOn, AreFoundTo, GoesOn, NotLacking, cases_of, halt_of, is_loud, item_of, items_of}
+use Rattle.typing_stmt_parts.specs.Items.{AllFoundTo, AllGoOn, GoesOn, NotLacking, cases_of, halt_of, is_loud, item_of, items_of}
 use Rattle.typing_stmt_parts.specs.Meanings.{case_meaning}
 use Rattle.typing_stmt_parts.proofs.Finding.{found-by, known-by}
 use Rattle.typing_stmt_parts.proofs.Rows.{items-whole}

@@ -1,5 +1,5 @@
 -- Items of `case` statements as they are found.
-use Rattle.std.proofs.Common.{◌≡◌, ◌≤◌, ℕ, Bool, true, false, List, [], length, min, take, Option, refl, arith, sym, ap, ◌∙◌, subst}
+use Rattle.std.proofs.Common.{◌≡◌, ◌≤◌, ℕ, true, false, List, [], length, min, take, Option, refl, arith, sym, ap, ◌∙◌, subst}
 use Rattle.std.specs.Prelude.{Result, Ok, Err, Vec}
 use Rattle.std.specs.declared.alloc.Global.{Global}
 use Rattle.std.proofs.lemmas.List.{length-take}
@@ -11,13 +11,12 @@ use Rattle.sv_types.specs.declared.statement.Stmt as R
 use Rattle.expr_type.specs.declared.halt.Halt.{Halt}
 use Rattle.expr_type.specs.declared.halt.Halt.TheVariants as H
 use Rattle.expr_type.specs.declared.operand.Valued.{Valued}
-use Rattle.expr_type.specs.Answers.{reason}
 use Rattle.expr_type.specs.Names.{Context}
 use Rattle.expr_type.specs.Statements as D
 use Rattle.expr_type.specs.Typings.{Checked, Typed, Typing, known_behind, tried}
 use Rattle.known_functions.proofs.Laws.{cut-back}
 use Rattle.routine_fits.specs.Sound.{AllSoundFunctions}
-use Rattle.stmt_types.specs.Cases.{Found, IsFound, Stops}
+use Rattle.stmt_types.specs.Cases.{Found, Stops}
 use Rattle.stmt_types.specs.Lists.{listed}
 use Rattle.stmt_types.specs.declared.cases.CaseFound.{CaseFound}
 use Rattle.typing_fits.specs.Sound.{Extends}

@@ -1,5 +1,5 @@
 -- Items of `case` statements that lack no memory.
-use Rattle.std.proofs.Common.{◌≡◌, Bool, false, List, refl, sym, subst}
+use Rattle.std.proofs.Common.{◌≡◌, Bool, false, refl, sym, subst}
 use Rattle.std.specs.Prelude.{Result, Ok, Err, Vec}
 use Rattle.std.specs.declared.alloc.Global.{Global}
 use Rattle.sv_types.specs.declared.statement.Stmt as R

@@ -1,14 +1,11 @@
 -- Items of blocks and what may be left out, as they are made of what has been typed.
-use Rattle.std.proofs.Common.{◌≡◌, List, Option, Some, None, refl, sym, ap, subst}
-use Rattle.std.specs.Prelude.{IfOk, Result, Ok, Err, Vec}
-use Rattle.std.specs.declared.alloc.Global.{Global}
+use Rattle.std.proofs.Common.{◌≡◌, List, Option, Some, refl, sym, subst}
+use Rattle.std.specs.Prelude.{IfOk, Result, Ok, Err}
 use Rattle.sv_types.specs.declared.statement.Function.{Function}
 use Rattle.sv_types.specs.declared.statement.Stmt as R
 use Rattle.expr_type.specs.declared.halt.Halt.{Halt}
-use Rattle.expr_type.specs.declared.halt.Halt.TheVariants as H
-use Rattle.expr_type.specs.Names.{Context, Called}
 use Rattle.expr_type.specs.Statements as D
-use Rattle.expr_type.specs.Typings.{Typed, Typing, checked, whole}
+use Rattle.expr_type.specs.Typings.{Typing, checked, whole}
 use Rattle.stmt_laws.specs.Sound.{SoundDeclared}
 use Rattle.typing_calls.specs.Lists.{as_meant}
 use Rattle.typing_scopes.specs.declared.declared.Declared.{Declared}

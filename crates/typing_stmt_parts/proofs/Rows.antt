@@ -1,20 +1,15 @@
 -- Items of `case` statements in a row.
 use Rattle.std.proofs.Common.{◌≡◌, ◌<◌, ◌+◌, ℕ, true, false, List, [], ◌∷◌, ◌++◌, drop, length, get_or, map, take, refl, sym, ap, ◌∙◌, subst}
-use Rattle.std.specs.Prelude.{◌≤◌, Result, Ok, Err, Vec}
-use Rattle.std.specs.declared.alloc.Global.{Global}
+use Rattle.std.specs.Prelude.{◌≤◌, Result, Ok, Err}
 use Rattle.std.proofs.lemmas.List.{drop_more, map-append, take-append-drop, take_all, take_more}
-use Rattle.sv_tree.specs.declared.statements.BlockItem.{BlockItem}
 use Rattle.sv_tree.specs.declared.statements.CaseItem.{CaseItem, CaseItem-F, out-CaseItem, fold_out-CaseItem}
-use Rattle.sv_tree.specs.declared.statements.Else.{Else}
-use Rattle.sv_tree.specs.declared.statements.Stmt as X
 use Rattle.sv_types.specs.declared.statement.Function.{Function}
 use Rattle.expr_type.specs.declared.halt.Halt.{Halt}
 use Rattle.expr_type.specs.declared.halt.Halt.TheVariants as H
-use Rattle.expr_type.specs.declared.operand.Valued.{Valued}
 use Rattle.expr_type.specs.Names.{Context}
 use Rattle.expr_type.specs.Statements as D
 use Rattle.expr_type.specs.Statements.{CaseMeaning, PartMeaning, StmtMeaning}
-use Rattle.expr_type.specs.Typings.{Checked, Typed, Typing, all, applied, beside, both, checked, joined, whole}
+use Rattle.expr_type.specs.Typings.{Checked, Typed, Typing, all, applied, joined, whole}
 use Rattle.stmt_types.specs.Cases.{AllFound, Found, IsFound, Stops}
 use Rattle.stmt_types.specs.Lists.{listed}
 use Rattle.stmt_types.specs.declared.cases.CaseFound.{CaseFound}
@@ -22,7 +17,6 @@ use Rattle.typing_steps.specs.Steps.{TypesTo}
 use Rattle.typing_steps.proofs.Lists.{all-append}
 use Rattle.typing_steps.proofs.Turns.{next-fine}
 use Rattle.typing_stmt_parts.specs.Items.{AllGoOn, AreFoundTo, IsFoundTo, is_loud, item_of, items_of, values_of}
-use Rattle.typing_stmt_parts.proofs.Finding.{known-by}
 use Rattle.typing_stmt_parts.proofs.Levels.{CaseLevel, case_level}
 
 -- each item is found, whatever it breaks

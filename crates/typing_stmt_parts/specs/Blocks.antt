@@ -1,5 +1,5 @@
 -- How far a loop over the items of a block has come.
-use Rattle.std.specs.Prelude.{ℕ, List, [], ◌++◌, drop, map, Option, Some, None, Vec}
+use Rattle.std.specs.Prelude.{List, ◌++◌, map, Option, Some, None, Vec}
 use Rattle.std.specs.declared.alloc.Global.{Global}
 use Rattle.sv_tree.specs.declared.statements.BlockItem.{BlockItem}
 use Rattle.sv_types.specs.declared.statement.Function.{Function}

@@ -11,7 +11,6 @@ use Rattle.expr_type.specs.Typings.{Typing, checked, whole}
 use Rattle.stmt_laws.specs.Sound.{SoundDeclared}
 use Rattle.stmt_types.specs.Blocks.{block_stmt, built_of, part_of}
 use Rattle.stmt_types.specs.declared.blocks.BlockPart.{BlockPart}
-use Rattle.typing_scopes.specs.declared.declared.Declared.{Declared}
 use Rattle.typing_scopes.specs.Scopes.{means}
 use Rattle.typing_stmt_parts.specs.declared.parts.Part.{Part}
 use Rattle.typing_stmt_parts.specs.declared.parts.Part.TheVariants as P

@@ -1,15 +1,14 @@
 -- Texts behind declarations and in loops.
-use Rattle.std.proofs.Common.{◌≡◌, ℕ, Bool, true, ◌&&◌, Option, Some, None, List, refl, sym, ap, ◌∙◌, subst}
+use Rattle.std.proofs.Common.{◌≡◌, ℕ, true, Option, Some, None, List, refl, sym, ap, ◌∙◌, subst}
 use Rattle.std.specs.Prelude.{IfOk, Result, Ok, Err, Vec}
 use Rattle.std.specs.declared.alloc.Global.{Global}
 use Rattle.sv_tree.specs.declared.statements.LoopStart.{LoopStart}
 use Rattle.sv_types.specs.declared.statement.Function.{Function}
-use Rattle.sv_types.specs.declared.statement.Stmt as R
 use Rattle.expr_type.specs.declared.halt.Halt.{Halt}
 use Rattle.expr_type.specs.declared.halt.Halt.TheVariants as H
 use Rattle.expr_type.specs.Names.{Context, Called}
 use Rattle.expr_type.specs.Statements as D
-use Rattle.expr_type.specs.Typings.{Checked, Typed, Typing}
+use Rattle.expr_type.specs.Typings.{Typed, Typing}
 use Rattle.routine_fits.specs.Sound.{AllSoundFunctions}
 use Rattle.stmt_laws.specs.Sound.{SoundDeclared}
 use Rattle.stmt_laws.specs.Written.{start_written}
