@@ -127,7 +127,7 @@ rows-same k [] = refl
 rows-same k (x ∷ xs) = ap (λ (ts : List (Typing D.CaseFound)). item_of k x ∷ ts) (rows-same k xs)
 
 as-cases : (k : Context) (keyword : CaseKeyword) (sought : Expr) (items : List CaseItem) (fs gs : List Function) (r : Result R.Stmt Halt) → TypesTo r (chosen k keyword sought items fs) gs → TypesTo r (cases_of k keyword sought items fs) gs
-as-cases_of k keyword sought items fs gs r p =
+as-cases k keyword sought items fs gs r p =
     subst (λ (ts : List (Typing D.CaseFound)). TypesTo r (both (looked_at (D.condition k sought)) (all ts) (λ v cs. rule (D.case_stmt k (D.case_kind keyword) v cs)) fs) gs) (rows-same k items) p
 
 goes-on-is : {A : Type 0} (s u : Result A Halt) → GoesOn s (Ok u) → u ≡ s
@@ -174,7 +174,7 @@ case-types k keyword sought items fs gs hs s u v r on p found g =
       | inl same ↦ subst (λ (ls : List Function). TypesTo r (rule made js) ls) same (rule-types r made js given)
       | inr loud ↦ loud-types r made js hs (case-loud k kind m found.of loud) given
     ] in
-    as-cases_of k keyword sought items fs hs r
+    as-cases k keyword sought items fs hs r
     (both-then (looked_at (D.condition k sought)) (items_of k items) (λ a cs. rule (D.case_stmt k kind a cs)) fs gs js hs m found.of r selector (row-is row found.of found.gives) ends)
   where
     looked : Checked Valued → List Function → Typed (Checked Valued)
@@ -203,7 +203,7 @@ case-stops k keyword sought items fs gs hs (Err (H.Breaks at n)) h on p =
     let loud : Loud made = (b, selector-loud k kind m row.0 b p) in
     let ends : TypesTo {A = R.Stmt} (Err (H.Breaks at n)) (rule made js) hs = loud-types (Err (H.Breaks at n)) made js hs loud loud.1 in
     subst (λ (g : Halt). TypesTo {A = R.Stmt} (Err g) (cases_of k keyword sought items fs) hs) (sym (same-stop h (H.Breaks at n) on))
-    (as-cases_of k keyword sought items fs hs (Err (H.Breaks at n))
+    (as-cases k keyword sought items fs hs (Err (H.Breaks at n))
     (both-then (looked_at (D.condition k sought)) (items_of k items) (λ a cs. rule (D.case_stmt k kind a cs)) fs ls js hs m row.0 (Err (H.Breaks at n)) refl (row-is (items_of k items ls) row.0 row.1) ends))
 
 pub case-lacks : (k : Context) (keyword : CaseKeyword) (sought : Expr) (items : List CaseItem) (fs hs : List Function) (h : Halt) → h ≡ H.Memory → TypesTo {A = R.Stmt} (Err h) (cases_of k keyword sought items fs) hs
