@@ -341,7 +341,7 @@ pub case_items-loop-item-init : goal.case_items-loop-item-init
 case_items-loop-item-init g t c = record {
   made = none-yet (context_of g.B.Names.context c.args.names.now) c.new-made.result.items c.args.known.now.functions c.new-made.ensures.items;
   ready = c.requires.ready;
-  keeps = extends-same _;
+  keeps = extends-same c.args.known.now.functions;
 }
 
 pub case_items-loop-item-preserved : goal.case_items-loop-item-preserved
@@ -498,7 +498,7 @@ block-loop-item-init g t c =
       names = subst (λ (l : Context). Surrounded AllSoundFunctions l) (sym c.inside-inner.ensures.context) c.requires.names;
       routine = ap (λ (l : Context). l.routine) c.inside-inner.ensures.context;
       ready = c.requires.ready;
-      keeps = extends-same _;
+      keeps = extends-same c.args.known.now.functions;
     }
 
 pub block-loop-item-preserved : goal.block-loop-item-preserved
@@ -521,6 +521,9 @@ block-loop-item-preserved g t c =
       ready = c.part-next.ensures.ready;
       keeps = extends-then _ _ _ c.loop-item.invariant.keeps c.part-next.ensures.keeps;
     }
+
+pub block-returns-in_err-made-clause-keeps : goal.block-returns-in_err-made-clause-keeps
+block-returns-in_err-made-clause-keeps g t c = extends-then _ _ _ c.loop-item.invariant.keeps c.part-next.ensures.keeps
 
 pub block-returns-in_err-made-clause-value : goal.block-returns-in_err-made-clause-value
 block-returns-in_err-made-clause-value g t c =
