@@ -1,0 +1,89 @@
+-- Functions and tasks part by part, as they are looked at.
+use Rattle.std.specs.Prelude.{◌≡◌, ℕ, Bool, true, false, cond, List, [], ◌∷◌, map, Option, Some, None, Result, Ok, Err}
+use Rattle.sv_source.specs.declared.token.Spot.{Spot}
+use Rattle.sv_tree.specs.declared.expressions.Dimension.{Dimension}
+use Rattle.sv_tree.specs.declared.functions.Formal as G
+use Rattle.sv_tree.specs.declared.statements.BlockItem.{BlockItem}
+use Rattle.sv_types.specs.declared.frame.ParamValue.{ParamValue}
+use Rattle.sv_types.specs.declared.statement.Formal.{Formal}
+use Rattle.sv_types.specs.declared.statement.Function.{Function}
+use Rattle.sv_types.specs.declared.statement.FunctionKind.{FunctionKind}
+use Rattle.sv_types.specs.declared.statement.FunctionKind.TheVariants as K
+use Rattle.sv_types.specs.declared.statement.Stmt.{Stmt}
+use Rattle.sv_types.specs.declared.types.SvType.{SvType}
+use Rattle.sv_types.specs.Layouts.{width_of}
+use Rattle.expr_type.specs.declared.halt.Halt.{Halt}
+use Rattle.expr_type.specs.declared.halt.Halt.TheVariants as H
+use Rattle.expr_type.specs.Functions as F
+use Rattle.expr_type.specs.Functions.{Head, behind_head, formals_of, function_result, head, names_if, type_if, typed_routine}
+use Rattle.expr_type.specs.Names.{Context, Home, RoutineText, OfFunction, OfTask}
+use Rattle.expr_type.specs.Operators.{not_too_long}
+use Rattle.expr_type.specs.Shapes.{one_bit}
+use Rattle.expr_type.specs.Statements.{block, item_meaning}
+use Rattle.expr_type.specs.Types.{TypeFound, declared_type}
+use Rattle.expr_type.specs.Typings.{Typed, Typing, beside_by, checked, rule, whole}
+use Rattle.typing_scopes.specs.Ahead.{halted}
+use Rattle.typing_steps.specs.Steps.{StopsBy, TypesTo}
+use Rattle.typing_routines.specs.Rows.{formal_in}
+use Rattle.typing_routines.specs.declared.results.ResultFound.{ResultFound}
+
+-- a type with the dimensions behind a name that has it
+abbrev pub with_dims : Context → Typing TypeFound → List Dimension → Typing (TypeFound × SvType)
+with_dims k x ds = beside_by x (λ o. declared_type (names_if k o) (type_if o) ds)
+
+-- what a function gives, as the code has it
+abbrev pub kind_by : Bool → FunctionKind
+kind_by true = K.Plain
+kind_by false = K.Routine
+
+abbrev pub plain_result : Bool → SvType → List ParamValue → F.ResultFound
+plain_result plain of names = record { kind = kind_by plain; of = of; names = names }
+
+abbrev pub result_of : ResultFound → F.ResultFound
+result_of r = plain_result r.plain r.of r.names
+
+abbrev pub no_result : F.ResultFound
+no_result = plain_result false one_bit []
+
+abbrev pub result_typed : Context → ℕ → Typing (TypeFound × SvType) → Typing F.ResultFound
+result_typed k at x = checked x (λ p. rule (not_too_long k.source at (width_of p.1) (Ok (plain_result true p.1 p.0.names))))
+
+-- the head and the body of a function
+abbrev pub body_typed : Context → ℕ → Typing F.ResultFound → List G.Formal → List BlockItem → Typing (Head × Stmt)
+body_typed k name x gs items = beside_by (head k name x gs) (λ o. block (behind_head k name o) (map item_meaning items))
+
+-- formals and a body, of a head with this result
+pub record AreParts (made : List Formal) (body : Stmt) (r : F.ResultFound) (t : Typed (Head × Stmt)) (fs : List Function) : Type 0 where
+  pub head : Head
+  pub gives : t ≡ record { result = Ok (head, body); functions = fs }
+  pub result : head.result ≡ r
+  pub formals : map formal_in head.formals ≡ made
+
+abbrev pub PartsTo : Result (List Formal × Stmt) Halt → F.ResultFound → Typed (Head × Stmt) → List Function → Type 0
+PartsTo (Ok p) r t fs = AreParts p.0 p.1 r t fs
+PartsTo (Err h) r t fs = StopsBy h t fs
+
+-- a body behind formals, or looked at behind those that break nothing and aren't whole
+abbrev pub BodyTo : List Formal → Result (List Formal × Stmt) Halt → Context → List BlockItem → List Function → List Function → Type 0
+BodyTo made (Ok p) j items fs gs = (p.0 ≡ made) × (block j (map item_meaning items) fs ≡ record { result = Ok p.1; functions = gs })
+BodyTo made (Err h) j items fs gs = StopsBy h (block j (map item_meaning items) fs) gs
+
+pub record LooksOn (result : Result (List Formal × Stmt) Halt) (k : Context) (items : List BlockItem) (fs gs : List Function) : Type 0 where
+  pub body : Result Stmt Halt
+  pub is : result ≡ Err (halted body)
+  pub gives : TypesTo body (block k (map item_meaning items) fs) gs
+
+abbrev pub BehindTo : Result (List Formal) Halt → Result (List Formal × Stmt) Halt → Context → Context → List BlockItem → List Function → List Function → Type 0
+BehindTo (Ok made) r j k items fs gs = BodyTo made r j items fs gs
+BehindTo (Err H.Memory) r j k items fs gs = r ≡ Err H.Memory
+BehindTo (Err (H.Breaks at rule)) r j k items fs gs = r ≡ Err (H.Breaks at rule)
+BehindTo (Err H.Quiet) r j k items fs gs = LooksOn r k items fs gs
+
+-- a function as it is made
+abbrev pub made_of : ℕ → List ℕ → Spot → Bool → SvType → List Formal → Stmt → Function
+made_of instance path s plain of formals body = record { instance = instance; path = path; spot = s; kind = kind_by plain; of = of; formals = formals; body = body }
+
+-- a function or task by its text, where it is typed
+abbrev pub routine_of : Context → Home → RoutineText → Typing Function
+routine_of k h (OfFunction f) = typed_routine k h f.name (function_result k f.name f.unpacked f.of) (formals_of f.formals) f.items
+routine_of k h (OfTask t) = typed_routine k h t.name (whole no_result) (formals_of t.formals) t.items
