@@ -20,10 +20,11 @@ use Rattle.typing_steps.specs.Steps.{StopsBy, TypesTo}
 use Rattle.typing_values.specs.Values.{behind}
 use Rattle.typing_steps.proofs.Combining.{checked-fine, checked-stops}
 use Rattle.typing_steps.proofs.Following.{by-breaks, by-fine, by-second}
-use Rattle.typing_routines.specs.Rows.{AreFormals, FormalsTo, HeadsTo, IsHead, formal_in, head_rest}
-use Rattle.typing_routines.specs.Routines.{AreParts, BehindTo, BodyTo, LooksOn, PartsTo, body_typed, kind_by, made_of}
-use Rattle.typing_routines.proofs.Parts.{beside-quiet, both-quiet, both-breaks, both-whole}
-use Rattle.typing_routines.proofs.Heading.{head-is}
+use Rattle.typing_heads.specs.Rows.{AreFormals, FormalsTo, HeadsTo, IsHead, formal_in, head_rest}
+use Rattle.typing_heads.specs.Giving.{kind_by}
+use Rattle.typing_routines.specs.Routines.{AreParts, BehindTo, BodyTo, LooksOn, PartsTo, body_typed, made_of}
+use Rattle.typing_heads.proofs.Parts.{beside-quiet, both-quiet, both-breaks, both-whole}
+use Rattle.typing_heads.proofs.Heading.{head-is}
 
 module _ (k : Context) (name : ℕ) (x : Typing ResultFound) (gs : List G.Formal) (items : List BlockItem) where
   abbrev formals_by : Option ResultFound → Typing (List FormalFound)

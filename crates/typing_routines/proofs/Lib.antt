@@ -1,7 +1,1 @@
-pub mod Parts
-pub mod InRows
-pub mod Heading
 pub mod Bodied
-pub mod Placing
-pub mod Under
-pub mod Arms

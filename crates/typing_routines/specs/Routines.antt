@@ -24,29 +24,8 @@ use Rattle.expr_type.specs.Types.{TypeFound, declared_type}
 use Rattle.expr_type.specs.Typings.{Typed, Typing, beside_by, checked, rule, whole}
 use Rattle.typing_scopes.specs.Ahead.{halted}
 use Rattle.typing_steps.specs.Steps.{StopsBy, TypesTo}
-use Rattle.typing_routines.specs.Rows.{formal_in}
-use Rattle.typing_routines.specs.declared.results.ResultFound.{ResultFound}
-
--- a type with the dimensions behind a name that has it
-abbrev pub with_dims : Context → Typing TypeFound → List Dimension → Typing (TypeFound × SvType)
-with_dims k x ds = beside_by x (λ o. declared_type (names_if k o) (type_if o) ds)
-
--- what a function gives, as the code has it
-abbrev pub kind_by : Bool → FunctionKind
-kind_by true = K.Plain
-kind_by false = K.Routine
-
-abbrev pub plain_result : Bool → SvType → List ParamValue → F.ResultFound
-plain_result plain of names = record { kind = kind_by plain; of = of; names = names }
-
-abbrev pub result_of : ResultFound → F.ResultFound
-result_of r = plain_result r.plain r.of r.names
-
-abbrev pub no_result : F.ResultFound
-no_result = plain_result false one_bit []
-
-abbrev pub result_typed : Context → ℕ → Typing (TypeFound × SvType) → Typing F.ResultFound
-result_typed k at x = checked x (λ p. rule (not_too_long k.source at (width_of p.1) (Ok (plain_result true p.1 p.0.names))))
+use Rattle.typing_heads.specs.Giving.{kind_by, no_result}
+use Rattle.typing_heads.specs.Rows.{formal_in}
 
 -- the head and the body of a function
 abbrev pub body_typed : Context → ℕ → Typing F.ResultFound → List G.Formal → List BlockItem → Typing (Head × Stmt)

@@ -13,17 +13,15 @@ ghost use Rattle.routine_laws.specs.Sound.{SoundResult};
 ghost use Rattle.routine_laws.specs.Texts.{formals_written};
 ghost use Rattle.stmt_laws.specs.Written.{items_written};
 ghost use Rattle.sv_types.specs.declared.statement.Function.{Function};
-ghost use Rattle.typing_calls.specs.Lists.{as_meant};
 ghost use Rattle.typing_fits.specs.Sound.{Extends};
 ghost use Rattle.typing_walks.specs.Keeps.{Surrounded};
 ghost use Rattle.typing_parts.specs.Typists.{IsReady, MakesKnown};
+ghost use Rattle.typing_scopes.specs.Ahead.{mapped};
 ghost use Rattle.typing_scopes.specs.Scopes.{context_of};
 ghost use Rattle.typing_steps.specs.Steps.{StopsBy, TypesTo};
-ghost use Rattle.typing_routines.specs.Routines.{BehindTo, PartsTo, body_typed, kind_by, made_of, plain_result, result_of};
+ghost use Rattle.typing_heads.specs.Giving.{kind_by, plain_result, result_of};
+ghost use Rattle.typing_routines.specs.Routines.{BehindTo, PartsTo, body_typed, made_of};
 
-use crate::formals::formals;
-use crate::heads::{head_formals, in_body};
-use crate::results::ResultFound;
 use expr_type::{Halt, Source};
 use frame_things::Rows;
 use operand_types::spot_at;
@@ -31,6 +29,7 @@ use std::alloc::{AllocError, Global};
 use sv_source::Text;
 use sv_tree::BlockItem;
 use sv_types::{Formals, Function, FunctionKind, ParamValue, Stmt, SvType};
+use typing_heads::{ResultFound, formals, head_formals, in_body};
 use typing_parts::{Known, Names};
 use typing_scopes::{Base, Scope};
 use typing_stmts::block;
@@ -219,7 +218,7 @@ pub(crate) fn typed_routine<B: Base, C: Fn(u32, &mut Known) -> Result<u32, Halt>
     requires written { formals_written list.now ≡ true }
     requires items { items_written items.now ≡ true }
     requires ready { IsReady known.old }
-    ensures value { (h : Home) (x : Typing means.ResultFound) (fs : List Function) → h.instance ≡ instance → means.function_path h (names.word (context_of B.context outer.now).source name) ≡ path → TypesTo (as_meant result_of found) (x fs) known.old.functions → TypesTo result (means.typed_routine (context_of B.context outer.now) h name x list.now items.now fs) known.new.functions }
+    ensures value { (h : Home) (x : Typing means.ResultFound) (fs : List Function) → h.instance ≡ instance → means.function_path h (names.word (context_of B.context outer.now).source name) ≡ path → TypesTo (mapped result_of found) (x fs) known.old.functions → TypesTo result (means.typed_routine (context_of B.context outer.now) h name x list.now items.now fs) known.new.functions }
     ensures ready { IsReady known.new }
     ensures keeps { Extends known.old.functions known.new.functions }
 {

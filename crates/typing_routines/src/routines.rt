@@ -15,13 +15,13 @@ ghost use Rattle.typing_steps.specs.Steps.{TypesTo};
 ghost use Rattle.typing_routines.specs.Routines.{routine_of};
 
 use crate::bodies::typed_routine;
-use crate::results::{function_result, no_result};
 use expr_type::Halt;
 use source_routines::Routine;
 use std::alloc::Global;
 use sv_source::Text;
 use sv_tree::FormalList;
 use sv_types::Function;
+use typing_heads::{function_result, no_result};
 use typing_parts::Known;
 use typing_scopes::{Base, Scope};
 

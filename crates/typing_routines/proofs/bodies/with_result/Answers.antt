@@ -5,9 +5,9 @@ use Rattle.routine_laws.proofs.Heads.{body-sound}
 use Rattle.typing_scopes.specs.Scopes.{context_of}
 use Rattle.typing_scopes.proofs.Behind.{needs-alike}
 use Rattle.typing_walks.specs.Keeps.{Surrounded}
-use Rattle.typing_routines.specs.Routines.{plain_result}
+use Rattle.typing_heads.specs.Giving.{plain_result}
 use Rattle.typing_routines.proofs.Bodied.{parts-by}
-use Rattle.typing_routines.proofs.Heading.{head-around, head-needs}
+use Rattle.typing_heads.proofs.Heading.{head-around, head-needs}
 use Rattle.typing_routines.proofs.bodies.with_result.Goals as goal
 
 pub head_formals-requires-clause-needs : goal.head_formals-requires-clause-needs
