@@ -10,7 +10,7 @@ use Rattle.expr_type.specs.declared.halt.Halt.{Halt}
 use Rattle.expr_type.specs.declared.halt.Halt.TheVariants as H
 use Rattle.expr_type.specs.Functions as F
 use Rattle.expr_type.specs.Functions.{behind_formal, in_body}
-use Rattle.expr_type.specs.Names.{Context, local_id, with_locals, with_values}
+use Rattle.expr_type.specs.Names.{Context, LocalId, local_id, with_locals, with_values}
 use Rattle.expr_type.specs.Types.{TypeFound}
 use Rattle.expr_type.specs.Typings.{Typed}
 use Rattle.typing_scopes.specs.Ahead.{mapped}
@@ -53,6 +53,14 @@ turn-breaks k o at n t gs is p = subst (λ (z : Result FormalFound Halt). TypesT
 pub in-none : (k j : Context) (name : ℕ) (plain : Bool) (of : SvType) (names : List ParamValue) → plain ≡ false → j ≡ with_values names k → record j { result = None } ≡ in_body k name (Some (plain_result plain of names))
 in-none k j name plain of names is same =
     subst (λ (b : Bool). record j { result = None } ≡ in_body k name (Some (plain_result b of names))) (sym is) (ap (λ (q : Context). record q { result = None }) same)
+
+abbrev named : ℕ → SvType → LocalId
+named d t = record { decl = d; number = 0; of = t }
+
+pub own-is : (k j : Context) (name d : ℕ) (t u : SvType) → d ≡ k.declared name → u ≡ t → j ≡ with_locals (record { decl = d; number = 0; of = u } ∷ []) k → record j { result = Some t } ≡ with_result k name t
+own-is k j name d t u is same behind =
+    ap (λ (q : Context). record q { result = Some t })
+    (behind ∙ ap (λ (n : ℕ). with_locals (named n u ∷ []) k) is ∙ ap (λ (x : SvType). with_locals (named (k.declared name) x ∷ []) k) same)
 
 pub in-plain : (k j : Context) (name : ℕ) (plain : Bool) (of : SvType) (names : List ParamValue) → plain ≡ true → j ≡ with_values names k → with_result j name of ≡ in_body k name (Some (plain_result plain of names))
 in-plain k j name plain of names is same =

@@ -49,11 +49,11 @@ fn dims_behind<B: Base, C: Fn(u32, &mut Known) -> Result<u32, Halt>>(
     let mut inner = Scope::inside(alloc, names);
     inner.add_values(declared)?;
     let t = declared_type(alloc, &inner, needs, Some(&of), ds, known)?;
-    let found = TypeFound {
+    let kept = TypeFound {
         of,
         names: inner.into_values(),
     };
-    Ok((found, t))
+    Ok((kept, t))
 }
 
 /// A type with the dimensions behind a name that has it. Where the type breaks nothing and isn't whole, the dimensions are looked at for

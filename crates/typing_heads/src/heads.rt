@@ -50,12 +50,13 @@ fn with_result<'s, B: Base>(
 ) -> Result<Scope<'s, B>, AllocError>
     ensures { IfOk result (λ s. context_of B.context s ≡ with_result (context_of B.context front) name of.now) }
 {
-    let mut inner = front;
+    let copy = copy_type(alloc, of)?;
     let local = NamedLocal {
-        decl: inner.declaration(name),
+        decl: front.declaration(name),
         number: 0,
-        of: copy_type(alloc, of)?,
+        of: copy,
     };
+    let mut inner = front;
     inner.add_local(local)?;
     Ok(inner.within(Some(of)))
 }

@@ -26,10 +26,11 @@ fn local_of<B: Base>(
 ) -> Result<NamedLocal, AllocError>
     ensures { IfOk result (λ l. things.local_id l ≡ names.local_id (context_of B.context inner.now) at of.now) }
 {
+    let copy = copy_type(alloc, of)?;
     Ok(NamedLocal {
         decl: inner.declaration(at),
         number: inner.local_number(at),
-        of: copy_type(alloc, of)?,
+        of: copy,
     })
 }
 

@@ -2,7 +2,6 @@ use Rattle.std.proofs.Common.{◌≡◌, ◌∙◌, subst}
 use Rattle.std.specs.Prelude.{IfOk}
 use Rattle.expr_type.specs.Names.{Context}
 use Rattle.typing_scopes.specs.Scopes.{context_of}
-use Rattle.typing_scopes.specs.declared.scope.Scope.{Scope}
 use Rattle.typing_heads.proofs.Placing.{in-none, in-plain}
 use Rattle.typing_heads.proofs.heads.in_body.Goals as goal
 
