@@ -2,6 +2,7 @@
 
 ghost use Rattle.std.specs.Prelude.{◌≡◌, [], List, None, cond, true, IfOk};
 ghost use Rattle.sv_types.specs.declared.statement.Function.{Function};
+ghost use Rattle.sv_types.specs.declared.types.SvType.{SvType};
 ghost use Rattle.expr_type.specs.Answers.{Gives};
 ghost use Rattle.expr_type.specs.Functions as means;
 ghost use Rattle.expr_type.specs.Names.{Context};
