@@ -121,7 +121,7 @@ fn is_too_long(list: &[Formal]) -> bool
     requires { AllFormalsNarrow list.now }
     ensures { result ≡ nat_lt 65536 (bits_out list.now) }
 {
-    bits_of_all(list) > MOST_OUT
+    MOST_OUT < bits_of_all(list)
 }
 
 /// The formals behind a result: those that are outputs have at most 65,536 bits together (E701 at the routine's name).

@@ -1,9 +1,16 @@
-use Rattle.std.proofs.Common.{◌≡◌, ◌++◌, List, ap, ◌∙◌}
+use Rattle.std.proofs.Common.{◌≡◌, ◌++◌, List, Err, ap, sym, ◌∙◌, subst}
+use Rattle.std.specs.Prelude.{Result}
+use Rattle.std.proofs.lemmas.Result.{err_from_is_err_and}
 use Rattle.sv_types.specs.declared.frame.ParamValue.{ParamValue}
+use Rattle.sv_types.specs.declared.types.SvType.{SvType}
+use Rattle.expr_type.specs.declared.halt.Halt.{Halt}
 use Rattle.expr_type.specs.Names.{Context, with_values}
+use Rattle.expr_type.specs.Types.{TypeFound}
 use Rattle.typing_scopes.specs.Scopes.{context_of}
 use Rattle.typing_scopes.proofs.Behind.{needs-alike}
-use Rattle.typing_heads.proofs.Under.{dims-made, found-sound, nil-behind, sound-inside}
+use Rattle.typing_steps.specs.Steps.{TypesTo}
+use Rattle.typing_heads.specs.Giving.{whole_dims}
+use Rattle.typing_heads.proofs.Under.{dims-made, dims-stopped, found-sound, nil-behind, sound-inside}
 use Rattle.typing_heads.proofs.dims.dims_behind.Goals as goal
 
 pub declared_type-requires-clause-needs : goal.declared_type-requires-clause-needs
@@ -19,6 +26,18 @@ declared_type-requires-clause-names g c =
     let vs = c.found.inside.names in
     sound-inside (context_of of c.args.names.now) (context_of of c.add_values.new.self) vs (c.in_ok-add_values.ensures.context ∙ ap (λ (x : Context). with_values vs x) c.inside-inner.ensures.context) c.requires.names
     (found-sound c.found.inside.of vs c.args.found c.found.view_is c.requires.sound)
+
+pub returns-in_err-t-clause-value : goal.returns-in_err-t-clause-value
+returns-in_err-t-clause-value g c =
+    let of = g.B.Names.context in
+    let k = context_of of c.args.names.now in
+    let vs = c.found.inside.names in
+    let fs = c.args.known.now.functions in
+    let gs = c.declared_type.new.known.functions in
+    let e = err_from_is_err_and c.from_residual-in_err-t.result c.from_residual-in_err-t.ensures.1 in
+    subst (λ (r : Result (TypeFound × SvType) Halt). TypesTo r (whole_dims k c.args.found c.args.ds.now fs) gs) (sym (e.1 ∙ ap Err e.2))
+    (dims-stopped (context_of of c.add_values.new.self) k c.args.found c.found.inside.of vs c.args.ds.now c.in_err-t.field-0.0 fs gs c.found.view_is
+    (c.in_ok-add_values.ensures.context ∙ ap (λ (x : Context). with_values vs x) c.inside-inner.ensures.context) c.in_err-t.ensures.value)
 
 pub returns-clause-value : goal.returns-clause-value
 returns-clause-value g c =
