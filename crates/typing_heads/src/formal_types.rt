@@ -88,7 +88,8 @@ fn whole_before(before: Before) -> Result<TypeFound, Halt>
     ensures value { (fs : List Function) → TypesTo result (means.type_before (before_of before) None fs) fs }
     ensures sound { IfOk result (λ f. AllValuesSound f.names) }
 {
-    match before.of {
+    let of = before.of;
+    match of {
         None => Err(Halt::Quiet),
         Some(found) => Ok(found),
     }

@@ -48,7 +48,7 @@ fn with_result<'s, B: Base>(
     name: u32,
     of: &'s SvType,
 ) -> Result<Scope<'s, B>, AllocError>
-    ensures { IfOk result (λ s. context_of B.context s ≡ with_result (context_of B.context front) name of.now) }
+    ensures { IfOk result (λ s. context_of B.context s ≡ with_result (context_of B.context front.entry) name of.now) }
 {
     let copy = copy_type(alloc, of)?;
     let local = NamedLocal {
