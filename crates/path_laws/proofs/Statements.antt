@@ -361,13 +361,13 @@ abbrev TurnsTyped : Turns → Type 0
 TurnsTyped t = AssignsTyped t.body
 
 loop-gives : (k : Context) (keyword : ℕ) (first : LoopStart) (test : X.Expr) (step : LoopStep) (body : StmtMeaning) → PlainText k → OfStmt body
-    → Gives AssignsTyped (both_by (loop_variable k first) (λ o. let inner = in_loop k o in both (both (condition inner test) (loop_step inner step) control) (body inner) turns) (λ v t. whole (loop_stmt k keyword v t)))
+    → Gives AssignsTyped (both_by (loop_variable k first) (λ o. let inner = in_loop k o in both (both (condition inner test) (loop_step inner o step) control) (body inner) turns) (λ v t. whole (loop_stmt k keyword v t)))
 loop-gives k keyword first test step body p h =
-    by-gives VariablePlain TurnsTyped AssignsTyped (loop_variable k first) (λ o. let inner = in_loop k o in both (both (condition inner test) (loop_step inner step) control) (body inner) turns) (λ v t. whole (loop_stmt k keyword v t))
+    by-gives VariablePlain TurnsTyped AssignsTyped (loop_variable k first) (λ o. let inner = in_loop k o in both (both (condition inner test) (loop_step inner o step) control) (body inner) turns) (λ v t. whole (loop_stmt k keyword v t))
     (variable-gives k first p)
     (λ o q.
     let inner = in_loop k o in
-    both-gives Anything AssignsTyped TurnsTyped (both (condition inner test) (loop_step inner step) control) (body inner) turns (anything (both (condition inner test) (loop_step inner step) control)) (h inner (in-loop k o p q))
+    both-gives Anything AssignsTyped TurnsTyped (both (condition inner test) (loop_step inner o step) control) (body inner) turns (anything (both (condition inner test) (loop_step inner o step) control)) (h inner (in-loop k o p q))
     (λ c s r t. whole-gives TurnsTyped (record { control = c; body = s }) t))
     (λ v t q r.
     whole-gives AssignsTyped (loop_stmt k keyword v t)
