@@ -37,7 +37,7 @@ use Rattle.expr_type.specs.Expressions.{operand, select_meaning}
 use Rattle.expr_type.specs.TargetNames.{named_target}
 use Rattle.expr_type.specs.Targets as X
 use Rattle.expr_type.specs.Targets.{Target, ToPath, target, parts_of, simple_name}
-use Rattle.expr_type.specs.Statements.{operator_of, is_later, combined, assign, assignment, one, step_operator, counted, Declared, BlockPart, IsStatement, IsDeclared, PartMeaning, behind_part, block_parts, in_block, built, block, empty, result, return_value, returned, condition, Branches, branches, else_if, case_kind, CaseFound, CaseItem, CaseMeaning, whole_item, case_items, default_body, widest, selector_at, item_at, case_stmt, LoopVariable, loop_variable, in_loop, loop_step, control, Turns, turns, loop_stmt, Actual, as_value, actual_by, ways, actuals, takes_result, is_inout, value_passed, actual_expr, all_actuals, call_stmt_of, call_stmt, StmtMeaning}
+use Rattle.expr_type.specs.Statements.{operator_of, is_later, combined, assign, assignment, one, step_operator, counted, Declared, BlockPart, IsStatement, IsDeclared, PartMeaning, behind_part, block_parts, in_block, built, block, empty, result, return_value, returned, condition, Branches, branches, else_if, case_kind, CaseFound, CaseItem, CaseMeaning, whole_item, case_items, default_body, widest, selector_at, item_at, case_stmt, LoopVariable, loop_variable, in_loop, id_of, loop_step, control, Turns, turns, loop_stmt, Actual, as_value, actual_by, ways, actuals, takes_result, is_inout, value_passed, actual_expr, all_actuals, call_stmt_of, call_stmt, StmtMeaning}
 use Rattle.typing_fits.specs.Sound.{Sound}
 use Rattle.typing_fits.specs.Operands.{SoundFixed, SoundOperand, KnownCall}
 use Rattle.typing_fits.proofs.Calls.{all-front, none-all}
@@ -390,7 +390,7 @@ module _ (Q : List Function → Type 0) (s : Signals) where
 
   -- `for`
   abbrev loop_in : Context → S.Expr → LoopStep → StmtMeaning → Option LoopVariable → Typing Turns
-  loop_in k test step body o = let inner = in_loop k o in both (both (condition inner test) (loop_step inner o step) control) (body inner) turns
+  loop_in k test step body o = let inner = in_loop k o in both (both (condition inner test) (loop_step inner (id_of o) step) control) (body inner) turns
 
   abbrev TurnsWrite : Turns → List Function → Type 0
   TurnsWrite t gs = WritesLocals t.body gs
@@ -400,10 +400,10 @@ module _ (Q : List Function → Type 0) (s : Signals) where
   inside-loop k (Some v) gs r x = record { text = record { around = Z.loop-behind Q k v gs r.text.around x; result = r.text.result }; names = r.names }
 
   turns-keep : (k : Context) (test : S.Expr) (step : LoopStep) (body : StmtMeaning) (o : Option LoopVariable) (gs : List Function) → Within Q s k → is_written test ≡ true → step_written step ≡ true → OfStmt body
-      → IfKnown SoundVariable o gs → Keeps Q TurnsWrite (both (both (condition k test) (loop_step k o step) control) (body k) turns)
+      → IfKnown SoundVariable o gs → Keeps Q TurnsWrite (both (both (condition k test) (loop_step k (id_of o) step) control) (body k) turns)
   turns-keep k test step body o gs r w u h x =
-      K.both-keeps Q Anything WritesLocals TurnsWrite (both (condition k test) (loop_step k o step) control) (body k) turns any-lasts
-      (K.both-keeps Q Sound Anything Anything (condition k test) (loop_step k o step) control valued-lasts (Z.condition-keeps Q k test r.text.around w) (Z.step-anyway Q k o step gs r.text.around u x)
+      K.both-keeps Q Anything WritesLocals TurnsWrite (both (condition k test) (loop_step k (id_of o) step) control) (body k) turns any-lasts
+      (K.both-keeps Q Sound Anything Anything (condition k test) (loop_step k (id_of o) step) control valued-lasts (Z.condition-keeps Q k test r.text.around w) (Z.step-anyway Q k o step gs r.text.around u x)
       (λ v e js q y z. K.whole-kept Q Anything (record { test = v; step = e }) js q tt)) (h k r)
       (λ c b js q y z. K.whole-kept Q TurnsWrite (record { control = c; body = b }) js q z)
 

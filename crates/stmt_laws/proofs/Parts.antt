@@ -22,14 +22,14 @@ use Rattle.sv_types.proofs.OperatorLengths.{length-vec}
 use Rattle.expr_type.specs.declared.operand.Valued.{Valued}
 use Rattle.expr_type.specs.Breaks.{Breaks, At, Quiet}
 use Rattle.expr_type.specs.Typings.{Checked, Typing, whole, broken, rule, checked, both, looked_at, tried, known_behind}
-use Rattle.expr_type.specs.Names.{Context, Thing, Local, position, thing, found, or_thing, local_in, value_in, type_in, signal_in, Interface, Other, local_id}
+use Rattle.expr_type.specs.Names.{Context, LocalId, Thing, Local, position, thing, found, or_thing, local_in, value_in, type_in, signal_in, Interface, Other, local_id}
 use Rattle.expr_type.specs.Operands.{Operand, first_of, unstreamed}
 use Rattle.expr_type.specs.Operators.{by_itself, not_too_long}
 use Rattle.expr_type.specs.Expressions.{Meaning, operand, select_meaning}
 use Rattle.expr_type.specs.TargetNames.{named_target, thing_target, is_net_found}
 use Rattle.expr_type.specs.Targets.{Target, ToPath, ToParts, ToStream, simple_name, target}
 use Rattle.expr_type.specs.Types.{TypeFound, typed_text}
-use Rattle.expr_type.specs.Statements.{assignment, one, step_operator, counted, condition, first_by, loop_first, LoopVariable, loop_type, loop_variable, in_loop, loop_target, step_value, loop_step, Actual, as_value, as_target, actual_by, actuals}
+use Rattle.expr_type.specs.Statements.{assignment, one, step_operator, counted, condition, first_by, loop_first, LoopVariable, loop_type, loop_variable, in_loop, id_of, loop_target, step_value, loop_step, Actual, as_value, as_target, actual_by, actuals}
 use Rattle.typing_fits.specs.Sound.{Extends, IsNarrowType, Sound, AllSound, SoundFor}
 use Rattle.typing_fits.specs.Operands.{SoundFixed, SoundOperand}
 use Rattle.typing_fits.proofs.Given.{sound-later, operand-later, for-later, extends-itself}
@@ -235,21 +235,21 @@ module _ (Q : List Function → Type 0) where
   loop-behind k v gs r s = record { context = locals-behind (v.id ∷ []) k (s.of, tt) r.context; routines = r.routines }
 
   -- the step of a loop
-  variable-path : (k : Context) (v : LoopVariable) (name : ℕ) → IsNarrowType v.id.of → Keeps Q (PathOf v.id.of) (loop_target k (Some v) name)
+  variable-path : (k : Context) (v : LocalId) (name : ℕ) → IsNarrowType v.of → Keeps Q (PathOf v.of) (loop_target k (Some v) name)
   variable-path k v name s =
-      let x = by_itself k.source name v.id.of (F.Local v.id.number) in
-      K.whole-keeps Q (PathOf v.id.of) (ToPath x) (λ gs. record { path = x; is = refl; of = refl; sound = record { none = refl; sound = local-sound k.source name v.id.of v.id.number gs s } })
+      let x = by_itself k.source name v.of (F.Local v.number) in
+      K.whole-keeps Q (PathOf v.of) (ToPath x) (λ gs. record { path = x; is = refl; of = refl; sound = record { none = refl; sound = local-sound k.source name v.of v.number gs s } })
 
-  pub step-keeps : (k : Context) (step : LoopStep) (v : LoopVariable) → Surrounded Q k → step_written step ≡ true → IsNarrowType v.id.of → Keeps Q (GivenTo v.id.of) (loop_step k (Some v) step)
+  pub step-keeps : (k : Context) (step : LoopStep) (v : LocalId) → Surrounded Q k → step_written step ≡ true → IsNarrowType v.of → Keeps Q (GivenTo v.of) (loop_step k (Some v) step)
   step-keeps k (L.Assign name op at e) v r w s =
-      K.both-keeps Q (PathOf v.id.of) SoundOperand (GivenTo v.id.of) (loop_target k (Some v) name) (operand k e) (λ t o. rule (step_value k at op t o)) (path-lasts v.id.of) (variable-path k v name s) (value-keeps k e r w)
-      (λ t o js q p x. K.rule-kept Q (GivenTo v.id.of) (step_value k at op t o) js q (λ y g. path-stepped v.id.of k at op t o y js g p x))
+      K.both-keeps Q (PathOf v.of) SoundOperand (GivenTo v.of) (loop_target k (Some v) name) (operand k e) (λ t o. rule (step_value k at op t o)) (path-lasts v.of) (variable-path k v name s) (value-keeps k e r w)
+      (λ t o js q p x. K.rule-kept Q (GivenTo v.of) (step_value k at op t o) js q (λ y g. path-stepped v.of k at op t o y js g p x))
   step-keeps k (L.Postfix name op at) v r w s =
-      K.checked-keeps Q (PathOf v.id.of) (GivenTo v.id.of) (loop_target k (Some v) name) (λ t. rule (step_value k at (step_operator op) t (one k at))) (variable-path k v name s)
-      (λ t js q p. K.rule-kept Q (GivenTo v.id.of) (step_value k at (step_operator op) t (one k at)) js q (λ y g. path-stepped v.id.of k at (step_operator op) t (one k at) y js g p (one-sound k at js)))
+      K.checked-keeps Q (PathOf v.of) (GivenTo v.of) (loop_target k (Some v) name) (λ t. rule (step_value k at (step_operator op) t (one k at))) (variable-path k v name s)
+      (λ t js q p. K.rule-kept Q (GivenTo v.of) (step_value k at (step_operator op) t (one k at)) js q (λ y g. path-stepped v.of k at (step_operator op) t (one k at) y js g p (one-sound k at js)))
   step-keeps k (L.Prefix op at name) v r w s =
-      K.checked-keeps Q (PathOf v.id.of) (GivenTo v.id.of) (loop_target k (Some v) name) (λ t. rule (step_value k at (step_operator op) t (one k at))) (variable-path k v name s)
-      (λ t js q p. K.rule-kept Q (GivenTo v.id.of) (step_value k at (step_operator op) t (one k at)) js q (λ y g. path-stepped v.id.of k at (step_operator op) t (one k at) y js g p (one-sound k at js)))
+      K.checked-keeps Q (PathOf v.of) (GivenTo v.of) (loop_target k (Some v) name) (λ t. rule (step_value k at (step_operator op) t (one k at))) (variable-path k v name s)
+      (λ t js q p. K.rule-kept Q (GivenTo v.of) (step_value k at (step_operator op) t (one k at)) js q (λ y g. path-stepped v.of k at (step_operator op) t (one k at) y js g p (one-sound k at js)))
 
   abbrev AnyTarget : Target → List Function → Type 0
   AnyTarget t gs = Unit {0}
@@ -267,6 +267,6 @@ module _ (Q : List Function → Type 0) where
       (λ t js q p. K.rule-kept Q Anything (step_value k at (step_operator op) t (one k at)) js q (λ y g. tt))
 
   -- whether or not it is known
-  pub step-anyway : (k : Context) (o : Option LoopVariable) (step : LoopStep) (gs : List Function) → Surrounded Q k → step_written step ≡ true → IfKnown SoundVariable o gs → Keeps Q Anything (loop_step k o step)
+  pub step-anyway : (k : Context) (o : Option LoopVariable) (step : LoopStep) (gs : List Function) → Surrounded Q k → step_written step ≡ true → IfKnown SoundVariable o gs → Keeps Q Anything (loop_step k (id_of o) step)
   step-anyway k None step gs r w x = unknown-keeps k step r w
-  step-anyway k (Some v) step gs r w x hs q = let h = step-keeps k step v r w x.of hs q in record { extends = h.extends; kept = h.kept; sound = λ a e. tt }
+  step-anyway k (Some v) step gs r w x hs q = let h = step-keeps k step v.id r w x.of hs q in record { extends = h.extends; kept = h.kept; sound = λ a e. tt }

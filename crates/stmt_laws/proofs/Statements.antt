@@ -17,7 +17,7 @@ use Rattle.expr_type.specs.Names.{Context, spot}
 use Rattle.expr_type.specs.Operands.{Operand}
 use Rattle.expr_type.specs.Forms.{needed_with}
 use Rattle.expr_type.specs.Expressions.{Meaning, operand}
-use Rattle.expr_type.specs.Statements.{BlockPart, IsStatement, IsDeclared, PartMeaning, behind_part, block_parts, built, block, empty, returned, return_value, condition, Branches, branches, else_if, case_kind, CaseFound, CaseMeaning, case_stmt, LoopVariable, loop_variable, in_loop, loop_step, Control, control, Turns, turns, loop_stmt, Actual, ways, actuals, call_stmt_of, call_stmt, StmtMeaning, Declared}
+use Rattle.expr_type.specs.Statements.{BlockPart, IsStatement, IsDeclared, PartMeaning, behind_part, block_parts, built, block, empty, returned, return_value, condition, Branches, branches, else_if, case_kind, CaseFound, CaseMeaning, case_stmt, LoopVariable, loop_variable, in_loop, id_of, loop_step, Control, control, Turns, turns, loop_stmt, Actual, ways, actuals, call_stmt_of, call_stmt, StmtMeaning, Declared}
 use Rattle.typing_fits.specs.Sound.{Sound, AllSound, SoundAlone, SoundFor}
 use Rattle.typing_fits.specs.Operands.{SoundOperand, KnownCall}
 use Rattle.typing_fits.proofs.Full.{and-left, and-right}
@@ -225,12 +225,12 @@ module _ (Q : List Function → Type 0) where
 
   -- `for`
   abbrev loop_in : Context → S.Expr → LoopStep → StmtMeaning → Option LoopVariable → Typing Turns
-  loop_in k test step body o = let inner = in_loop k o in both (both (condition inner test) (loop_step inner o step) control) (body inner) turns
+  loop_in k test step body o = let inner = in_loop k o in both (both (condition inner test) (loop_step inner (id_of o) step) control) (body inner) turns
 
-  control-keeps : (k : Context) (test : S.Expr) (v : LoopVariable) (step : LoopStep) → Surrounded Q k → is_written test ≡ true → Keeps Q (GivenTo v.id.of) (loop_step k (Some v) step)
-      → Keeps Q (SoundControl v.id.of) (both (condition k test) (loop_step k (Some v) step) control)
+  control-keeps : (k : Context) (test : S.Expr) (v : LoopVariable) (step : LoopStep) → Surrounded Q k → is_written test ≡ true → Keeps Q (GivenTo v.id.of) (loop_step k (Some v.id) step)
+      → Keeps Q (SoundControl v.id.of) (both (condition k test) (loop_step k (Some v.id) step) control)
   control-keeps k test v step r w h =
-      K.both-keeps Q Sound (GivenTo v.id.of) (SoundControl v.id.of) (condition k test) (loop_step k (Some v) step) control valued-lasts (condition-keeps Q k test r w) h
+      K.both-keeps Q Sound (GivenTo v.id.of) (SoundControl v.id.of) (condition k test) (loop_step k (Some v.id) step) control valued-lasts (condition-keeps Q k test r w) h
       (λ x e js q y z. K.whole-kept Q (SoundControl v.id.of) (record { test = x; step = e }) js q (record { test = is-alone x js y; step = z }))
 
   turns-known : (k : Context) (test : S.Expr) (step : LoopStep) (body : StmtMeaning) (v : LoopVariable) (gs : List Function) → AroundStatements Q k → is_written test ≡ true → step_written step ≡ true
@@ -239,8 +239,8 @@ module _ (Q : List Function → Type 0) where
       let inner = in_loop k (Some v) in
       let around = loop-behind Q k v gs r.around s in
       let stands : AroundStatements Q inner = record { around = around; result = r.result } in
-      K.both-keeps Q (SoundControl v.id.of) SoundStmt (SoundTurns v.id.of) (both (condition inner test) (loop_step inner (Some v) step) control) (body inner) turns (control-lasts v.id.of)
-      (control-keeps inner test v step around w (step-keeps Q inner step v around u s.of)) (h inner stands)
+      K.both-keeps Q (SoundControl v.id.of) SoundStmt (SoundTurns v.id.of) (both (condition inner test) (loop_step inner (Some v.id) step) control) (body inner) turns (control-lasts v.id.of)
+      (control-keeps inner test v step around w (step-keeps Q inner step v.id around u s.of)) (h inner stands)
       (λ c b js q x y. K.whole-kept Q (SoundTurns v.id.of) (record { control = c; body = b }) js q (record { control = x; body = y }))
 
   turns-anywhere : (k : Context) (test : S.Expr) (step : LoopStep) (body : StmtMeaning) → AroundStatements Q k → is_written test ≡ true → step_written step ≡ true → OfStmt body → Keeps Q Anything (loop_in k test step body None)
