@@ -97,7 +97,6 @@ module _ (Q : List Function → Type 0) where
   abbrev written_item : BlockItem-F BlockItem CaseItem Stmt Else → Bool
   written_item z = W.item_step (map-BlockItem BlockItem CaseItem Stmt Else Bool Bool Bool Bool item_written case_written stmt_written else_written z)
 
-
   abbrev meant_item : BlockItem-F BlockItem CaseItem Stmt Else → PartMeaning
   meant_item z = T.item_step (map-BlockItem BlockItem CaseItem Stmt Else PartMeaning CaseMeaning StmtMeaning StmtMeaning item_meaning case_meaning stmt_meaning else_meaning z)
 
@@ -114,7 +113,6 @@ module _ (Q : List Function → Type 0) where
   abbrev written_case : CaseItem-F BlockItem CaseItem Stmt Else → Bool
   written_case z = W.case_step (map-CaseItem BlockItem CaseItem Stmt Else Bool Bool Bool Bool item_written case_written stmt_written else_written z)
 
-
   abbrev meant_case : CaseItem-F BlockItem CaseItem Stmt Else → CaseMeaning
   meant_case z = T.case_step (map-CaseItem BlockItem CaseItem Stmt Else PartMeaning CaseMeaning StmtMeaning StmtMeaning item_meaning case_meaning stmt_meaning else_meaning z)
 
@@ -125,7 +123,6 @@ module _ (Q : List Function → Type 0) where
 
   abbrev written_stmt : Stmt-F BlockItem CaseItem Stmt Else → Bool
   written_stmt z = W.stmt_step (map-Stmt BlockItem CaseItem Stmt Else Bool Bool Bool Bool item_written case_written stmt_written else_written z)
-
 
   abbrev meant_stmt : Stmt-F BlockItem CaseItem Stmt Else → StmtMeaning
   meant_stmt z = T.stmt_step (map-Stmt BlockItem CaseItem Stmt Else PartMeaning CaseMeaning StmtMeaning StmtMeaning item_meaning case_meaning stmt_meaning else_meaning z)
