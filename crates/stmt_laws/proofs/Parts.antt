@@ -269,4 +269,4 @@ module _ (Q : List Function → Type 0) where
   -- whether or not it is known
   pub step-anyway : (k : Context) (o : Option LoopVariable) (step : LoopStep) (gs : List Function) → Surrounded Q k → step_written step ≡ true → IfKnown SoundVariable o gs → Keeps Q Anything (loop_step k (id_of o) step)
   step-anyway k None step gs r w x = unknown-keeps k step r w
-  step-anyway k (Some v) step gs r w x hs q = let h = step-keeps k step v.id r w x.of hs q in record { extends = h.extends; kept = h.kept; sound = λ a e. tt }
+  step-anyway k (Some v) step gs r w x = λ hs q. let h = step-keeps k step v.id r w x.of hs q in record { extends = h.extends; kept = h.kept; sound = λ a e. tt }
