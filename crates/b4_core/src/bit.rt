@@ -28,7 +28,7 @@ pub enum Edge {
 }
 
 /// A vector of four-state bits, least significant first.
-#[derive(Debug, Drop)]
+#[derive(Debug)]
 pub struct Vec4 {
     bits: Vec<Bit4>,
 }
@@ -40,6 +40,12 @@ impl Model for Vec4 {
     ghost Value = { List Bit4 };
 
     ghost view = { λ v. v.bits.items };
+}
+
+impl Drop for Vec4 {
+    fn drop(self) {
+        let Vec4 { bits: _ } = self;
+    }
 }
 
 impl Vec4 {

@@ -420,21 +420,26 @@ abbrev pub loop_variable : Context → LoopStart → Typing LoopVariable
 loop_variable k l =
     both_by (loop_type k l) (first_by k l) (λ f e. whole (record { id = local_id k l.name f.of; first = e }))
 
+abbrev pub id_of : Option LoopVariable → Option LocalId
+id_of o = option_map (λ (v : LoopVariable). v.id) o
+
 abbrev pub in_loop : Context → Option LoopVariable → Context
 in_loop k None = k
 in_loop k (Some v) = with_locals (v.id ∷ []) k
 
-abbrev pub loop_target : Context → ℕ → Typing Target
-loop_target k name = checked (named_target k true (simple_name name) []) (λ v. whole (ToPath v))
+-- A step assigns to the variable of its loop, whatever its name finds: another name breaks a rule of names (E404).
+abbrev pub loop_target : Context → Option LocalId → ℕ → Typing Target
+loop_target k None name = broken Quiet
+loop_target k (Some id) name = whole (ToPath (by_itself k.source name id.of (F.Local id.number)))
 
 -- what is assigned behind each turn; no stream stands there
 abbrev pub step_value : Context → ℕ → AssignmentOperator → Target → Operand → Checked Expr
 step_value k at op t o = where_whole (no_stream k.source o) (λ p. where_whole (combined k at (operator_of op) t p) (assigned k t))
 
-abbrev pub loop_step : Context → LoopStep → Typing Expr
-loop_step k (L.Assign name op at e) = both (loop_target k name) (operand k e) (λ t o. rule (step_value k at op t o))
-loop_step k (L.Postfix name op at) = checked (loop_target k name) (λ t. rule (step_value k at (step_operator op) t (one k at)))
-loop_step k (L.Prefix op at name) = checked (loop_target k name) (λ t. rule (step_value k at (step_operator op) t (one k at)))
+abbrev pub loop_step : Context → Option LocalId → LoopStep → Typing Expr
+loop_step k o (L.Assign name op at e) = both (loop_target k o name) (operand k e) (λ t p. rule (step_value k at op t p))
+loop_step k o (L.Postfix name op at) = checked (loop_target k o name) (λ t. rule (step_value k at (step_operator op) t (one k at)))
+loop_step k o (L.Prefix op at name) = checked (loop_target k o name) (λ t. rule (step_value k at (step_operator op) t (one k at)))
 
 pub record Control : Type 0 where
   pub test : Valued
@@ -549,7 +554,7 @@ stmt_step (Stmt-F.Case promise keyword opening sought closing items end) k =
 stmt_step (Stmt-F.For keyword opening first first_semicolon test test_semicolon step closing body) k =
     both_by (loop_variable k first)
     (λ o. let inner = in_loop k o in
-    both (both (condition inner test) (loop_step inner step) control) (body inner) turns)
+    both (both (condition inner test) (loop_step inner (id_of o) step) control) (body inner) turns)
     (λ v t. whole (loop_stmt k keyword v t))
 stmt_step (Stmt-F.Break keyword semicolon) k = whole S.Break
 stmt_step (Stmt-F.Continue keyword semicolon) k = whole S.Continue

@@ -9,9 +9,14 @@ use sv_source::Text;
 use sv_types::SignalId;
 
 /// Names of members, each with a number of its own.
-#[derive(Drop)]
 pub struct MemberNames {
     names: IndexSet<Text>,
+}
+
+impl Drop for MemberNames {
+    fn drop(self) {
+        let MemberNames { names: _ } = self;
+    }
 }
 
 impl MemberNames {
@@ -39,9 +44,14 @@ impl MemberNames {
 }
 
 /// Places by a declaration and the number of a name.
-#[derive(Drop)]
 pub struct Slots {
     slots: IndexMap<(u32, usize), usize>,
+}
+
+impl Drop for Slots {
+    fn drop(self) {
+        let Slots { slots: _ } = self;
+    }
 }
 
 impl Slots {

@@ -8,9 +8,14 @@ use indexmap::IndexMap;
 use std::alloc::{AllocError, Global};
 
 /// At which place of a list the first thing with each number stands.
-#[derive(Drop)]
 pub struct Places {
     places: IndexMap<u32, usize>,
+}
+
+impl Drop for Places {
+    fn drop(self) {
+        let Places { places: _ } = self;
+    }
 }
 
 impl Places {

@@ -22,10 +22,15 @@ pub struct Row<T> {
 }
 
 /// Things by their numbers. Contracts see them as a list, the latest first.
-#[derive(Drop)]
 pub struct Rows<T: Numbered> {
     rows: Items<Row<T>>,
     latest: IndexMap<u32, usize>,
+}
+
+impl<T: Numbered + Drop> Drop for Rows<T> {
+    fn drop(self) {
+        let Rows { rows: _, latest: _ } = self;
+    }
 }
 
 impl<T: Numbered> Model for Rows<T> {

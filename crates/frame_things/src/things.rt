@@ -11,7 +11,6 @@ use std::alloc::Global;
 use sv_types::{ParamType, ParamValue, SvType};
 
 /// A local, a formal, a loop variable, or a function's result in its own body.
-#[derive(Drop)]
 pub struct NamedLocal {
     /// The number of the declaration.
     pub decl: u32,
@@ -19,6 +18,16 @@ pub struct NamedLocal {
     pub number: u32,
     /// Its type.
     pub of: SvType,
+}
+
+impl Drop for NamedLocal {
+    fn drop(self) {
+        let NamedLocal {
+            decl: _,
+            number: _,
+            of: _,
+        } = self;
+    }
 }
 
 impl Numbered for NamedLocal {

@@ -39,7 +39,7 @@ use Rattle.expr_type.specs.TargetNames.{named_target}
 use Rattle.expr_type.specs.Targets as T
 use Rattle.expr_type.specs.Targets.{Target, ToPath, target, parts_of, simple_name}
 use Rattle.expr_type.specs.Statements as S
-use Rattle.expr_type.specs.Statements.{operator_of, is_later, combined, assign, assignment, continuous, one, step_operator, counted, Declared, behind, variables_of, selected_type, parameters, IsValue, BlockPart, IsStatement, IsDeclared, PartMeaning, behind_part, block_parts, in_block, built, block, empty, result, return_value, returned, condition, Branches, branches, case_kind, CaseItem, CaseFound, CaseMeaning, whole_item, case_items, default_body, item_at, selector_at, widest, case_stmt, first_by, LoopVariable, loop_type, loop_variable, in_loop, loop_step, Control, control, Turns, turns, loop_stmt, Actual, all_actuals, call_stmt_of, ways, actuals, call_stmt, StmtMeaning, else_if, typed_stmt, item_meaning, stmt_meaning}
+use Rattle.expr_type.specs.Statements.{operator_of, is_later, combined, assign, assignment, continuous, one, step_operator, counted, Declared, behind, variables_of, selected_type, parameters, IsValue, BlockPart, IsStatement, IsDeclared, PartMeaning, behind_part, block_parts, in_block, built, block, empty, result, return_value, returned, condition, Branches, branches, case_kind, CaseItem, CaseFound, CaseMeaning, whole_item, case_items, default_body, item_at, selector_at, widest, case_stmt, first_by, LoopVariable, loop_type, loop_variable, in_loop, id_of, loop_step, Control, control, Turns, turns, loop_stmt, Actual, all_actuals, call_stmt_of, ways, actuals, call_stmt, StmtMeaning, else_if, typed_stmt, item_meaning, stmt_meaning}
 use Rattle.typing_fits.proofs.Calls.{all-front, none-all}
 use Rattle.typing_fits.proofs.Contexts.{refused-then, whole-part, joined-both}
 use Rattle.typing_fits.proofs.Selects.{long-then}
@@ -361,13 +361,13 @@ abbrev TurnsTyped : Turns → Type 0
 TurnsTyped t = AssignsTyped t.body
 
 loop-gives : (k : Context) (keyword : ℕ) (first : LoopStart) (test : X.Expr) (step : LoopStep) (body : StmtMeaning) → PlainText k → OfStmt body
-    → Gives AssignsTyped (both_by (loop_variable k first) (λ o. let inner = in_loop k o in both (both (condition inner test) (loop_step inner step) control) (body inner) turns) (λ v t. whole (loop_stmt k keyword v t)))
+    → Gives AssignsTyped (both_by (loop_variable k first) (λ o. let inner = in_loop k o in both (both (condition inner test) (loop_step inner (id_of o) step) control) (body inner) turns) (λ v t. whole (loop_stmt k keyword v t)))
 loop-gives k keyword first test step body p h =
-    by-gives VariablePlain TurnsTyped AssignsTyped (loop_variable k first) (λ o. let inner = in_loop k o in both (both (condition inner test) (loop_step inner step) control) (body inner) turns) (λ v t. whole (loop_stmt k keyword v t))
+    by-gives VariablePlain TurnsTyped AssignsTyped (loop_variable k first) (λ o. let inner = in_loop k o in both (both (condition inner test) (loop_step inner (id_of o) step) control) (body inner) turns) (λ v t. whole (loop_stmt k keyword v t))
     (variable-gives k first p)
     (λ o q.
     let inner = in_loop k o in
-    both-gives Anything AssignsTyped TurnsTyped (both (condition inner test) (loop_step inner step) control) (body inner) turns (anything (both (condition inner test) (loop_step inner step) control)) (h inner (in-loop k o p q))
+    both-gives Anything AssignsTyped TurnsTyped (both (condition inner test) (loop_step inner (id_of o) step) control) (body inner) turns (anything (both (condition inner test) (loop_step inner (id_of o) step) control)) (h inner (in-loop k o p q))
     (λ c s r t. whole-gives TurnsTyped (record { control = c; body = s }) t))
     (λ v t q r.
     whole-gives AssignsTyped (loop_stmt k keyword v t)

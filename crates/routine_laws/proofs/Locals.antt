@@ -37,7 +37,7 @@ use Rattle.expr_type.specs.Expressions.{operand, select_meaning}
 use Rattle.expr_type.specs.TargetNames.{named_target}
 use Rattle.expr_type.specs.Targets as X
 use Rattle.expr_type.specs.Targets.{Target, ToPath, target, parts_of, simple_name}
-use Rattle.expr_type.specs.Statements.{operator_of, is_later, combined, assign, assignment, one, step_operator, counted, Declared, BlockPart, IsStatement, IsDeclared, PartMeaning, behind_part, block_parts, in_block, built, block, empty, result, return_value, returned, condition, Branches, branches, else_if, case_kind, CaseFound, CaseItem, CaseMeaning, whole_item, case_items, default_body, widest, selector_at, item_at, case_stmt, LoopVariable, loop_variable, in_loop, loop_step, control, Turns, turns, loop_stmt, Actual, as_value, actual_by, ways, actuals, takes_result, is_inout, value_passed, actual_expr, all_actuals, call_stmt_of, call_stmt, StmtMeaning}
+use Rattle.expr_type.specs.Statements.{operator_of, is_later, combined, assign, assignment, one, step_operator, counted, Declared, BlockPart, IsStatement, IsDeclared, PartMeaning, behind_part, block_parts, in_block, built, block, empty, result, return_value, returned, condition, Branches, branches, else_if, case_kind, CaseFound, CaseItem, CaseMeaning, whole_item, case_items, default_body, widest, selector_at, item_at, case_stmt, LoopVariable, loop_variable, in_loop, id_of, loop_step, control, Turns, turns, loop_stmt, Actual, as_value, actual_by, ways, actuals, takes_result, is_inout, value_passed, actual_expr, all_actuals, call_stmt_of, call_stmt, StmtMeaning}
 use Rattle.typing_fits.specs.Sound.{Sound}
 use Rattle.typing_fits.specs.Operands.{SoundFixed, SoundOperand, KnownCall}
 use Rattle.typing_fits.proofs.Calls.{all-front, none-all}
@@ -59,7 +59,7 @@ use Rattle.stmt_laws.specs.Written.{start_written, step_written, selects_written
 use Rattle.stmt_laws.specs.Sound.{SoundDeclared, AroundStatements}
 use Rattle.stmt_laws.proofs.Declared.{declared-lasts, behind-sound}
 use Rattle.stmt_laws.proofs.Parts as Z
-use Rattle.stmt_laws.proofs.Parts.{Looked, looked-lasts, looked-keeps, tried-keeps, AllMean, OfStart, start-lasts}
+use Rattle.stmt_laws.proofs.Parts.{Looked, looked-lasts, looked-keeps, tried-keeps, AllMean, SoundVariable, variable-lasts}
 use Rattle.routine_laws.specs.Names.{Signals, signals_of, finds_no_signal, lvalue_local}
 use Rattle.routine_laws.specs.Sound.{WritesLocals}
 use Rattle.routine_laws.proofs.Giving as G
@@ -390,29 +390,29 @@ module _ (Q : List Function → Type 0) (s : Signals) where
 
   -- `for`
   abbrev loop_in : Context → S.Expr → LoopStep → StmtMeaning → Option LoopVariable → Typing Turns
-  loop_in k test step body o = let inner = in_loop k o in both (both (condition inner test) (loop_step inner step) control) (body inner) turns
+  loop_in k test step body o = let inner = in_loop k o in both (both (condition inner test) (loop_step inner (id_of o) step) control) (body inner) turns
 
   abbrev TurnsWrite : Turns → List Function → Type 0
   TurnsWrite t gs = WritesLocals t.body gs
 
-  inside-loop : (k : Context) (first : LoopStart) (o : Option LoopVariable) (gs : List Function) → Within Q s k → IfKnown (OfStart Q k first) o gs → Within Q s (in_loop k o)
-  inside-loop k first None gs r x = r
-  inside-loop k first (Some v) gs r x = record { text = record { around = Z.loop-behind Q k v gs r.text.around x.sound; result = r.text.result }; names = r.names }
+  inside-loop : (k : Context) (o : Option LoopVariable) (gs : List Function) → Within Q s k → IfKnown SoundVariable o gs → Within Q s (in_loop k o)
+  inside-loop k None gs r x = r
+  inside-loop k (Some v) gs r x = record { text = record { around = Z.loop-behind Q k v gs r.text.around x; result = r.text.result }; names = r.names }
 
-  turns-keep : (k : Context) (test : S.Expr) (step : LoopStep) (body : StmtMeaning) → Within Q s k → is_written test ≡ true → step_written step ≡ true → OfStmt body
-      → Keeps Q TurnsWrite (both (both (condition k test) (loop_step k step) control) (body k) turns)
-  turns-keep k test step body r w u h =
-      K.both-keeps Q Anything WritesLocals TurnsWrite (both (condition k test) (loop_step k step) control) (body k) turns any-lasts
-      (K.both-keeps Q Sound Anything Anything (condition k test) (loop_step k step) control valued-lasts (Z.condition-keeps Q k test r.text.around w) (Z.step-anywhere Q k step r.text.around u)
-      (λ v e js q x y. K.whole-kept Q Anything (record { test = v; step = e }) js q tt)) (h k r)
-      (λ c b js q x y. K.whole-kept Q TurnsWrite (record { control = c; body = b }) js q y)
+  turns-keep : (k : Context) (test : S.Expr) (step : LoopStep) (body : StmtMeaning) (o : Option LoopVariable) (gs : List Function) → Within Q s k → is_written test ≡ true → step_written step ≡ true → OfStmt body
+      → IfKnown SoundVariable o gs → Keeps Q TurnsWrite (both (both (condition k test) (loop_step k (id_of o) step) control) (body k) turns)
+  turns-keep k test step body o gs r w u h x =
+      K.both-keeps Q Anything WritesLocals TurnsWrite (both (condition k test) (loop_step k (id_of o) step) control) (body k) turns any-lasts
+      (K.both-keeps Q Sound Anything Anything (condition k test) (loop_step k (id_of o) step) control valued-lasts (Z.condition-keeps Q k test r.text.around w) (Z.step-anyway Q k o step gs r.text.around u x)
+      (λ v e js q y z. K.whole-kept Q Anything (record { test = v; step = e }) js q tt)) (h k r)
+      (λ c b js q y z. K.whole-kept Q TurnsWrite (record { control = c; body = b }) js q z)
 
   pub loop-keeps : (k : Context) (keyword : ℕ) (first : LoopStart) (test : S.Expr) (step : LoopStep) (body : StmtMeaning) → Within Q s k → start_written first ≡ true → is_written test ≡ true → step_written step ≡ true
       → OfStmt body → Keeps Q WritesLocals (both_by (loop_variable k first) (loop_in k test step body) (λ v t. whole (loop_stmt k keyword v t)))
   loop-keeps k keyword first test step body r v w u h =
-      N.by-keeps Q (OfStart Q k first) TurnsWrite WritesLocals (loop_variable k first) (loop_in k test step body) (λ x t. whole (loop_stmt k keyword x t)) (start-lasts Q k first)
+      N.by-keeps Q SoundVariable TurnsWrite WritesLocals (loop_variable k first) (loop_in k test step body) (λ x t. whole (loop_stmt k keyword x t)) variable-lasts
       (Z.variable-keeps Q k first r.text.around (and-left (type_written first.of) (is_written first.value) v) (and-right (type_written first.of) (is_written first.value) v))
-      (λ o gs q x. turns-keep (in_loop k o) test step body (inside-loop k first o gs r x) w u h gs q)
+      (λ o gs q x. turns-keep (in_loop k o) test step body o gs (inside-loop k o gs r x) w u h x gs q)
       (λ x t js q y z. K.whole-kept Q WritesLocals (loop_stmt k keyword x t) js q (H.loop-writes x.id.number x.first t.control.test.expr t.control.step t.body (spot k.source keyword) js z))
 
   -- calls

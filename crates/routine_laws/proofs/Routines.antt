@@ -22,7 +22,6 @@ use Rattle.typing_walks.proofs.Knowing as N
 use Rattle.typing_walks.proofs.Knowing.{IfKnown}
 use Rattle.routine_fits.specs.Sound.{SoundFunction, EachSound, AllSoundFunctions}
 use Rattle.routine_fits.proofs.Functions.{function-sound, one-more}
-use Rattle.stmt_laws.specs.Loops.{Scope, scope, items_steps}
 use Rattle.stmt_laws.specs.Sound.{NarrowResult, AroundStatements}
 use Rattle.stmt_laws.proofs.Parts.{stmt-lasts}
 use Rattle.stmt_laws.proofs.Walk as S
@@ -48,28 +47,24 @@ made-sound k h name x body gs s b =
     let f : Function = function_of k h name x body in
     function-sound f gs (formals-narrow x.formals gs s.formals) (formals-full x.formals gs s.formals) s.result.of b.sound (record { locals = b.locals.held })
 
--- names behind a head find what they find before it
-abbrev pub Sees : Scope → Signals → Context → Type 0
-Sees n s k = (scope k ≡ n) × (signals_of k ≡ s)
+-- a text behind a head has the signals of the text before it
+abbrev pub Sees : Signals → Context → Type 0
+Sees s k = (signals_of k ≡ s)
 
-sees-formals : (n : Scope) (s : Signals) (k : Context) (fs : List _) → Sees n s k → Sees n s (behind_formals k fs)
-sees-formals n s k [] h = h
-sees-formals n s k (f ∷ fs) h = sees-formals n s _ fs h
+sees-formals : (s : Signals) (k : Context) (fs : List _) → Sees s k → Sees s (behind_formals k fs)
+sees-formals s k [] h = h
+sees-formals s k (f ∷ fs) h = sees-formals s _ fs h
 
-sees-head : (n : Scope) (s : Signals) (k : Context) (name : ℕ) (h : Head) → Sees n s k → Sees n s (behind_head k name (Some h))
-sees-head n s k name h e = sees-formals n s _ h.formals e
+sees-head : (s : Signals) (k : Context) (name : ℕ) (h : Head) → Sees s k → Sees s (behind_head k name (Some h))
+sees-head s k name h e = sees-formals s _ h.formals e
 
-items-there : (k j : Context) (items : List BlockItem) → Sees (scope k) (signals_of k) j → SoundItems k items → SoundItems j items
-items-there k j items e s = record {
-  written = s.written;
-  steps = ap (λ n. items_steps n items) e.0 ∙ s.steps;
-  locals = ap (λ n. items_local n items) e.1 ∙ s.locals;
-}
+items-there : (k j : Context) (items : List BlockItem) → Sees (signals_of k) j → SoundItems k items → SoundItems j items
+items-there k j items e s = record { written = s.written; locals = ap (λ n. items_local n items) e ∙ s.locals }
 
 module _ (Q : List Function → Type 0) where
   pub body-keeps : (k : Context) (items : List BlockItem) → AroundStatements Q k → SoundItems k items → Keeps Q SoundBody (block k (map item_meaning items))
   body-keeps k items r s gs q =
-      let a = S.block-sound Q k items r s.written s.steps gs q in
+      let a = S.block-sound Q k items r s.written gs q in
       let b = block-writes Q k items r s.written s.locals gs q in
       record { extends = a.extends; kept = a.kept; sound = λ x h. record { sound = a.sound x h; locals = b.sound x h } }
 
@@ -77,7 +72,7 @@ module _ (Q : List Function → Type 0) where
       → Kept Stmt Q SoundBody gs (block (behind_head k name o) (map item_meaning items) gs)
   body-behind k name items None gs r s none q x = body-keeps k items (record { around = r; result = subst NarrowResult (sym none) tt }) s gs q
   body-behind k name items (Some h) gs r s none q x =
-      body-keeps (behind_head k name (Some h)) items (H.behind-sound Q k name h gs r x) (items-there k (behind_head k name (Some h)) items (sees-head (scope k) (signals_of k) k name h (refl, refl)) s) gs q
+      body-keeps (behind_head k name (Some h)) items (H.behind-sound Q k name h gs r x) (items-there k (behind_head k name (Some h)) items (sees-head (signals_of k) k name h refl) s) gs q
 
   pub typed-keeps : (k : Context) (h : Home) (name : ℕ) (x : Typing ResultFound) (gs : List G.Formal) (items : List BlockItem) → Surrounded Q k → k.result ≡ None → formals_written gs ≡ true → SoundItems k items → Keeps Q SoundResult x
       → Keeps Q SoundFunction (typed_routine k h name x gs items)
@@ -90,7 +85,7 @@ module _ (Q : List Function → Type 0) where
   outside-sound k n r = record { context = record { values = r.context.values; types = r.context.types; signals = r.context.signals; locals = tt }; routines = r.routines }
 
   outside-items : (k : Context) (n : ℕ) (items : List BlockItem) → SoundItems k items → SoundItems (outside k n) items
-  outside-items k n items s = record { written = s.written; steps = s.steps; locals = s.locals }
+  outside-items k n items s = record { written = s.written; locals = s.locals }
 
   pub text-keeps : (k : Context) (n : ℕ) (t : RoutineText) → Surrounded Q k → SoundText k t → Keeps Q SoundFunction (by_text k n t)
   text-keeps k n (OfFunction f) r s =
@@ -178,7 +173,7 @@ unfolding routine
 one-deeper depth k n = refl
 
 around-text : (k : Context) (depth : ℕ) (t : RoutineText) → SoundText k t → SoundText (with_depth k depth) t
-around-text k depth t s = record { head = s.head; items = record { written = s.items.written; steps = s.items.steps; locals = s.items.locals } }
+around-text k depth t s = record { head = s.head; items = record { written = s.items.written; locals = s.items.locals } }
 
 surrounded-by : (k : Context) (depth : ℕ) → SoundContext k → ((n : ℕ) → Keeps AllSoundFunctions KnownCall (routine depth k n)) → Surrounded AllSoundFunctions (with_depth k depth)
 surrounded-by k depth s h = record { context = record { values = s.values; types = s.types; signals = s.signals; locals = s.locals }; routines = h }

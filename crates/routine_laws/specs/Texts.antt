@@ -1,5 +1,4 @@
--- Texts of functions and tasks: they are written, the steps of their loops assign to their variables (E404), and what their bodies assign to
--- is no signal (E610).
+-- Texts of functions and tasks: they are written, and what their bodies assign to is no signal (E610).
 use Rattle.std.specs.Prelude.{◌≡◌, ℕ, Bool, true, ◌&&◌, List, Some, map}
 use Rattle.sv_tree.specs.declared.functions.Formal as G
 use Rattle.sv_tree.specs.declared.functions.FunctionResult.{FunctionResult}
@@ -12,7 +11,6 @@ use Rattle.expr_type.specs.Functions.{formals_of}
 use Rattle.typing_walks.specs.Written.{all}
 use Rattle.typing_walks.specs.WrittenTypes.{dims_written, type_written}
 use Rattle.stmt_laws.specs.Written.{items_written}
-use Rattle.stmt_laws.specs.Loops.{scope, items_steps}
 use Rattle.routine_laws.specs.Names.{signals_of, items_local}
 
 abbrev pub port_written : PortText → Bool
@@ -39,7 +37,6 @@ items_of (OfTask t) = t.items
 -- a body where names find what they find here
 pub record SoundItems (k : Context) (items : List BlockItem) : Type 0 where
   pub written : items_written items ≡ true
-  pub steps : items_steps (scope k) items ≡ true
   pub locals : items_local (signals_of k) items ≡ true
 
 pub record SoundText (k : Context) (t : RoutineText) : Type 0 where

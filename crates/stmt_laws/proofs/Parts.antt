@@ -22,20 +22,20 @@ use Rattle.sv_types.proofs.OperatorLengths.{length-vec}
 use Rattle.expr_type.specs.declared.operand.Valued.{Valued}
 use Rattle.expr_type.specs.Breaks.{Breaks, At, Quiet}
 use Rattle.expr_type.specs.Typings.{Checked, Typing, whole, broken, rule, checked, both, looked_at, tried, known_behind}
-use Rattle.expr_type.specs.Names.{Context, Thing, Local, position, thing, found, or_thing, local_in, value_in, type_in, signal_in, Interface, Other, local_id}
+use Rattle.expr_type.specs.Names.{Context, LocalId, Thing, Local, position, thing, found, or_thing, local_in, value_in, type_in, signal_in, Interface, Other, local_id}
 use Rattle.expr_type.specs.Operands.{Operand, first_of, unstreamed}
 use Rattle.expr_type.specs.Operators.{by_itself, not_too_long}
 use Rattle.expr_type.specs.Expressions.{Meaning, operand, select_meaning}
 use Rattle.expr_type.specs.TargetNames.{named_target, thing_target, is_net_found}
 use Rattle.expr_type.specs.Targets.{Target, ToPath, ToParts, ToStream, simple_name, target}
 use Rattle.expr_type.specs.Types.{TypeFound, typed_text}
-use Rattle.expr_type.specs.Statements.{assignment, one, step_operator, counted, condition, first_by, loop_first, LoopVariable, loop_type, loop_variable, in_loop, loop_target, step_value, loop_step, Actual, as_value, as_target, actual_by, actuals}
+use Rattle.expr_type.specs.Statements.{assignment, one, step_operator, counted, condition, first_by, loop_first, LoopVariable, loop_type, loop_variable, in_loop, id_of, loop_target, step_value, loop_step, Actual, as_value, as_target, actual_by, actuals}
 use Rattle.typing_fits.specs.Sound.{Extends, IsNarrowType, Sound, AllSound, SoundFor}
 use Rattle.typing_fits.specs.Operands.{SoundFixed, SoundOperand}
 use Rattle.typing_fits.proofs.Given.{sound-later, operand-later, for-later, extends-itself}
 use Rattle.typing_fits.proofs.Names.{locals-behind}
 use Rattle.typing_fits.proofs.Numbers.{literal-sound}
-use Rattle.typing_fits.proofs.Selects.{long-no, long-then}
+use Rattle.typing_fits.proofs.Selects.{local-sound, long-no, long-then}
 use Rattle.typing_walks.specs.Keeps.{Kept, Keeps, AllKeep, Lasts, Anything, Surrounded, SoundMeaning}
 use Rattle.typing_walks.specs.Written.{is_written}
 use Rattle.typing_walks.specs.WrittenTypes.{type_written}
@@ -54,7 +54,6 @@ use Rattle.routine_fits.proofs.Functions.{statement-later}
 use Rattle.routine_fits.proofs.Targets.{assignment-sound}
 use Rattle.routine_fits.proofs.Loops.{FirstSound, first-sound, step-sound}
 use Rattle.stmt_laws.specs.Written.{selects_written, step_written}
-use Rattle.stmt_laws.specs.Loops.{scope, is_declaration, stepped_name, steps_its_variable}
 use Rattle.stmt_laws.specs.Sound.{SoundType}
 use Rattle.stmt_laws.proofs.Declared.{text-keeps}
 
@@ -120,63 +119,25 @@ FirstOf f e gs = FirstSound e f.of gs
 pub variable-lasts : Lasts SoundVariable
 variable-lasts v gs hs e s = record { of = s.of; first = record { is = s.first.is; sound = for-later v.first v.id.of gs hs e s.first.sound } }
 
--- what a step gives to a type that meets a condition
-pub record ForSome (C : SvType → Type 0) (e : Expr) (gs : List Function) : Type 0 where
-  pub of : SvType
-  pub is : C of
-  pub sound : SoundFor e of gs
-
+-- what a step gives
 abbrev pub GivenTo : SvType → Expr → List Function → Type 0
 GivenTo t e gs = SoundFor e t gs
 
-pub record PathOf (C : SvType → Type 0) (t : Target) (gs : List Function) : Type 0 where
+-- the target of a step, which is the loop's variable
+pub record PathOf (t : SvType) (x : Target) (gs : List Function) : Type 0 where
   pub path : Valued
-  pub is : t ≡ ToPath path
-  pub of : C path.expr.of
+  pub is : x ≡ ToPath path
+  pub of : path.expr.of ≡ t
   pub sound : SoundFixed path gs
 
-abbrev FixedOf : (SvType → Type 0) → Valued → List Function → Type 0
-FixedOf C v gs = C v.expr.of × SoundFixed v gs
+path-lasts : (t : SvType) → Lasts (PathOf t)
+path-lasts t x gs hs e s = record { path = s.path; is = s.is; of = s.of; sound = fixed-lasts s.path gs hs e s.sound }
 
-path-lasts : (C : SvType → Type 0) → Lasts (PathOf C)
-path-lasts C t gs hs e s = record { path = s.path; is = s.is; of = s.of; sound = fixed-lasts s.path gs hs e s.sound }
-
-path-stepped : (C : SvType → Type 0) (k : Context) (at : ℕ) (op : AssignmentOperator) (t : Target) (o : Operand) (e : Expr) (gs : List Function) → step_value k at op t o ≡ Ok e → PathOf C t gs → SoundOperand o gs → ForSome C e gs
-path-stepped C k at op t o e gs h p s =
+path-stepped : (u : SvType) (k : Context) (at : ℕ) (op : AssignmentOperator) (t : Target) (o : Operand) (e : Expr) (gs : List Function) → step_value k at op t o ≡ Ok e → PathOf u t gs → SoundOperand o gs → GivenTo u e gs
+path-stepped u k at op t o e gs h p s =
     let v = p.path in
     let at-path = subst (λ x. step_value k at op x o ≡ Ok e) p.is h in
-    record { of = v.expr.of; is = p.of; sound = step-sound k at op v o e gs at-path p.sound s }
-
--- a name that finds a local, the latest one
-local-by : (b : Bool) (t : Thing) (rest : Option Thing) (o : Thing) → b ≡ true → or_thing (cond b (Some t) rest) o ≡ t
-local-by true t rest o h = refl
-local-by false t rest o h = absurd (cc)
-
-same-number : (n : ℕ) → (n == n) ≡ true
-same-number n = grind (arith, nat_tests)
-
-abbrev variable_in : LoopVariable → Context → Context
-variable_in v k = in_loop k (Some v)
-
-declared-there : (o : Option ℕ) (n : ℕ) → is_declaration o n ≡ true → o ≡ Some n
-declared-there None n h = absurd (cc)
-declared-there (Some m) n h = ap Some (grind (arith, nat_tests, h))
-
-found-local : (k : Context) (v : LoopVariable) (o : Option ℕ) → o ≡ Some v.id.decl → found (variable_in v k) o ≡ Local v.id.number v.id.of
-found-local k v o is =
-    let rest = or_thing (value_in v.id.decl k.values)
-    (or_thing (type_in v.id.decl k.types) (or_thing (signal_in v.id.decl k.signals) (cond (k.is_interface v.id.decl) (Interface v.id.decl) (Other v.id.decl)))) in
-    ap (found (variable_in v k)) is ∙ local-by (v.id.decl == v.id.decl) (Local v.id.number v.id.of) (local_in v.id.decl k.locals) rest (same-number v.id.decl)
-
-abbrev valued_ok : Valued → Checked Valued
-valued_ok v = Ok v
-
-local-target : (k : Context) (at : ℕ) (n : ℕ) (t : SvType) (gs : List Function) (v : Valued) → thing k (simple_name at) ≡ Local n t → (named_target k true (simple_name at) [] gs).result ≡ Ok v → v.expr.of ≡ t
-local-target k at n t gs v is h =
-    let x = by_itself k.source at t (F.Local n) in
-    let made : valued_ok x ≡ Ok v = sym (ap (λ y. (thing_target k true at (is_net_found k (k.finds (simple_name at))) [] y gs).result) is) ∙ h in
-    let same : x ≡ v = cc in
-    ap (λ (u : Valued). u.expr.of) (sym same)
+    subst (λ w. SoundFor e w gs) p.of (step-sound k at op v o e gs at-path p.sound s)
 
 abbrev looked_ok : {A : Type 0} → Checked A → Checked (Checked A)
 looked_ok c = Ok c
@@ -265,62 +226,47 @@ module _ (Q : List Function → Type 0) where
       K.checked-keeps Q SoundOperand (FirstOf f) (operand k l.value) (λ o. rule (loop_first k f.of o)) (value-keeps k l.value r w)
       (λ o js p x. K.rule-kept Q (FirstOf f) (loop_first k f.of o) js p (λ e h. first-sound k f.of o e js h s x)) gs q
 
-  -- and it is the local that its name declares
-  pub record OfStart (k : Context) (l : LoopStart) (v : LoopVariable) (gs : List Function) : Type 0 where
-    pub decl : v.id.decl ≡ k.declared l.name
-    pub sound : SoundVariable v gs
-
-  pub start-lasts : (k : Context) (l : LoopStart) → Lasts (OfStart k l)
-  start-lasts k l v gs hs e s = record { decl = s.decl; sound = variable-lasts v gs hs e s.sound }
-
-  pub variable-keeps : (k : Context) (l : LoopStart) → Surrounded Q k → type_written l.of ≡ true → is_written l.value ≡ true → Keeps Q (OfStart k l) (loop_variable k l)
+  pub variable-keeps : (k : Context) (l : LoopStart) → Surrounded Q k → type_written l.of ≡ true → is_written l.value ≡ true → Keeps Q SoundVariable (loop_variable k l)
   variable-keeps k l r v w =
-      N.with-keeps Q NarrowFound FirstOf (OfStart k l) (loop_type k l) (first_by k l) (λ f e. whole (record { id = local_id k l.name f.of; first = e })) narrow-found (type-keeps k l r v) (λ o gs q s. first-keeps k l o gs r w q s)
-      (λ f e js q s x. K.whole-kept Q (OfStart k l) (record { id = local_id k l.name f.of; first = e }) js q (record { decl = refl; sound = record { of = s; first = x } }))
+      N.with-keeps Q NarrowFound FirstOf SoundVariable (loop_type k l) (first_by k l) (λ f e. whole (record { id = local_id k l.name f.of; first = e })) narrow-found (type-keeps k l r v) (λ o gs q s. first-keeps k l o gs r w q s)
+      (λ f e js q s x. K.whole-kept Q SoundVariable (record { id = local_id k l.name f.of; first = e }) js q (record { of = s; first = x }))
 
   pub loop-behind : (k : Context) (v : LoopVariable) (gs : List Function) → Surrounded Q k → SoundVariable v gs → Surrounded Q (in_loop k (Some v))
   loop-behind k v gs r s = record { context = locals-behind (v.id ∷ []) k (s.of, tt) r.context; routines = r.routines }
 
-  -- the step of a loop, whose target meets a condition
-  any-path : (k : Context) (name : ℕ) (C : SvType → Type 0) → Surrounded Q k → ((gs : List Function) (v : Valued) → (named_target k true (simple_name name) [] gs).result ≡ Ok v → C v.expr.of) → Keeps Q (PathOf C) (loop_target k name)
-  any-path k name C r c =
-      K.checked-keeps Q (FixedOf C) (PathOf C) (named_target k true (simple_name name) []) (λ v. whole (ToPath v))
-      (λ gs q. let h = P.target-keeps Q k true (simple_name name) [] r tt gs q in record { extends = h.extends; kept = h.kept; sound = λ v e. (c gs v e, h.sound v e) })
-      (λ v js q s. K.whole-kept Q (PathOf C) (ToPath v) js q (record { path = v; is = refl; of = s.0; sound = s.1 }))
+  -- the step of a loop
+  variable-path : (k : Context) (v : LocalId) (name : ℕ) → IsNarrowType v.of → Keeps Q (PathOf v.of) (loop_target k (Some v) name)
+  variable-path k v name s =
+      let x = by_itself k.source name v.of (F.Local v.number) in
+      K.whole-keeps Q (PathOf v.of) (ToPath x) (λ gs. record { path = x; is = refl; of = refl; sound = record { none = refl; sound = local-sound k.source name v.of v.number gs s } })
 
-  step-by : (k : Context) (step : LoopStep) (C : SvType → Type 0) → Surrounded Q k → step_written step ≡ true → Keeps Q (PathOf C) (loop_target k (stepped_name step)) → Keeps Q (ForSome C) (loop_step k step)
-  step-by k (L.Assign name op at e) C r w h =
-      K.both-keeps Q (PathOf C) SoundOperand (ForSome C) (loop_target k name) (operand k e) (λ t o. rule (step_value k at op t o)) (path-lasts C) h (value-keeps k e r w)
-      (λ t o js q s x. K.rule-kept Q (ForSome C) (step_value k at op t o) js q (λ y g. path-stepped C k at op t o y js g s x))
-  step-by k (L.Postfix name op at) C r w h =
-      K.checked-keeps Q (PathOf C) (ForSome C) (loop_target k name) (λ t. rule (step_value k at (step_operator op) t (one k at))) h
-      (λ t js q s. K.rule-kept Q (ForSome C) (step_value k at (step_operator op) t (one k at)) js q (λ y g. path-stepped C k at (step_operator op) t (one k at) y js g s (one-sound k at js)))
-  step-by k (L.Prefix op at name) C r w h =
-      K.checked-keeps Q (PathOf C) (ForSome C) (loop_target k name) (λ t. rule (step_value k at (step_operator op) t (one k at))) h
-      (λ t js q s. K.rule-kept Q (ForSome C) (step_value k at (step_operator op) t (one k at)) js q (λ y g. path-stepped C k at (step_operator op) t (one k at) y js g s (one-sound k at js)))
+  pub step-keeps : (k : Context) (step : LoopStep) (v : LocalId) → Surrounded Q k → step_written step ≡ true → IsNarrowType v.of → Keeps Q (GivenTo v.of) (loop_step k (Some v) step)
+  step-keeps k (L.Assign name op at e) v r w s =
+      K.both-keeps Q (PathOf v.of) SoundOperand (GivenTo v.of) (loop_target k (Some v) name) (operand k e) (λ t o. rule (step_value k at op t o)) (path-lasts v.of) (variable-path k v name s) (value-keeps k e r w)
+      (λ t o js q p x. K.rule-kept Q (GivenTo v.of) (step_value k at op t o) js q (λ y g. path-stepped v.of k at op t o y js g p x))
+  step-keeps k (L.Postfix name op at) v r w s =
+      K.checked-keeps Q (PathOf v.of) (GivenTo v.of) (loop_target k (Some v) name) (λ t. rule (step_value k at (step_operator op) t (one k at))) (variable-path k v name s)
+      (λ t js q p. K.rule-kept Q (GivenTo v.of) (step_value k at (step_operator op) t (one k at)) js q (λ y g. path-stepped v.of k at (step_operator op) t (one k at) y js g p (one-sound k at js)))
+  step-keeps k (L.Prefix op at name) v r w s =
+      K.checked-keeps Q (PathOf v.of) (GivenTo v.of) (loop_target k (Some v) name) (λ t. rule (step_value k at (step_operator op) t (one k at))) (variable-path k v name s)
+      (λ t js q p. K.rule-kept Q (GivenTo v.of) (step_value k at (step_operator op) t (one k at)) js q (λ y g. path-stepped v.of k at (step_operator op) t (one k at) y js g p (one-sound k at js)))
 
-  abbrev AnyType : SvType → Type 0
-  AnyType t = Unit {0}
+  abbrev AnyTarget : Target → List Function → Type 0
+  AnyTarget t gs = Unit {0}
 
-  -- in a text where the variable isn't known
-  pub step-anywhere : (k : Context) (step : LoopStep) → Surrounded Q k → step_written step ≡ true → Keeps Q Anything (loop_step k step)
-  step-anywhere k step r w gs q =
-      let h = step-by k step AnyType r w (any-path k (stepped_name step) AnyType r (λ js v e. tt)) gs q in
-      record { extends = h.extends; kept = h.kept; sound = λ a e. tt }
+  -- where the variable isn't known
+  pub unknown-keeps : (k : Context) (step : LoopStep) → Surrounded Q k → step_written step ≡ true → Keeps Q Anything (loop_step k None step)
+  unknown-keeps k (L.Assign name op at e) r w =
+      K.both-keeps Q AnyTarget SoundOperand Anything (loop_target k None name) (operand k e) (λ t o. rule (step_value k at op t o)) (λ t gs hs x s. tt) (K.broken-keeps Q AnyTarget Quiet) (value-keeps k e r w)
+      (λ t o js q p x. K.rule-kept Q Anything (step_value k at op t o) js q (λ y g. tt))
+  unknown-keeps k (L.Postfix name op at) r w =
+      K.checked-keeps Q AnyTarget Anything (loop_target k None name) (λ t. rule (step_value k at (step_operator op) t (one k at))) (K.broken-keeps Q AnyTarget Quiet)
+      (λ t js q p. K.rule-kept Q Anything (step_value k at (step_operator op) t (one k at)) js q (λ y g. tt))
+  unknown-keeps k (L.Prefix op at name) r w =
+      K.checked-keeps Q AnyTarget Anything (loop_target k None name) (λ t. rule (step_value k at (step_operator op) t (one k at))) (K.broken-keeps Q AnyTarget Quiet)
+      (λ t js q p. K.rule-kept Q Anything (step_value k at (step_operator op) t (one k at)) js q (λ y g. tt))
 
-  -- and in the loop of its own variable
-  given-to : (t : SvType) (x : Typing Expr) → Keeps Q (ForSome (λ u. u ≡ t)) x → Keeps Q (GivenTo t) x
-  given-to t x h gs q =
-      let c = h gs q in
-      record { extends = c.extends; kept = c.kept; sound = λ e g. let s = c.sound e g in subst (λ u. SoundFor e u (x gs).functions) s.is s.sound }
-
-  pub step-keeps : (k : Context) (l : LoopStart) (step : LoopStep) (v : LoopVariable) (gs : List Function) → Surrounded Q k → step_written step ≡ true → steps_its_variable (scope k) l step ≡ true → OfStart k l v gs
-      → Keeps Q (GivenTo v.id.of) (loop_step (in_loop k (Some v)) step)
-  step-keeps k l step v gs r w theirs s =
-      let inner = in_loop k (Some v) in
-      let around = loop-behind k v gs r s.sound in
-      let name = stepped_name step in
-      let is : k.finds (simple_name name) ≡ Some v.id.decl = declared-there (k.finds (simple_name name)) (k.declared l.name) theirs ∙ ap Some (sym s.decl) in
-      let found-it : thing inner (simple_name name) ≡ Local v.id.number v.id.of = found-local k v (k.finds (simple_name name)) is in
-      given-to v.id.of (loop_step inner step)
-      (step-by inner step (λ u. u ≡ v.id.of) around w (any-path inner name (λ u. u ≡ v.id.of) around (λ js x e. local-target inner name v.id.number v.id.of js x found-it e)))
+  -- whether or not it is known
+  pub step-anyway : (k : Context) (o : Option LoopVariable) (step : LoopStep) (gs : List Function) → Surrounded Q k → step_written step ≡ true → IfKnown SoundVariable o gs → Keeps Q Anything (loop_step k (id_of o) step)
+  step-anyway k None step gs r w x = unknown-keeps k step r w
+  step-anyway k (Some v) step gs r w x = λ hs q. let h = step-keeps k step v.id r w x.of hs q in record { extends = h.extends; kept = h.kept; sound = λ a e. tt }

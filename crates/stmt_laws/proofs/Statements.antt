@@ -17,7 +17,7 @@ use Rattle.expr_type.specs.Names.{Context, spot}
 use Rattle.expr_type.specs.Operands.{Operand}
 use Rattle.expr_type.specs.Forms.{needed_with}
 use Rattle.expr_type.specs.Expressions.{Meaning, operand}
-use Rattle.expr_type.specs.Statements.{BlockPart, IsStatement, IsDeclared, PartMeaning, behind_part, block_parts, built, block, empty, returned, return_value, condition, Branches, branches, else_if, case_kind, CaseFound, CaseMeaning, case_stmt, LoopVariable, loop_variable, in_loop, loop_step, Control, control, Turns, turns, loop_stmt, Actual, ways, actuals, call_stmt_of, call_stmt, StmtMeaning, Declared}
+use Rattle.expr_type.specs.Statements.{BlockPart, IsStatement, IsDeclared, PartMeaning, behind_part, block_parts, built, block, empty, returned, return_value, condition, Branches, branches, else_if, case_kind, CaseFound, CaseMeaning, case_stmt, LoopVariable, loop_variable, in_loop, id_of, loop_step, Control, control, Turns, turns, loop_stmt, Actual, ways, actuals, call_stmt_of, call_stmt, StmtMeaning, Declared}
 use Rattle.typing_fits.specs.Sound.{Sound, AllSound, SoundAlone, SoundFor}
 use Rattle.typing_fits.specs.Operands.{SoundOperand, KnownCall}
 use Rattle.typing_fits.proofs.Full.{and-left, and-right}
@@ -37,15 +37,9 @@ use Rattle.routine_fits.proofs.Statements as T
 use Rattle.routine_fits.proofs.Rules as G
 use Rattle.routine_fits.proofs.Rules.{AllPartsSound}
 use Rattle.stmt_laws.specs.Written.{start_written, step_written, exprs_written}
-use Rattle.stmt_laws.specs.Loops.{Scope, scope, steps_its_variable}
 use Rattle.stmt_laws.specs.Sound.{SoundDeclared, SoundPart, NarrowResult, AroundStatements}
 use Rattle.stmt_laws.proofs.Declared.{declared-lasts, behind-sound}
-use Rattle.stmt_laws.proofs.Parts.{Looked, looked-lasts, stmt-lasts, sounds-later, actual-lasts, SoundVariable, looked-keeps, tried-keeps, value-keeps, condition-keeps, AllMean, each-actual, OfStart, start-lasts, variable-keeps, loop-behind, GivenTo, step-anywhere, step-keeps}
-
--- a text whose names find these declarations
-pub record Stands (Q : List Function → Type 0) (n : Scope) (k : Context) : Type 0 where
-  pub text : AroundStatements Q k
-  pub names : scope k ≡ n
+use Rattle.stmt_laws.proofs.Parts.{Looked, looked-lasts, stmt-lasts, sounds-later, actual-lasts, SoundVariable, variable-lasts, looked-keeps, tried-keeps, value-keeps, condition-keeps, AllMean, each-actual, variable-keeps, loop-behind, GivenTo, unknown-keeps, step-keeps}
 
 -- items of blocks
 part-lasts : Lasts SoundPart
@@ -99,15 +93,15 @@ loop-sound k at v t gs s x =
     T.loop-sound v.id.number v.first t.control.test.expr t.control.step t.body (spot k.source at) gs
     (record { start = subst (λ u. SoundFor v.first u gs) (sym is) s.first.sound; until = x.control.test; onward = subst (λ u. SoundFor t.control.step u gs) (sym is) x.control.step }) x.body
 
-module _ (Q : List Function → Type 0) (n : Scope) where
+module _ (Q : List Function → Type 0) where
   abbrev pub OfPart : PartMeaning → Type 0
-  OfPart m = (k : Context) → Stands Q n k → Keeps Q SoundPart (m k)
+  OfPart m = (k : Context) → AroundStatements Q k → Keeps Q SoundPart (m k)
 
   abbrev pub OfStmt : StmtMeaning → Type 0
-  OfStmt m = (k : Context) → Stands Q n k → Keeps Q SoundStmt (m k)
+  OfStmt m = (k : Context) → AroundStatements Q k → Keeps Q SoundStmt (m k)
 
   abbrev pub OfCase : CaseMeaning → Type 0
-  OfCase m = (k : Context) → Stands Q n k → Keeps Q SoundFound (m k)
+  OfCase m = (k : Context) → AroundStatements Q k → Keeps Q SoundFound (m k)
 
   abbrev pub AllParts : List PartMeaning → Type 0
   AllParts [] = Unit {0}
@@ -122,21 +116,21 @@ module _ (Q : List Function → Type 0) (n : Scope) where
   ElseIf (Some m) = OfStmt m
 
   -- blocks
-  stands-behind : (k : Context) (d : Declared) (gs : List Function) → Stands Q n k → SoundDeclared d gs → Stands Q n (behind_part k (Some (IsDeclared d)))
-  stands-behind k d gs r s = record { text = record { around = behind-sound Q k d gs r.text.around s; result = r.text.result }; names = r.names }
+  stands-behind : (k : Context) (d : Declared) (gs : List Function) → AroundStatements Q k → SoundDeclared d gs → AroundStatements Q (behind_part k (Some (IsDeclared d)))
+  stands-behind k d gs r s = record { around = behind-sound Q k d gs r.around s; result = r.result }
 
-  behind-known : (k : Context) (o : Option BlockPart) (gs : List Function) → Stands Q n k → IfKnown SoundPart o gs → Stands Q n (behind_part k o)
+  behind-known : (k : Context) (o : Option BlockPart) (gs : List Function) → AroundStatements Q k → IfKnown SoundPart o gs → AroundStatements Q (behind_part k o)
   behind-known k None gs r s = r
   behind-known k (Some (IsStatement x)) gs r s = r
   behind-known k (Some (IsDeclared d)) gs r s = stands-behind k d gs r s
 
-  parts-keep : (k : Context) (ms : List PartMeaning) → Stands Q n k → AllParts ms → Keeps Q (λ ps gs. AllHold SoundPart ps gs) (block_parts k ms)
+  parts-keep : (k : Context) (ms : List PartMeaning) → AroundStatements Q k → AllParts ms → Keeps Q (λ ps gs. AllHold SoundPart ps gs) (block_parts k ms)
   parts-keep k [] r h = K.whole-keeps Q (λ ps gs. AllHold SoundPart ps gs) [] (λ gs. tt)
   parts-keep k (m ∷ ms) r h =
       N.by-keeps Q SoundPart (λ ps gs. AllHold SoundPart ps gs) (λ ps gs. AllHold SoundPart ps gs) (m k) (λ o. block_parts (behind_part k o) ms) (λ p ps. whole (p ∷ ps)) part-lasts (h.0 k r)
       (λ o gs q s. parts-keep (behind_part k o) ms (behind-known k o gs r s) h.1 gs q) (λ p ps js q s t. K.whole-kept Q (λ xs gs. AllHold SoundPart xs gs) (p ∷ ps) js q (s, t))
 
-  pub block-keeps : (k : Context) (ms : List PartMeaning) → Stands Q n k → AllParts ms → Keeps Q SoundStmt (block k ms)
+  pub block-keeps : (k : Context) (ms : List PartMeaning) → AroundStatements Q k → AllParts ms → Keeps Q SoundStmt (block k ms)
   block-keeps k ms r h =
       K.checked-keeps Q (λ ps gs. AllHold SoundPart ps gs) SoundStmt (block_parts k ms) (λ qs. let b = built qs in whole (V.Block b.locals b.body)) (parts-keep k ms r h)
       (λ qs js q s. K.whole-kept Q SoundStmt (V.Block (built qs).locals (built qs).body) js q (G.block-sound qs js (all-parts qs js s)))
@@ -161,26 +155,26 @@ module _ (Q : List Function → Type 0) (n : Scope) where
   result-by k at None o s gs h narrow x = absurd (cc)
   result-by k at (Some t) o s gs h narrow x = G.return-sound k at t o s gs h narrow x
 
-  pub returned-keeps : (k : Context) (at : ℕ) (o : Option S.Expr) → Stands Q n k → if_there (option_map is_written o) ≡ true → Keeps Q SoundStmt (returned k at o)
+  pub returned-keeps : (k : Context) (at : ℕ) (o : Option S.Expr) → AroundStatements Q k → if_there (option_map is_written o) ≡ true → Keeps Q SoundStmt (returned k at o)
   returned-keeps k at None r w = K.whole-keeps Q SoundStmt V.Return (λ gs. T.return-sound gs)
   returned-keeps k at (Some e) r w =
-      K.checked-keeps Q SoundOperand SoundStmt (operand k e) (λ o. rule (return_value k at k.result o)) (value-keeps Q k e r.text.around w)
-      (λ o js q s. K.rule-kept Q SoundStmt (return_value k at k.result o) js q (λ x h. result-by k at k.result o x js h r.text.result s))
+      K.checked-keeps Q SoundOperand SoundStmt (operand k e) (λ o. rule (return_value k at k.result o)) (value-keeps Q k e r.around w)
+      (λ o js q s. K.rule-kept Q SoundStmt (return_value k at k.result o) js q (λ x h. result-by k at k.result o x js h r.result s))
 
   -- `if`
-  else-keeps : (k : Context) (o : Option StmtMeaning) → Stands Q n k → ElseIf o → Keeps Q PerhapsSound (else_if k o)
+  else-keeps : (k : Context) (o : Option StmtMeaning) → AroundStatements Q k → ElseIf o → Keeps Q PerhapsSound (else_if k o)
   else-keeps k None r h = K.whole-keeps Q PerhapsSound None (λ gs. tt)
   else-keeps k (Some m) r h = K.checked-keeps Q SoundStmt PerhapsSound (m k) (λ t. whole (Some t)) (h k r) (λ t js q s. K.whole-kept Q PerhapsSound (Some t) js q s)
 
-  branches-keep : (k : Context) (body : StmtMeaning) (other : Option StmtMeaning) → Stands Q n k → OfStmt body → ElseIf other → Keeps Q SoundBranches (both (body k) (else_if k other) branches)
+  branches-keep : (k : Context) (body : StmtMeaning) (other : Option StmtMeaning) → AroundStatements Q k → OfStmt body → ElseIf other → Keeps Q SoundBranches (both (body k) (else_if k other) branches)
   branches-keep k body other r h g =
       K.both-keeps Q SoundStmt PerhapsSound SoundBranches (body k) (else_if k other) branches stmt-lasts (h k r) (else-keeps k other r g)
       (λ s o js q x y. K.whole-kept Q SoundBranches (record { body = s; other = o }) js q (record { body = x; other = y }))
 
-  pub if-keeps : (k : Context) (test : S.Expr) (body : StmtMeaning) (other : Option StmtMeaning) → Stands Q n k → is_written test ≡ true → OfStmt body → ElseIf other
+  pub if-keeps : (k : Context) (test : S.Expr) (body : StmtMeaning) (other : Option StmtMeaning) → AroundStatements Q k → is_written test ≡ true → OfStmt body → ElseIf other
       → Keeps Q SoundStmt (both (condition k test) (both (body k) (else_if k other) branches) (λ v b. whole (V.If v.expr b.body b.other)))
   if-keeps k test body other r w h g =
-      K.both-keeps Q Sound SoundBranches SoundStmt (condition k test) (both (body k) (else_if k other) branches) (λ v b. whole (V.If v.expr b.body b.other)) valued-lasts (condition-keeps Q k test r.text.around w) (branches-keep k body other r h g)
+      K.both-keeps Q Sound SoundBranches SoundStmt (condition k test) (both (body k) (else_if k other) branches) (λ v b. whole (V.If v.expr b.body b.other)) valued-lasts (condition-keeps Q k test r.around w) (branches-keep k body other r h g)
       (λ v b js q x y. K.whole-kept Q SoundStmt (V.If v.expr b.body b.other) js q (T.if-sound v.expr b.body b.other js (is-alone v js x) y.body y.other))
 
   -- `case`
@@ -200,11 +194,11 @@ module _ (Q : List Function → Type 0) (n : Scope) where
   no-default : (c : Checked (List Valued)) → false ≡ true → c ≡ Ok []
   no-default c h = absurd (cc)
 
-  pub case-values : (k : Context) (es : List S.Expr) (body : StmtMeaning) → Stands Q n k → exprs_written es ≡ true → OfStmt body
+  pub case-values : (k : Context) (es : List S.Expr) (body : StmtMeaning) → AroundStatements Q k → exprs_written es ≡ true → OfStmt body
       → Keeps Q SoundFound (both (looked_at (all (map (condition k) es))) (tried (body k)) (λ vs s. whole (record { is_default = false; values = vs; body = s })))
   case-values k es body r w h =
       K.both-keeps Q (Looked Values) (Looked SoundStmt) SoundFound (looked_at (all (map (condition k) es))) (tried (body k)) (λ vs s. whole (record { is_default = false; values = vs; body = s })) (looked-lasts Values values-last)
-      (looked-keeps Q Values (all (map (condition k) es)) (values-keep k es r.text.around w)) (tried-keeps Q SoundStmt (body k) (h k r))
+      (looked-keeps Q Values (all (map (condition k) es)) (values-keep k es r.around w)) (tried-keeps Q SoundStmt (body k) (h k r))
       (λ vs s js q x y. K.whole-kept Q SoundFound (record { is_default = false; values = vs; body = s }) js q (record { default = no-default vs; values = λ us g. all-valued us js (x us g); body = y }))
 
   abbrev values_ok : List Valued → Checked (List Valued)
@@ -213,60 +207,60 @@ module _ (Q : List Function → Type 0) (n : Scope) where
   none-sound : (vs : List Valued) (gs : List Function) → values_ok [] ≡ Ok vs → AllSound vs gs
   none-sound vs gs h = let is : [] ≡ vs = cc in subst (λ us. AllSound us gs) is tt
 
-  pub case-default : (k : Context) (body : StmtMeaning) → Stands Q n k → OfStmt body → Keeps Q SoundFound (checked (tried (body k)) (λ s. whole (record { is_default = true; values = Ok []; body = s })))
+  pub case-default : (k : Context) (body : StmtMeaning) → AroundStatements Q k → OfStmt body → Keeps Q SoundFound (checked (tried (body k)) (λ s. whole (record { is_default = true; values = Ok []; body = s })))
   case-default k body r h =
       K.checked-keeps Q (Looked SoundStmt) SoundFound (tried (body k)) (λ s. whole (record { is_default = true; values = Ok []; body = s })) (tried-keeps Q SoundStmt (body k) (h k r))
       (λ s js q x. K.whole-kept Q SoundFound (record { is_default = true; values = Ok []; body = s }) js q (record { default = λ e. refl; values = λ vs g. none-sound vs js g; body = x }))
 
-  each-case : (k : Context) (ms : List CaseMeaning) → Stands Q n k → AllCases ms → AllKeep Q SoundFound (map (λ (c : CaseMeaning). c k) ms)
+  each-case : (k : Context) (ms : List CaseMeaning) → AroundStatements Q k → AllCases ms → AllKeep Q SoundFound (map (λ (c : CaseMeaning). c k) ms)
   each-case k [] r h = tt
   each-case k (m ∷ ms) r h = (h.0 k r, each-case k ms r h.1)
 
-  pub case-keeps : (k : Context) (keyword : CaseKeyword) (sought : S.Expr) (items : List CaseMeaning) → Stands Q n k → is_written sought ≡ true → AllCases items
+  pub case-keeps : (k : Context) (keyword : CaseKeyword) (sought : S.Expr) (items : List CaseMeaning) → AroundStatements Q k → is_written sought ≡ true → AllCases items
       → Keeps Q SoundStmt (both (looked_at (condition k sought)) (all (map (λ (c : CaseMeaning). c k) items)) (λ v cs. rule (case_stmt k (case_kind keyword) v cs)))
   case-keeps k keyword sought items r w h =
       K.both-keeps Q (Looked Sound) (λ cs gs. AllHold SoundFound cs gs) SoundStmt (looked_at (condition k sought)) (all (map (λ (c : CaseMeaning). c k) items)) (λ v cs. rule (case_stmt k (case_kind keyword) v cs)) (looked-lasts Sound valued-lasts)
-      (looked-keeps Q Sound (condition k sought) (condition-keeps Q k sought r.text.around w)) (K.all-keeps Q SoundFound (map (λ (c : CaseMeaning). c k) items) found-lasts (each-case k items r h))
+      (looked-keeps Q Sound (condition k sought) (condition-keeps Q k sought r.around w)) (K.all-keeps Q SoundFound (map (λ (c : CaseMeaning). c k) items) found-lasts (each-case k items r h))
       (λ v cs js q x y. K.rule-kept Q SoundStmt (case_stmt k (case_kind keyword) v cs) js q (λ s g. G.case-sound k (case_kind keyword) v cs s js g x (all-found cs js y)))
 
   -- `for`
   abbrev loop_in : Context → S.Expr → LoopStep → StmtMeaning → Option LoopVariable → Typing Turns
-  loop_in k test step body o = let inner = in_loop k o in both (both (condition inner test) (loop_step inner step) control) (body inner) turns
+  loop_in k test step body o = let inner = in_loop k o in both (both (condition inner test) (loop_step inner (id_of o) step) control) (body inner) turns
 
-  control-keeps : (k : Context) (test : S.Expr) (step : LoopStep) (t : SvType) → Surrounded Q k → is_written test ≡ true → Keeps Q (GivenTo t) (loop_step k step) → Keeps Q (SoundControl t) (both (condition k test) (loop_step k step) control)
-  control-keeps k test step t r w h =
-      K.both-keeps Q Sound (GivenTo t) (SoundControl t) (condition k test) (loop_step k step) control valued-lasts (condition-keeps Q k test r w) h
-      (λ v e js q x y. K.whole-kept Q (SoundControl t) (record { test = v; step = e }) js q (record { test = is-alone v js x; step = y }))
+  control-keeps : (k : Context) (test : S.Expr) (v : LoopVariable) (step : LoopStep) → Surrounded Q k → is_written test ≡ true → Keeps Q (GivenTo v.id.of) (loop_step k (Some v.id) step)
+      → Keeps Q (SoundControl v.id.of) (both (condition k test) (loop_step k (Some v.id) step) control)
+  control-keeps k test v step r w h =
+      K.both-keeps Q Sound (GivenTo v.id.of) (SoundControl v.id.of) (condition k test) (loop_step k (Some v.id) step) control valued-lasts (condition-keeps Q k test r w) h
+      (λ x e js q y z. K.whole-kept Q (SoundControl v.id.of) (record { test = x; step = e }) js q (record { test = is-alone x js y; step = z }))
 
-  turns-known : (k : Context) (first : LoopStart) (test : S.Expr) (step : LoopStep) (body : StmtMeaning) (v : LoopVariable) (gs : List Function) → Stands Q n k → is_written test ≡ true → step_written step ≡ true
-      → steps_its_variable n first step ≡ true → OfStmt body → OfStart Q k first v gs → Keeps Q (SoundTurns v.id.of) (loop_in k test step body (Some v))
-  turns-known k first test step body v gs r w u theirs h s =
+  turns-known : (k : Context) (test : S.Expr) (step : LoopStep) (body : StmtMeaning) (v : LoopVariable) (gs : List Function) → AroundStatements Q k → is_written test ≡ true → step_written step ≡ true
+      → OfStmt body → SoundVariable v gs → Keeps Q (SoundTurns v.id.of) (loop_in k test step body (Some v))
+  turns-known k test step body v gs r w u h s =
       let inner = in_loop k (Some v) in
-      let around = loop-behind Q k v gs r.text.around s.sound in
-      let stands : Stands Q n inner = record { text = record { around = around; result = r.text.result }; names = r.names } in
-      let own = subst (λ m. steps_its_variable m first step ≡ true) (sym r.names) theirs in
-      K.both-keeps Q (SoundControl v.id.of) SoundStmt (SoundTurns v.id.of) (both (condition inner test) (loop_step inner step) control) (body inner) turns (control-lasts v.id.of)
-      (control-keeps inner test step v.id.of around w (step-keeps Q k first step v gs r.text.around u own s)) (h inner stands)
+      let around = loop-behind Q k v gs r.around s in
+      let stands : AroundStatements Q inner = record { around = around; result = r.result } in
+      K.both-keeps Q (SoundControl v.id.of) SoundStmt (SoundTurns v.id.of) (both (condition inner test) (loop_step inner (Some v.id) step) control) (body inner) turns (control-lasts v.id.of)
+      (control-keeps inner test v step around w (step-keeps Q inner step v.id around u s.of)) (h inner stands)
       (λ c b js q x y. K.whole-kept Q (SoundTurns v.id.of) (record { control = c; body = b }) js q (record { control = x; body = y }))
 
-  turns-anywhere : (k : Context) (test : S.Expr) (step : LoopStep) (body : StmtMeaning) → Stands Q n k → is_written test ≡ true → step_written step ≡ true → OfStmt body → Keeps Q Anything (loop_in k test step body None)
+  turns-anywhere : (k : Context) (test : S.Expr) (step : LoopStep) (body : StmtMeaning) → AroundStatements Q k → is_written test ≡ true → step_written step ≡ true → OfStmt body → Keeps Q Anything (loop_in k test step body None)
   turns-anywhere k test step body r w u h =
-      K.both-keeps Q Anything SoundStmt Anything (both (condition k test) (loop_step k step) control) (body k) turns any-lasts
-      (K.both-keeps Q Sound Anything Anything (condition k test) (loop_step k step) control valued-lasts (condition-keeps Q k test r.text.around w) (step-anywhere Q k step r.text.around u)
+      K.both-keeps Q Anything SoundStmt Anything (both (condition k test) (loop_step k None step) control) (body k) turns any-lasts
+      (K.both-keeps Q Sound Anything Anything (condition k test) (loop_step k None step) control valued-lasts (condition-keeps Q k test r.around w) (unknown-keeps Q k step r.around u)
       (λ v e js q x y. K.whole-kept Q Anything (record { test = v; step = e }) js q tt)) (h k r)
       (λ c b js q x y. K.whole-kept Q Anything (record { control = c; body = b }) js q tt)
 
-  turns-keep : (k : Context) (first : LoopStart) (test : S.Expr) (step : LoopStep) (body : StmtMeaning) (o : Option LoopVariable) (gs : List Function) → Stands Q n k → is_written test ≡ true → step_written step ≡ true
-      → steps_its_variable n first step ≡ true → OfStmt body → Q gs → IfKnown (OfStart Q k first) o gs → Kept Turns Q (N.KnownWith Q TurnsOf o) gs (loop_in k test step body o gs)
-  turns-keep k first test step body None gs r w u theirs h q s = let c = turns-anywhere k test step body r w u h gs q in record { extends = c.extends; kept = c.kept; sound = λ t e. tt }
-  turns-keep k first test step body (Some v) gs r w u theirs h q s = turns-known k first test step body v gs r w u theirs h s gs q
+  turns-keep : (k : Context) (test : S.Expr) (step : LoopStep) (body : StmtMeaning) (o : Option LoopVariable) (gs : List Function) → AroundStatements Q k → is_written test ≡ true → step_written step ≡ true
+      → OfStmt body → Q gs → IfKnown SoundVariable o gs → Kept Turns Q (N.KnownWith Q TurnsOf o) gs (loop_in k test step body o gs)
+  turns-keep k test step body None gs r w u h q s = let c = turns-anywhere k test step body r w u h gs q in record { extends = c.extends; kept = c.kept; sound = λ t e. tt }
+  turns-keep k test step body (Some v) gs r w u h q s = turns-known k test step body v gs r w u h s gs q
 
-  pub loop-keeps : (k : Context) (keyword : ℕ) (first : LoopStart) (test : S.Expr) (step : LoopStep) (body : StmtMeaning) → Stands Q n k → start_written first ≡ true → is_written test ≡ true → step_written step ≡ true
-      → steps_its_variable n first step ≡ true → OfStmt body → Keeps Q SoundStmt (both_by (loop_variable k first) (loop_in k test step body) (λ v t. whole (loop_stmt k keyword v t)))
-  loop-keeps k keyword first test step body r v w u theirs h =
-      N.with-keeps Q (OfStart Q k first) TurnsOf SoundStmt (loop_variable k first) (loop_in k test step body) (λ x t. whole (loop_stmt k keyword x t)) (start-lasts Q k first)
-      (variable-keeps Q k first r.text.around (and-left (type_written first.of) (is_written first.value) v) (and-right (type_written first.of) (is_written first.value) v))
-      (λ o gs q s. turns-keep k first test step body o gs r w u theirs h q s) (λ x t js q s y. K.whole-kept Q SoundStmt (loop_stmt k keyword x t) js q (loop-sound k keyword x t js s.sound y))
+  pub loop-keeps : (k : Context) (keyword : ℕ) (first : LoopStart) (test : S.Expr) (step : LoopStep) (body : StmtMeaning) → AroundStatements Q k → start_written first ≡ true → is_written test ≡ true → step_written step ≡ true
+      → OfStmt body → Keeps Q SoundStmt (both_by (loop_variable k first) (loop_in k test step body) (λ v t. whole (loop_stmt k keyword v t)))
+  loop-keeps k keyword first test step body r v w u h =
+      N.with-keeps Q SoundVariable TurnsOf SoundStmt (loop_variable k first) (loop_in k test step body) (λ x t. whole (loop_stmt k keyword x t)) variable-lasts
+      (variable-keeps Q k first r.around (and-left (type_written first.of) (is_written first.value) v) (and-right (type_written first.of) (is_written first.value) v))
+      (λ o gs q s. turns-keep k test step body o gs r w u h q s) (λ x t js q s y. K.whole-kept Q SoundStmt (loop_stmt k keyword x t) js q (loop-sound k keyword x t js s y))
 
   -- calls
   pub call-keeps : (k : Context) (of : QualifiedName) (es : List Meaning) → Surrounded Q k → AllMean Q es → Keeps Q SoundStmt (call_stmt k of es)

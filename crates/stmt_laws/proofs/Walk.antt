@@ -21,13 +21,11 @@ use Rattle.stmt_walks.specs.Written.{lvalue_written}
 use Rattle.routine_fits.specs.Sound.{SoundStmt}
 use Rattle.stmt_laws.specs.Written as W
 use Rattle.stmt_laws.specs.Written.{declarators_written, selects_written, exprs_written, start_written, step_written, stmt_written, item_written, case_written, else_written, items_written}
-use Rattle.stmt_laws.specs.Loops as L
-use Rattle.stmt_laws.specs.Loops.{Scope, scope, steps_its_variable, stmt_steps, item_steps, case_steps, else_steps, items_steps}
 use Rattle.stmt_laws.specs.Sound.{AroundStatements}
 use Rattle.stmt_laws.proofs.Declared.{text-keeps, selected-keeps, variables-keep, parameters-keep}
 use Rattle.stmt_laws.proofs.Parts.{AllMean, assign-keeps, counted-keeps}
 use Rattle.stmt_laws.proofs.Statements as X
-use Rattle.stmt_laws.proofs.Statements.{Stands, OfPart, OfStmt, OfCase, AllParts, AllCases}
+use Rattle.stmt_laws.proofs.Statements.{OfPart, OfStmt, OfCase, AllParts, AllCases}
 
 abbrev pub case_meaning : CaseItem → CaseMeaning
 case_meaning = fold-CaseItem PartMeaning CaseMeaning StmtMeaning StmtMeaning T.item_step T.case_step T.stmt_step T.else_step
@@ -40,18 +38,18 @@ module _ (Q : List Function → Type 0) where
   all-mean [] w = tt
   all-mean (e ∷ es) w = (expr-sound Q e (and-left (is_written e) (exprs_written es) w), all-mean es (and-right (is_written e) (exprs_written es) w))
 
-module _ (Q : List Function → Type 0) (n : Scope) where
+module _ (Q : List Function → Type 0) where
   abbrev OfItem : BlockItem → Type 0
-  OfItem x = item_written x ≡ true → item_steps n x ≡ true → OfPart Q n (item_meaning x)
+  OfItem x = item_written x ≡ true → OfPart Q (item_meaning x)
 
   abbrev OfFound : CaseItem → Type 0
-  OfFound x = case_written x ≡ true → case_steps n x ≡ true → OfCase Q n (case_meaning x)
+  OfFound x = case_written x ≡ true → OfCase Q (case_meaning x)
 
   abbrev OfWritten : Stmt → Type 0
-  OfWritten x = stmt_written x ≡ true → stmt_steps n x ≡ true → OfStmt Q n (stmt_meaning x)
+  OfWritten x = stmt_written x ≡ true → OfStmt Q (stmt_meaning x)
 
   abbrev OfElse : Else → Type 0
-  OfElse x = else_written x ≡ true → else_steps n x ≡ true → OfStmt Q n (else_meaning x)
+  OfElse x = else_written x ≡ true → OfStmt Q (else_meaning x)
 
   abbrev AnItem : Type 0
   AnItem = (x : BlockItem) × OfItem x
@@ -83,114 +81,99 @@ module _ (Q : List Function → Type 0) (n : Scope) where
   abbrev cases_of : List ACase → List CaseItem
   cases_of ys = map (λ e. e.0) ys
 
-  each-item : (ys : List AnItem) → Z.all (map item_written (items_of ys)) ≡ true → Z.all (map (item_steps n) (items_of ys)) ≡ true → AllParts Q n (map item_meaning (items_of ys))
-  each-item [] w u = tt
-  each-item (y ∷ ys) w u =
+  each-item : (ys : List AnItem) → Z.all (map item_written (items_of ys)) ≡ true → AllParts Q (map item_meaning (items_of ys))
+  each-item [] w = tt
+  each-item (y ∷ ys) w =
       let written = Z.all (map item_written (items_of ys)) in
-      let stepped = Z.all (map (item_steps n) (items_of ys)) in
-      (y.1 (and-left (item_written y.0) written w) (and-left (item_steps n y.0) stepped u), each-item ys (and-right (item_written y.0) written w) (and-right (item_steps n y.0) stepped u))
+      (y.1 (and-left (item_written y.0) written w), each-item ys (and-right (item_written y.0) written w))
 
-  each-found : (ys : List ACase) → Z.all (map case_written (cases_of ys)) ≡ true → Z.all (map (case_steps n) (cases_of ys)) ≡ true → AllCases Q n (map case_meaning (cases_of ys))
-  each-found [] w u = tt
-  each-found (y ∷ ys) w u =
+  each-found : (ys : List ACase) → Z.all (map case_written (cases_of ys)) ≡ true → AllCases Q (map case_meaning (cases_of ys))
+  each-found [] w = tt
+  each-found (y ∷ ys) w =
       let written = Z.all (map case_written (cases_of ys)) in
-      let stepped = Z.all (map (case_steps n) (cases_of ys)) in
-      (y.1 (and-left (case_written y.0) written w) (and-left (case_steps n y.0) stepped u), each-found ys (and-right (case_written y.0) written w) (and-right (case_steps n y.0) stepped u))
+      (y.1 (and-left (case_written y.0) written w), each-found ys (and-right (case_written y.0) written w))
 
   -- a level of the tree
   abbrev written_item : BlockItem-F BlockItem CaseItem Stmt Else → Bool
   written_item z = W.item_step (map-BlockItem BlockItem CaseItem Stmt Else Bool Bool Bool Bool item_written case_written stmt_written else_written z)
 
-  abbrev stepped_item : BlockItem-F BlockItem CaseItem Stmt Else → Bool
-  stepped_item z = L.item_step (map-BlockItem BlockItem CaseItem Stmt Else Bool Bool Bool Bool (item_steps n) (case_steps n) (stmt_steps n) (else_steps n) z)
-
   abbrev meant_item : BlockItem-F BlockItem CaseItem Stmt Else → PartMeaning
   meant_item z = T.item_step (map-BlockItem BlockItem CaseItem Stmt Else PartMeaning CaseMeaning StmtMeaning StmtMeaning item_meaning case_meaning stmt_meaning else_meaning z)
 
-  item-case : (y : BlockItem-F AnItem ACase AStmt AnElse) → written_item (item_in y) ≡ true → stepped_item (item_in y) ≡ true → OfPart Q n (meant_item (item_in y))
-  item-case (BlockItem-F.Statement s) w u k r = X.statement-part Q n (stmt_meaning s.0 k) (s.1 w u k r)
-  item-case (BlockItem-F.Parameters b) w u k r = X.declared-part Q n (parameters k (IsValue None) b.bodies) (parameters-keep Q k (IsValue None) b.bodies r.text.around w tt)
-  item-case (BlockItem-F.Variables automatic v of ds semicolon) w u k r =
-      X.declared-part Q n (variables_of k (typed_text of k) ds)
-      (variables-keep Q k (typed_text of k) ds r.text.around (and-right (type_written of) (declarators_written ds) w) (text-keeps Q k of r.text.around (and-left (type_written of) (declarators_written ds) w)))
-  item-case (BlockItem-F.NamedVariables of ss ds semicolon) w u k r =
-      X.declared-part Q n (variables_of k (selected_type k of ss) ds)
-      (variables-keep Q k (selected_type k of ss) ds r.text.around (and-right (selects_written ss) (declarators_written ds) w) (selected-keeps Q k of ss r.text.around (and-left (selects_written ss) (declarators_written ds) w)))
+  item-case : (y : BlockItem-F AnItem ACase AStmt AnElse) → written_item (item_in y) ≡ true → OfPart Q (meant_item (item_in y))
+  item-case (BlockItem-F.Statement s) w k r = X.statement-part Q (stmt_meaning s.0 k) (s.1 w k r)
+  item-case (BlockItem-F.Parameters b) w k r = X.declared-part Q (parameters k (IsValue None) b.bodies) (parameters-keep Q k (IsValue None) b.bodies r.around w tt)
+  item-case (BlockItem-F.Variables automatic v of ds semicolon) w k r =
+      X.declared-part Q (variables_of k (typed_text of k) ds)
+      (variables-keep Q k (typed_text of k) ds r.around (and-right (type_written of) (declarators_written ds) w) (text-keeps Q k of r.around (and-left (type_written of) (declarators_written ds) w)))
+  item-case (BlockItem-F.NamedVariables of ss ds semicolon) w k r =
+      X.declared-part Q (variables_of k (selected_type k of ss) ds)
+      (variables-keep Q k (selected_type k of ss) ds r.around (and-right (selects_written ss) (declarators_written ds) w) (selected-keeps Q k of ss r.around (and-left (selects_written ss) (declarators_written ds) w)))
 
   abbrev written_case : CaseItem-F BlockItem CaseItem Stmt Else → Bool
   written_case z = W.case_step (map-CaseItem BlockItem CaseItem Stmt Else Bool Bool Bool Bool item_written case_written stmt_written else_written z)
 
-  abbrev stepped_case : CaseItem-F BlockItem CaseItem Stmt Else → Bool
-  stepped_case z = L.case_step (map-CaseItem BlockItem CaseItem Stmt Else Bool Bool Bool Bool (item_steps n) (case_steps n) (stmt_steps n) (else_steps n) z)
-
   abbrev meant_case : CaseItem-F BlockItem CaseItem Stmt Else → CaseMeaning
   meant_case z = T.case_step (map-CaseItem BlockItem CaseItem Stmt Else PartMeaning CaseMeaning StmtMeaning StmtMeaning item_meaning case_meaning stmt_meaning else_meaning z)
 
-  found-case : (y : CaseItem-F AnItem ACase AStmt AnElse) → written_case (case_in y) ≡ true → stepped_case (case_in y) ≡ true → OfCase Q n (meant_case (case_in y))
-  found-case (CaseItem-F.Values es colon body) w u k r =
-      X.case-values Q n k es (stmt_meaning body.0) r (and-left (exprs_written es) (stmt_written body.0) w) (body.1 (and-right (exprs_written es) (stmt_written body.0) w) u)
-  found-case (CaseItem-F.Default keyword colon body) w u k r = X.case-default Q n k (stmt_meaning body.0) r (body.1 w u)
+  found-case : (y : CaseItem-F AnItem ACase AStmt AnElse) → written_case (case_in y) ≡ true → OfCase Q (meant_case (case_in y))
+  found-case (CaseItem-F.Values es colon body) w k r =
+      X.case-values Q k es (stmt_meaning body.0) r (and-left (exprs_written es) (stmt_written body.0) w) (body.1 (and-right (exprs_written es) (stmt_written body.0) w))
+  found-case (CaseItem-F.Default keyword colon body) w k r = X.case-default Q k (stmt_meaning body.0) r (body.1 w)
 
   abbrev written_stmt : Stmt-F BlockItem CaseItem Stmt Else → Bool
   written_stmt z = W.stmt_step (map-Stmt BlockItem CaseItem Stmt Else Bool Bool Bool Bool item_written case_written stmt_written else_written z)
 
-  abbrev stepped_stmt : Stmt-F BlockItem CaseItem Stmt Else → Bool
-  stepped_stmt z = L.stmt_step n (map-Stmt BlockItem CaseItem Stmt Else Bool Bool Bool Bool (item_steps n) (case_steps n) (stmt_steps n) (else_steps n) z)
-
   abbrev meant_stmt : Stmt-F BlockItem CaseItem Stmt Else → StmtMeaning
   meant_stmt z = T.stmt_step (map-Stmt BlockItem CaseItem Stmt Else PartMeaning CaseMeaning StmtMeaning StmtMeaning item_meaning case_meaning stmt_meaning else_meaning z)
 
-  stmt-case : (y : Stmt-F AnItem ACase AStmt AnElse) → written_stmt (stmt_in y) ≡ true → stepped_stmt (stmt_in y) ≡ true → OfStmt Q n (meant_stmt (stmt_in y))
-  stmt-case (Stmt-F.Block begin label items end end_label) w u k r = X.block-keeps Q n k (map item_meaning (items_of items)) r (each-item items w u)
-  stmt-case (Stmt-F.If promise keyword opening test closing body None) w u k r =
+  stmt-case : (y : Stmt-F AnItem ACase AStmt AnElse) → written_stmt (stmt_in y) ≡ true → OfStmt Q (meant_stmt (stmt_in y))
+  stmt-case (Stmt-F.Block begin label items end end_label) w k r = X.block-keeps Q k (map item_meaning (items_of items)) r (each-item items w)
+  stmt-case (Stmt-F.If promise keyword opening test closing body None) w k r =
       let rest = and-right (is_written test) (stmt_written body.0 && true) w in
-      X.if-keeps Q n k test (stmt_meaning body.0) None r (and-left (is_written test) (stmt_written body.0 && true) w) (body.1 (and-left (stmt_written body.0) true rest) (and-left (stmt_steps n body.0) true u)) tt
-  stmt-case (Stmt-F.If promise keyword opening test closing body (Some e)) w u k r =
+      X.if-keeps Q k test (stmt_meaning body.0) None r (and-left (is_written test) (stmt_written body.0 && true) w) (body.1 (and-left (stmt_written body.0) true rest)) tt
+  stmt-case (Stmt-F.If promise keyword opening test closing body (Some e)) w k r =
       let rest = and-right (is_written test) (stmt_written body.0 && else_written e.0) w in
-      X.if-keeps Q n k test (stmt_meaning body.0) (Some (else_meaning e.0)) r (and-left (is_written test) (stmt_written body.0 && else_written e.0) w)
-      (body.1 (and-left (stmt_written body.0) (else_written e.0) rest) (and-left (stmt_steps n body.0) (else_steps n e.0) u))
-      (e.1 (and-right (stmt_written body.0) (else_written e.0) rest) (and-right (stmt_steps n body.0) (else_steps n e.0) u))
-  stmt-case (Stmt-F.Case promise keyword opening sought closing items end) w u k r =
+      X.if-keeps Q k test (stmt_meaning body.0) (Some (else_meaning e.0)) r (and-left (is_written test) (stmt_written body.0 && else_written e.0) w)
+      (body.1 (and-left (stmt_written body.0) (else_written e.0) rest))
+      (e.1 (and-right (stmt_written body.0) (else_written e.0) rest))
+  stmt-case (Stmt-F.Case promise keyword opening sought closing items end) w k r =
       let written = Z.all (map case_written (cases_of items)) in
-      X.case-keeps Q n k keyword sought (map case_meaning (cases_of items)) r (and-left (is_written sought) written w) (each-found items (and-right (is_written sought) written w) u)
-  stmt-case (Stmt-F.For keyword opening first first_semicolon test test_semicolon step closing body) w u k r =
+      X.case-keeps Q k keyword sought (map case_meaning (cases_of items)) r (and-left (is_written sought) written w) (each-found items (and-right (is_written sought) written w))
+  stmt-case (Stmt-F.For keyword opening first first_semicolon test test_semicolon step closing body) w k r =
       let inner = step_written step && stmt_written body.0 in
       let one = and-right (start_written first) (is_written test && inner) w in
       let two = and-right (is_written test) inner one in
-      X.loop-keeps Q n k keyword first test step (stmt_meaning body.0) r (and-left (start_written first) (is_written test && inner) w) (and-left (is_written test) inner one) (and-left (step_written step) (stmt_written body.0) two)
-      (and-left (steps_its_variable n first step) (stmt_steps n body.0) u) (body.1 (and-right (step_written step) (stmt_written body.0) two) (and-right (steps_its_variable n first step) (stmt_steps n body.0) u))
-  stmt-case (Stmt-F.Break keyword semicolon) w u k r = X.break-keeps Q n
-  stmt-case (Stmt-F.Continue keyword semicolon) w u k r = X.continue-keeps Q n
-  stmt-case (Stmt-F.Return keyword e semicolon) w u k r = X.returned-keeps Q n k keyword e r w
-  stmt-case (Stmt-F.Call of opening arguments closing semicolon) w u k r = X.call-keeps Q n k of (map meaning arguments) r.text.around (all-mean Q arguments w)
-  stmt-case (Stmt-F.Assign to op at e semicolon) w u k r = assign-keeps Q k to true op at e r.text.around (and-left (lvalue_written to) (is_written e) w) (and-right (lvalue_written to) (is_written e) w)
-  stmt-case (Stmt-F.Postfix name ss op at semicolon) w u k r = counted-keeps Q k name op at ss r.text.around w
-  stmt-case (Stmt-F.Prefix op at name ss semicolon) w u k r = counted-keeps Q k name op at ss r.text.around w
-  stmt-case (Stmt-F.Empty semicolon) w u k r = X.empty-keeps Q n
+      X.loop-keeps Q k keyword first test step (stmt_meaning body.0) r (and-left (start_written first) (is_written test && inner) w) (and-left (is_written test) inner one) (and-left (step_written step) (stmt_written body.0) two)
+      (body.1 (and-right (step_written step) (stmt_written body.0) two))
+  stmt-case (Stmt-F.Break keyword semicolon) w k r = X.break-keeps Q
+  stmt-case (Stmt-F.Continue keyword semicolon) w k r = X.continue-keeps Q
+  stmt-case (Stmt-F.Return keyword e semicolon) w k r = X.returned-keeps Q k keyword e r w
+  stmt-case (Stmt-F.Call of opening arguments closing semicolon) w k r = X.call-keeps Q k of (map meaning arguments) r.around (all-mean Q arguments w)
+  stmt-case (Stmt-F.Assign to op at e semicolon) w k r = assign-keeps Q k to true op at e r.around (and-left (lvalue_written to) (is_written e) w) (and-right (lvalue_written to) (is_written e) w)
+  stmt-case (Stmt-F.Postfix name ss op at semicolon) w k r = counted-keeps Q k name op at ss r.around w
+  stmt-case (Stmt-F.Prefix op at name ss semicolon) w k r = counted-keeps Q k name op at ss r.around w
+  stmt-case (Stmt-F.Empty semicolon) w k r = X.empty-keeps Q
 
   item-level : (y : BlockItem-F AnItem ACase AStmt AnElse) → OfItem (roll-BlockItem (item_in y))
-  item-level y w u =
-      subst (λ m. OfPart Q n m) (sym (fold-roll-BlockItem PartMeaning CaseMeaning StmtMeaning StmtMeaning T.item_step T.case_step T.stmt_step T.else_step (item_in y)))
-      (item-case y (sym (fold-roll-BlockItem Bool Bool Bool Bool W.item_step W.case_step W.stmt_step W.else_step (item_in y)) ∙ w)
-      (sym (fold-roll-BlockItem Bool Bool Bool Bool L.item_step L.case_step (L.stmt_step n) L.else_step (item_in y)) ∙ u))
+  item-level y w =
+      subst (λ m. OfPart Q m) (sym (fold-roll-BlockItem PartMeaning CaseMeaning StmtMeaning StmtMeaning T.item_step T.case_step T.stmt_step T.else_step (item_in y)))
+      (item-case y (sym (fold-roll-BlockItem Bool Bool Bool Bool W.item_step W.case_step W.stmt_step W.else_step (item_in y)) ∙ w))
 
   found-level : (y : CaseItem-F AnItem ACase AStmt AnElse) → OfFound (roll-CaseItem (case_in y))
-  found-level y w u =
-      subst (λ m. OfCase Q n m) (sym (fold-roll-CaseItem PartMeaning CaseMeaning StmtMeaning StmtMeaning T.item_step T.case_step T.stmt_step T.else_step (case_in y)))
-      (found-case y (sym (fold-roll-CaseItem Bool Bool Bool Bool W.item_step W.case_step W.stmt_step W.else_step (case_in y)) ∙ w)
-      (sym (fold-roll-CaseItem Bool Bool Bool Bool L.item_step L.case_step (L.stmt_step n) L.else_step (case_in y)) ∙ u))
+  found-level y w =
+      subst (λ m. OfCase Q m) (sym (fold-roll-CaseItem PartMeaning CaseMeaning StmtMeaning StmtMeaning T.item_step T.case_step T.stmt_step T.else_step (case_in y)))
+      (found-case y (sym (fold-roll-CaseItem Bool Bool Bool Bool W.item_step W.case_step W.stmt_step W.else_step (case_in y)) ∙ w))
 
   stmt-level : (y : Stmt-F AnItem ACase AStmt AnElse) → OfWritten (roll-Stmt (stmt_in y))
-  stmt-level y w u =
-      subst (λ m. OfStmt Q n m) (sym (fold-roll-Stmt PartMeaning CaseMeaning StmtMeaning StmtMeaning T.item_step T.case_step T.stmt_step T.else_step (stmt_in y)))
-      (stmt-case y (sym (fold-roll-Stmt Bool Bool Bool Bool W.item_step W.case_step W.stmt_step W.else_step (stmt_in y)) ∙ w)
-      (sym (fold-roll-Stmt Bool Bool Bool Bool L.item_step L.case_step (L.stmt_step n) L.else_step (stmt_in y)) ∙ u))
+  stmt-level y w =
+      subst (λ m. OfStmt Q m) (sym (fold-roll-Stmt PartMeaning CaseMeaning StmtMeaning StmtMeaning T.item_step T.case_step T.stmt_step T.else_step (stmt_in y)))
+      (stmt-case y (sym (fold-roll-Stmt Bool Bool Bool Bool W.item_step W.case_step W.stmt_step W.else_step (stmt_in y)) ∙ w))
 
   else-level : (y : Else-F AnItem ACase AStmt AnElse) → OfElse (roll-Else (else_in y))
-  else-level y w u =
-      subst (λ m. OfStmt Q n m) (sym (fold-roll-Else PartMeaning CaseMeaning StmtMeaning StmtMeaning T.item_step T.case_step T.stmt_step T.else_step (else_in y)))
-      (y.body.1 (sym (fold-roll-Else Bool Bool Bool Bool W.item_step W.case_step W.stmt_step W.else_step (else_in y)) ∙ w)
-      (sym (fold-roll-Else Bool Bool Bool Bool L.item_step L.case_step (L.stmt_step n) L.else_step (else_in y)) ∙ u))
+  else-level y w =
+      subst (λ m. OfStmt Q m) (sym (fold-roll-Else PartMeaning CaseMeaning StmtMeaning StmtMeaning T.item_step T.case_step T.stmt_step T.else_step (else_in y)))
+      (y.body.1 (sym (fold-roll-Else Bool Bool Bool Bool W.item_step W.case_step W.stmt_step W.else_step (else_in y)) ∙ w))
 
   stmt-sound : (x : Stmt) → OfWritten x
   stmt-sound =
@@ -202,17 +185,13 @@ module _ (Q : List Function → Type 0) (n : Scope) where
       ind-BlockItem OfItem OfFound OfWritten OfElse (λ x y is. subst (λ z. OfItem (roll-BlockItem z)) is (item-level y)) (λ x y is. subst (λ z. OfFound (roll-CaseItem z)) is (found-level y))
       (λ x y is. subst (λ z. OfWritten (roll-Stmt z)) is (stmt-level y)) (λ x y is. subst (λ z. OfElse (roll-Else z)) is (else-level y))
 
-  all-items : (xs : List BlockItem) → items_written xs ≡ true → items_steps n xs ≡ true → AllParts Q n (map item_meaning xs)
-  all-items [] w u = tt
-  all-items (x ∷ xs) w u =
-      (item-sound x (and-left (item_written x) (items_written xs) w) (and-left (item_steps n x) (items_steps n xs) u), all-items xs (and-right (item_written x) (items_written xs) w) (and-right (item_steps n x) (items_steps n xs) u))
+  all-items : (xs : List BlockItem) → items_written xs ≡ true → AllParts Q (map item_meaning xs)
+  all-items [] w = tt
+  all-items (x ∷ xs) w =
+      (item-sound x (and-left (item_written x) (items_written xs) w), all-items xs (and-right (item_written x) (items_written xs) w))
 
-module _ (Q : List Function → Type 0) where
-  stands : (k : Context) → AroundStatements Q k → Stands Q (scope k) k
-  stands k r = record { text = r; names = refl }
+  pub statement-sound : (k : Context) (s : Stmt) → AroundStatements Q k → stmt_written s ≡ true → Keeps Q SoundStmt (stmt_meaning s k)
+  statement-sound k s r w = stmt-sound s w k r
 
-  pub statement-sound : (k : Context) (s : Stmt) → AroundStatements Q k → stmt_written s ≡ true → stmt_steps (scope k) s ≡ true → Keeps Q SoundStmt (stmt_meaning s k)
-  statement-sound k s r w u = stmt-sound Q (scope k) s w u k (stands k r)
-
-  pub block-sound : (k : Context) (items : List BlockItem) → AroundStatements Q k → items_written items ≡ true → items_steps (scope k) items ≡ true → Keeps Q SoundStmt (block k (map item_meaning items))
-  block-sound k items r w u = X.block-keeps Q (scope k) k (map item_meaning items) (stands k r) (all-items Q (scope k) items w u)
+  pub block-sound : (k : Context) (items : List BlockItem) → AroundStatements Q k → items_written items ≡ true → Keeps Q SoundStmt (block k (map item_meaning items))
+  block-sound k items r w = X.block-keeps Q k (map item_meaning items) r (all-items items w)

@@ -18,7 +18,6 @@ use Rattle.typing_walks.specs.Keeps.{Keeps, FullType, Surrounded}
 use Rattle.typing_walks.specs.WrittenTypes.{dims_written, type_written}
 use Rattle.routine_fits.specs.Sound.{SoundStmt, AllSoundFunctions}
 use Rattle.stmt_laws.specs.Written.{declarators_written, bodies_written, selects_written, stmt_written, items_written}
-use Rattle.stmt_laws.specs.Loops.{scope, stmt_steps, items_steps}
 use Rattle.stmt_laws.specs.Sound.{SoundType, SoundDeclared, KindFull, AroundStatements}
 
 -- types as they are written, with the names of the enums in them
@@ -38,6 +37,6 @@ pub record DeclarationsAreSound : Type 0 where
 
 -- statements and blocks
 pub record StatementsAreSound : Type 0 where
-  pub statement : (k : Context) (s : Stmt) → AroundStatements AllSoundFunctions k → stmt_written s ≡ true → stmt_steps (scope k) s ≡ true → Keeps AllSoundFunctions SoundStmt (typed_stmt k s)
-  pub block : (k : Context) (items : List BlockItem) → AroundStatements AllSoundFunctions k → items_written items ≡ true → items_steps (scope k) items ≡ true
+  pub statement : (k : Context) (s : Stmt) → AroundStatements AllSoundFunctions k → stmt_written s ≡ true → Keeps AllSoundFunctions SoundStmt (typed_stmt k s)
+  pub block : (k : Context) (items : List BlockItem) → AroundStatements AllSoundFunctions k → items_written items ≡ true
       → Keeps AllSoundFunctions SoundStmt (block k (map item_meaning items))

@@ -1,4 +1,3 @@
 pub mod Written
-pub mod Loops
 pub mod Sound
 pub mod Laws

@@ -16,8 +16,7 @@ pub fn declarations_are_sound()
     ensures { DeclarationsAreSound }
 {}
 
-/// A statement of a sound text is typed as a sound one, if the steps of its loops assign to their variables (clauses 9.3, 10.4, 11.4.2,
-/// 12.4 to 12.8 and 13.3).
+/// A statement of a sound text is typed as a sound one (clauses 9.3, 10.4, 11.4.2, 12.4 to 12.8 and 13.3).
 pub fn statements_are_sound()
     ensures { StatementsAreSound }
 {}

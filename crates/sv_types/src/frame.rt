@@ -17,7 +17,6 @@ pub type SignalIds = Items<SignalId>;
 pub type PortBindings = Items<PortBinding>;
 
 /// The value of a parameter.
-#[derive(Drop)]
 pub struct ParamValue {
     /// The number of the declaration.
     pub decl: u32,
@@ -27,8 +26,17 @@ pub struct ParamValue {
     pub value: Value,
 }
 
+impl Drop for ParamValue {
+    fn drop(self) {
+        let ParamValue {
+            decl: _,
+            of: _,
+            value: _,
+        } = self;
+    }
+}
+
 /// The type of a type parameter.
-#[derive(Drop)]
 pub struct ParamType {
     /// The number of the declaration.
     pub decl: u32,
@@ -36,8 +44,13 @@ pub struct ParamType {
     pub of: SvType,
 }
 
+impl Drop for ParamType {
+    fn drop(self) {
+        let ParamType { decl: _, of: _ } = self;
+    }
+}
+
 /// The signal that a name stands for.
-#[derive(Drop)]
 pub struct SignalId {
     /// The number of the declaration.
     pub decl: u32,
@@ -51,8 +64,19 @@ pub struct SignalId {
     pub input: bool,
 }
 
+impl Drop for SignalId {
+    fn drop(self) {
+        let SignalId {
+            decl: _,
+            member: _,
+            signal: _,
+            of: _,
+            input: _,
+        } = self;
+    }
+}
+
 /// The text of an instance or a generate block, and what is known in it.
-#[derive(Drop)]
 pub struct Frame {
     /// The number of the instance.
     pub instance: u32,
@@ -68,6 +92,20 @@ pub struct Frame {
     pub signals: SignalIds,
     /// All functions that this elaboration has got so far.
     pub functions: Functions,
+}
+
+impl Drop for Frame {
+    fn drop(self) {
+        let Frame {
+            instance: _,
+            path: _,
+            scope: _,
+            values: _,
+            types: _,
+            signals: _,
+            functions: _,
+        } = self;
+    }
 }
 
 /// What tells two instances of a module apart: parameters, and the bindings of interface ports.

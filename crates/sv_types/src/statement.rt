@@ -127,7 +127,6 @@ pub enum CaseKind {
 }
 
 /// A local variable.
-#[derive(Drop)]
 pub struct Local {
     /// Its number in its process or function.
     pub number: u32,
@@ -135,6 +134,16 @@ pub struct Local {
     pub of: SvType,
     /// The value with which it starts each time, in place of its type's default.
     pub initial: Option<Expr>,
+}
+
+impl Drop for Local {
+    fn drop(self) {
+        let Local {
+            number: _,
+            of: _,
+            initial: _,
+        } = self;
+    }
 }
 
 /// Which way a formal passes its value (clause 13.5).
@@ -149,7 +158,6 @@ pub enum Way {
 }
 
 /// A formal of a function or task.
-#[derive(Drop)]
 pub struct Formal {
     /// The local that it is in the body.
     pub local: Local,
@@ -157,6 +165,16 @@ pub struct Formal {
     pub way: Way,
     /// Its name in the declaration.
     pub spot: Spot,
+}
+
+impl Drop for Formal {
+    fn drop(self) {
+        let Formal {
+            local: _,
+            way: _,
+            spot: _,
+        } = self;
+    }
 }
 
 /// How the run of a statement ends (clause 12.8).
@@ -173,7 +191,6 @@ pub enum Outcome {
 }
 
 /// What a function was in the source.
-#[derive(Drop)]
 pub enum FunctionKind {
     /// A function with a result.
     Plain,
@@ -184,8 +201,17 @@ pub enum FunctionKind {
     Made(Spots),
 }
 
+impl Drop for FunctionKind {
+    fn drop(self) {
+        match self {
+            FunctionKind::Plain => {}
+            FunctionKind::Routine => {}
+            FunctionKind::Made(_) => {}
+        }
+    }
+}
+
 /// A function or task (clause 13). Its result is its local 0.
-#[derive(Drop)]
 pub struct Function {
     /// The number of the instance in whose text it stands.
     pub instance: u32,
@@ -201,4 +227,18 @@ pub struct Function {
     pub formals: Formals,
     /// What it runs.
     pub body: Stmt,
+}
+
+impl Drop for Function {
+    fn drop(self) {
+        let Function {
+            instance: _,
+            path: _,
+            spot: _,
+            kind: _,
+            of: _,
+            formals: _,
+            body: _,
+        } = self;
+    }
 }

@@ -85,12 +85,17 @@ pub struct Member {
 }
 
 /// A name of an enum with its value.
-#[derive(Drop)]
 pub struct EnumName {
     /// The name.
     pub name: Text,
     /// Its value, of the width of the base.
     pub value: Vec4,
+}
+
+impl Drop for EnumName {
+    fn drop(self) {
+        let EnumName { name: _, value: _ } = self;
+    }
 }
 
 /// A value of a type. A scalar, a union or an enum has bits, a struct or an array the values of its members or elements.
