@@ -10,7 +10,7 @@ use Rattle.sv_types.specs.declared.statement.Stmt.TheVariants as S
 use Rattle.expr_type.specs.declared.halt.Halt.{Halt}
 use Rattle.expr_type.specs.declared.halt.Halt.TheVariants as H
 use Rattle.expr_type.specs.declared.operand.Valued.{Valued}
-use Rattle.expr_type.specs.Names.{Context}
+use Rattle.expr_type.specs.Names.{Context, LocalId}
 use Rattle.expr_type.specs.Statements as D
 use Rattle.expr_type.specs.Typings.{Typing, beside, beside_by, both, both_by, whole}
 use Rattle.typing_steps.specs.Steps.{TypesTo}
@@ -102,14 +102,15 @@ choice-fine x y z fs gs hs js test body other r v two s b e f is p q t =
 pub ruleset choices = (choice-stops, choice-fine)
 
 -- tests and steps of loops
-pub control-stops : (k : Context) (test : X.Expr) (step : LoopStep) (fs gs hs : List Function) (v : Result Valued Halt) (e : Result Expr Halt) (h : Halt) → first_stop (stop v) (stop e) ≡ Some h
-    → TypesTo v (D.condition k test fs) gs → TypesTo e (D.loop_step k step gs) hs → TypesTo {A = D.Control} (Err h) (controlled k test step fs) hs
-control-stops k test step fs gs hs v e h s p q = both-stops (D.condition k test) (D.loop_step k step) D.control fs gs hs v e h s p q
+pub control-stops : (k : Context) (o : Option D.LoopVariable) (i : Option LocalId) (test : X.Expr) (step : LoopStep) (fs gs hs : List Function) (v : Result Valued Halt) (e : Result Expr Halt) (h : Halt) → i ≡ D.id_of o
+    → first_stop (stop v) (stop e) ≡ Some h → TypesTo v (D.condition k test fs) gs → TypesTo e (D.loop_step k i step gs) hs → TypesTo {A = D.Control} (Err h) (controlled k o test step fs) hs
+control-stops k o i test step fs gs hs v e h is s p q =
+    both-stops (D.condition k test) (D.loop_step k (D.id_of o) step) D.control fs gs hs v e h s p (subst (λ (j : Option LocalId). TypesTo e (D.loop_step k j step gs) hs) is q)
 
-pub control-fine : (k : Context) (test : X.Expr) (step : LoopStep) (fs gs hs : List Function) (v : Result Valued Halt) (e : Result Expr Halt) (a : Valued) (b : Expr) → v ≡ Ok a → e ≡ Ok b
-    → TypesTo v (D.condition k test fs) gs → TypesTo e (D.loop_step k step gs) hs → TypesTo {A = D.Control} (Ok (record { test = a; step = b })) (controlled k test step fs) hs
-control-fine k test step fs gs hs v e a b f g p q =
-    both-fine (D.condition k test) (D.loop_step k step) D.control fs gs hs a b (Ok (record { test = a; step = b })) (subst (λ (r : Result Valued Halt). TypesTo r (D.condition k test fs) gs) f p)
-    (subst (λ (r : Result Expr Halt). TypesTo r (D.loop_step k step gs) hs) g q) refl
+pub control-fine : (k : Context) (o : Option D.LoopVariable) (i : Option LocalId) (test : X.Expr) (step : LoopStep) (fs gs hs : List Function) (v : Result Valued Halt) (e : Result Expr Halt) (a : Valued) (b : Expr) → i ≡ D.id_of o
+    → v ≡ Ok a → e ≡ Ok b → TypesTo v (D.condition k test fs) gs → TypesTo e (D.loop_step k i step gs) hs → TypesTo {A = D.Control} (Ok (record { test = a; step = b })) (controlled k o test step fs) hs
+control-fine k o i test step fs gs hs v e a b is f g p q =
+    both-fine (D.condition k test) (D.loop_step k (D.id_of o) step) D.control fs gs hs a b (Ok (record { test = a; step = b })) (subst (λ (r : Result Valued Halt). TypesTo r (D.condition k test fs) gs) f p)
+    (subst (λ (r : Result Expr Halt). TypesTo r (D.loop_step k (D.id_of o) step gs) hs) g (subst (λ (j : Option LocalId). TypesTo e (D.loop_step k j step gs) hs) is q)) refl
 
 pub ruleset controls = (control-stops, control-fine)

@@ -1,5 +1,5 @@
 -- The heads of loops as the code has them.
-use Rattle.std.specs.Prelude.{◌≡◌, ℕ, Option, Some, None, Result, Ok, Err}
+use Rattle.std.specs.Prelude.{ℕ, Option, Some, None, Result, Ok, Err}
 use Rattle.sv_tree.specs.declared.expressions.Expr as X
 use Rattle.sv_tree.specs.declared.statements.LoopStep.{LoopStep}
 use Rattle.sv_types.specs.declared.statement.Stmt as R
@@ -10,7 +10,6 @@ use Rattle.expr_type.specs.Typings.{Typing, both, both_by, whole}
 use Rattle.frame_things.specs.Finding.{local_id}
 use Rattle.typing_loops.specs.declared.turns.LoopVariable.{LoopVariable}
 use Rattle.typing_loops.specs.declared.turns.Control.{Control}
-use Rattle.typing_loops.specs.declared.turns.Start.{Start}
 
 -- what is whole
 abbrev pub known_of : {A : Type 0} → Result A Halt → Option A
@@ -20,21 +19,13 @@ known_of (Err h) = None
 abbrev pub variable_of : LoopVariable → D.LoopVariable
 variable_of v = record { id = local_id v.local; first = v.first }
 
-abbrev pub start_of : LoopVariable → Start
-start_of v = record { number = v.local.number; first = v.first }
-
 abbrev pub control_of : Control → D.Control
 control_of c = record { test = c.test; step = c.step }
 
--- a test and a step of a loop
-abbrev pub controlled : Context → X.Expr → LoopStep → Typing D.Control
-controlled k test step = both (D.condition k test) (D.loop_step k step) D.control
+-- a test and a step of a loop of a variable, where it stands
+abbrev pub controlled : Context → Option D.LoopVariable → X.Expr → LoopStep → Typing D.Control
+controlled k o test step = both (D.condition k test) (D.loop_step k (D.id_of o) step) D.control
 
 -- a loop of a variable, its control and its statement, both of which are looked at where the variable stands
 abbrev pub looped : Context → ℕ → Typing D.LoopVariable → (Option D.LoopVariable → Typing D.Control) → (Option D.LoopVariable → Typing R.Stmt) → Typing R.Stmt
 looped k at x y z = both_by x (λ o. both (y o) (z o) D.turns) (λ v t. whole (D.loop_stmt k at v t))
-
--- where the variable of a loop stands, where it is whole, and what is left of it
-abbrev pub Entered : Context → Result LoopVariable Halt → Context → Result Start Halt → Type 0
-Entered k (Ok v) j s = (j ≡ D.in_loop k (Some (variable_of v))) × (s ≡ Ok (start_of v))
-Entered k (Err h) j s = (j ≡ k) × (s ≡ Err h)

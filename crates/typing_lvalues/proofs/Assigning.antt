@@ -1,5 +1,5 @@
 -- Assignments, and counting.
-use Rattle.std.proofs.Common.{◌≡◌, ℕ, List, [], Some, refl, subst, sym}
+use Rattle.std.proofs.Common.{◌≡◌, ℕ, List, [], Option, Some, refl, subst, sym}
 use Rattle.std.specs.Prelude.{Result, Ok, Err, true}
 use Rattle.sv_tree.specs.declared.expressions.Select.{Select}
 use Rattle.sv_tree.specs.declared.operators.AssignmentOperator.{AssignmentOperator}
@@ -9,7 +9,7 @@ use Rattle.sv_types.specs.declared.statement.Function.{Function}
 use Rattle.sv_types.specs.declared.statement.Stmt.{Stmt}
 use Rattle.expr_type.specs.declared.halt.Halt.{Halt}
 use Rattle.expr_type.specs.Answers.{Gives, HaltsBy, reason}
-use Rattle.expr_type.specs.Names.{Context}
+use Rattle.expr_type.specs.Names.{Context, LocalId}
 use Rattle.expr_type.specs.Operands.{Operand, no_stream}
 use Rattle.expr_type.specs.Statements as S
 use Rattle.expr_type.specs.Statements.{assignment, one, step_operator, step_value}
@@ -78,8 +78,8 @@ counted-types k name op at ss fs gs r h =
     then-types (named_target_of k true (simple_name name) ss) ToPath (λ t. f t (one k at)) fs gs r (beside-whole (W.path_of_name k true name ss) (one k at) f fs gs r h)
 
 -- a loop's variable that is counted
-pub step-counts : (k : Context) (name : ℕ) (op : StepOperator) (at : ℕ) (fs gs : List Function) (r : Result Expr Halt) → TypesTo r (Y.stepped k at (step_operator op) (W.path_of_name k true name []) (whole (one k at)) fs) gs
-    → TypesTo r (Y.counted_of k name op at fs) gs
-step-counts k name op at fs gs r h =
+pub step-counts : (k : Context) (o : Option LocalId) (name : ℕ) (op : StepOperator) (at : ℕ) (fs gs : List Function) (r : Result Expr Halt) → TypesTo r (Y.stepped k at (step_operator op) (S.loop_target k o name) (whole (one k at)) fs) gs
+    → TypesTo r (Y.counted_of k o name op at fs) gs
+step-counts k o name op at fs gs r h =
     let f : D.Target → Operand → Typing Expr = λ t o. rule (step_value k at (step_operator op) t o) in
-    beside-whole (W.path_of_name k true name []) (one k at) f fs gs r h
+    beside-whole (S.loop_target k o name) (one k at) f fs gs r h

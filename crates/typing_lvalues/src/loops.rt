@@ -1,15 +1,17 @@
 //! What loops do behind each turn.
 
-ghost use Rattle.std.specs.Prelude.{◌≡◌, List, true};
+ghost use Rattle.std.specs.Prelude.{◌≡◌, List, true, OnSome};
+ghost use Rattle.std.specs.Option.{option_copied, option_map};
 ghost use Rattle.sv_types.specs.declared.statement.Function.{Function};
 ghost use Rattle.expr_type.specs.Answers.{Gives};
 ghost use Rattle.expr_type.specs.Operands as operand;
 ghost use Rattle.expr_type.specs.Statements as statement;
 ghost use Rattle.expr_type.specs.Targets as def;
 ghost use Rattle.expr_type.specs.Typings.{Typing};
+ghost use Rattle.frame_things.specs.Finding.{local_id};
 ghost use Rattle.pattern_types.specs.Meaning.{operand_of};
 ghost use Rattle.routine_fits.specs.Sound.{AllSoundFunctions};
-ghost use Rattle.typing_fits.specs.Sound.{Extends};
+ghost use Rattle.typing_fits.specs.Sound.{Extends, IsNarrowType};
 ghost use Rattle.typing_assigns.specs.Parts.{IsNarrowTarget, NarrowTarget};
 ghost use Rattle.typing_assigns.specs.Targets.{StandsFor, TargetsTo};
 ghost use Rattle.typing_parts.specs.Operands.{as_operand};
@@ -20,13 +22,15 @@ ghost use Rattle.typing_walks.specs.Written.{is_written};
 ghost use Rattle.typing_lvalues.specs.Loops.{assigned_of, counted_of, step_written, stepped};
 
 use crate::ones::{one, step_operator};
-use crate::paths::name_target;
 use crate::sides::beside;
 use expr_type::Halt;
+use frame_things::NamedLocal;
+use operand_types::by_itself;
 use pattern_types::Operand;
 use std::alloc::Global;
 use sv_tree::{AssignmentOperator, LoopStep, StepOperator};
-use sv_types::Expr;
+use sv_types::{Expr, Form};
+use type_kinds::copy_type;
 use typing_assigns::{Target, assigned_by};
 use typing_exprs::operand;
 use typing_parts::{Known, Names};
@@ -69,33 +73,50 @@ fn stepped<S: Names>(
     step_value(alloc, names, at, op, &to, value)
 }
 
-// A name that is counted up or down.
-fn counted_step<S: Nets, C: Fn(u32, &mut Known) -> Result<u32, Halt>>(
+// What a step assigns to: the variable of its loop, whose name stands at this token. None is whole where the variable isn't.
+fn loop_target<S: Names>(
     alloc: Global,
     names: &S,
-    needs: &C,
+    variable: Option<&NamedLocal>,
+    name: u32,
+) -> Result<Target, Halt>
+    requires narrow { OnSome variable (λ l. IsNarrowType l.of) }
+    ensures value { (fs : List Function) → TargetsTo result (statement.loop_target (S.context names.now) (option_map local_id (option_copied variable)) name fs) fs }
+    ensures narrow { NarrowTarget result }
+{
+    match variable {
+        None => Err(Halt::Quiet),
+        Some(local) => {
+            let of = copy_type(alloc, &local.of)?;
+            let v = by_itself(alloc, names.text(), name, of, Form::Local(local.number))?;
+            Ok(Target::Path(v))
+        }
+    }
+}
+
+// A variable that is counted up or down.
+fn counted_step<S: Names>(
+    alloc: Global,
+    names: &S,
+    variable: Option<&NamedLocal>,
     name: u32,
     op: StepOperator,
     at: u32,
-    known: &mut Known,
 ) -> Result<Expr, Halt>
-    requires needs { MakesKnown _ ((n : _) (k : _) → IsReady k.now → C.pre needs.now n k) (λ k. k.now) (C.post needs.now) (S.context names.now) }
-    requires names { Surrounded AllSoundFunctions (S.context names.now) }
-    requires ready { IsReady known.old }
-    ensures value { TypesTo result (counted_of (S.context names.now) name op at known.old.functions) known.new.functions }
-    ensures ready { IsReady known.new }
-    ensures keeps { Extends known.old.functions known.new.functions }
+    requires narrow { OnSome variable (λ l. IsNarrowType l.of) }
+    ensures { (fs : List Function) → TypesTo result (counted_of (S.context names.now) (option_map local_id (option_copied variable)) name op at fs) fs }
 {
-    let to = name_target(alloc, names, needs, true, name, &[], known);
+    let to = loop_target(alloc, names, variable, name);
     let value = one(alloc, names, at);
     stepped(alloc, names, at, step_operator(op), to, value)
 }
 
-// A name to which a value is assigned.
+// A variable to which a value is assigned.
 fn assigned_step<S: Nets, C: Fn(u32, &mut Known) -> Result<u32, Halt>>(
     alloc: Global,
     names: &S,
     needs: &C,
+    variable: Option<&NamedLocal>,
     name: u32,
     op: AssignmentOperator,
     at: u32,
@@ -104,31 +125,34 @@ fn assigned_step<S: Nets, C: Fn(u32, &mut Known) -> Result<u32, Halt>>(
 ) -> Result<Expr, Halt>
     requires needs { MakesKnown _ ((n : _) (k : _) → IsReady k.now → C.pre needs.now n k) (λ k. k.now) (C.post needs.now) (S.context names.now) }
     requires names { Surrounded AllSoundFunctions (S.context names.now) }
+    requires narrow { OnSome variable (λ l. IsNarrowType l.of) }
     requires written { is_written e.now ≡ true }
     requires ready { IsReady known.old }
-    ensures value { TypesTo result (assigned_of (S.context names.now) name op at e.now known.old.functions) known.new.functions }
+    ensures value { TypesTo result (assigned_of (S.context names.now) (option_map local_id (option_copied variable)) name op at e.now known.old.functions) known.new.functions }
     ensures ready { IsReady known.new }
     ensures keeps { Extends known.old.functions known.new.functions }
 {
-    let to = name_target(alloc, names, needs, true, name, &[], known);
+    let to = loop_target(alloc, names, variable, name);
     let value = operand(alloc, names, needs, e, known);
     stepped(alloc, names, at, op, to, value)
 }
 
 /// What a loop gives to its variable behind each turn (IEEE 1800-2017 clauses 11.4.1, 11.4.2 and 12.7.1): no stream stands there (E512).
-/// The first break in the order of the text counts.
+/// The first break in the order of the text counts; no variable stands for one that isn't whole, of whose step nothing is known.
 pub fn loop_step<S: Nets, C: Fn(u32, &mut Known) -> Result<u32, Halt>>(
     alloc: Global,
     names: &S,
     needs: &C,
+    variable: Option<&NamedLocal>,
     step: &LoopStep,
     known: &mut Known,
 ) -> Result<Expr, Halt>
     requires needs { MakesKnown _ ((n : _) (k : _) → IsReady k.now → C.pre needs.now n k) (λ k. k.now) (C.post needs.now) (S.context names.now) }
     requires names { Surrounded AllSoundFunctions (S.context names.now) }
+    requires narrow { OnSome variable (λ l. IsNarrowType l.of) }
     requires written { step_written step.now ≡ true }
     requires ready { IsReady known.old }
-    ensures value { TypesTo result (statement.loop_step (S.context names.now) step.now known.old.functions) known.new.functions }
+    ensures value { TypesTo result (statement.loop_step (S.context names.now) (option_map local_id (option_copied variable)) step.now known.old.functions) known.new.functions }
     ensures ready { IsReady known.new }
     ensures keeps { Extends known.old.functions known.new.functions }
 {
@@ -138,12 +162,14 @@ pub fn loop_step<S: Nets, C: Fn(u32, &mut Known) -> Result<u32, Halt>>(
             operator,
             at,
             value,
-        } => assigned_step(alloc, names, needs, *name, *operator, *at, value, known),
+        } => assigned_step(
+            alloc, names, needs, variable, *name, *operator, *at, value, known,
+        ),
         LoopStep::Postfix { name, operator, at } => {
-            counted_step(alloc, names, needs, *name, *operator, *at, known)
+            counted_step(alloc, names, variable, *name, *operator, *at)
         }
         LoopStep::Prefix { operator, at, name } => {
-            counted_step(alloc, names, needs, *name, *operator, *at, known)
+            counted_step(alloc, names, variable, *name, *operator, *at)
         }
     }
 }
