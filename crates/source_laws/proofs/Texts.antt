@@ -1,5 +1,5 @@
 -- The texts of a source that is read, and of its frames.
-use Rattle.std.proofs.Common.{◌≡◌, ℕ, Bool, true, false, List, [], length, Option, Some, None, refl}
+use Rattle.std.proofs.Common.{◌≡◌, ℕ, true, List, length, Option, Some, None, refl}
 use Rattle.std.specs.Prelude.{slice_get}
 use Rattle.sv_source.specs.declared.token.Token.{Token}
 use Rattle.sv_tree.specs.declared.units.SourceTree.{SourceTree}
@@ -14,7 +14,7 @@ use Rattle.typing_fits.specs.Operands.{SoundContext}
 use Rattle.typing_walks.specs.Keeps.{Surrounded}
 use Rattle.routine_fits.specs.Sound.{AllSoundFunctions}
 use Rattle.stmt_laws.specs.Sound.{AroundStatements}
-use Rattle.routine_laws.specs.Names.{Signals, signals_of, is_no_signal}
+use Rattle.routine_laws.specs.Names.{signals_of, is_no_signal}
 use Rattle.routine_laws.specs.Texts.{SoundText, AllSoundTexts, items_of}
 use Rattle.routine_laws.proofs.Routines.{surrounded}
 use Rattle.written_laws.proofs.Texts.{head-written, items-written}
