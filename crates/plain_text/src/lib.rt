@@ -2,6 +2,7 @@
 #![tactic(auto)]
 
 ghost use Rattle.std.specs.Prelude.{◌≡◌, ◌<◌, ◌≤◌, ◌-◌, ◌^◌, true, length, IfOk};
+ghost use Rattle.plain_text.specs.Trees.{IsRead};
 ghost use Rattle.sv_build.specs.Reading.{Ends, is_end};
 
 use std::alloc::{AllocError, Global};
@@ -70,6 +71,7 @@ fn ended(tokens: Tokens, end: Token) -> Result<Tokens, AllocError>
 /// of its tokens, and macros aren't expanded.
 pub fn read_text(alloc: Global, bytes: &[u8]) -> Result<SourceTree, Fail>
     requires { length bytes.now < 2 ^ 32 - 2 }
+    ensures { IfOk result IsRead }
 {
     let tokens = tokens_of(alloc, bytes)?;
     let end = end_of(alloc, bytes)?;
