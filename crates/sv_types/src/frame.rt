@@ -77,6 +77,7 @@ impl Drop for SignalId {
 }
 
 /// The text of an instance or a generate block, and what is known in it.
+#[derive(Drop)]
 pub struct Frame {
     /// The number of the instance.
     pub instance: u32,
@@ -92,20 +93,6 @@ pub struct Frame {
     pub signals: SignalIds,
     /// All functions that this elaboration has got so far.
     pub functions: Functions,
-}
-
-impl Drop for Frame {
-    fn drop(self) {
-        let Frame {
-            instance: _,
-            path: _,
-            scope: _,
-            values: _,
-            types: _,
-            signals: _,
-            functions: _,
-        } = self;
-    }
 }
 
 /// What tells two instances of a module apart: parameters, and the bindings of interface ports.

@@ -212,6 +212,7 @@ impl Drop for FunctionKind {
 }
 
 /// A function or task (clause 13). Its result is its local 0.
+#[derive(Drop)]
 pub struct Function {
     /// The number of the instance in whose text it stands.
     pub instance: u32,
@@ -227,18 +228,4 @@ pub struct Function {
     pub formals: Formals,
     /// What it runs.
     pub body: Stmt,
-}
-
-impl Drop for Function {
-    fn drop(self) {
-        let Function {
-            instance: _,
-            path: _,
-            spot: _,
-            kind: _,
-            of: _,
-            formals: _,
-            body: _,
-        } = self;
-    }
 }
