@@ -9,3 +9,4 @@ mod walk;
 
 pub use actuals::actual_target;
 pub use forms::is_target;
+pub use typing_exprs::operand;

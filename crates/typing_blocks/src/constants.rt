@@ -22,9 +22,9 @@ use expr_type::Halt;
 use std::alloc::Global;
 use sv_tree::{Declarator, Initializer};
 use sv_types::{ParamType, ParamValue, SvType};
-use typing_exprs::operand;
 use typing_parts::{Known, Names};
 use typing_scopes::{Base, Scope};
+use typing_texts::operand;
 
 /// A constant of a type, or of that of its value, at its name: E405 where it has no value, the rules of `constant_values` on the value,
 /// and E701 where it has more than 65,536 bits.

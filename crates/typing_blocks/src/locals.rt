@@ -24,10 +24,9 @@ use stmt_types::local_type;
 use sv_tree::{Declarator, Dimension, Initializer};
 use sv_types::{Expr, Local, SvType};
 use type_kinds::copy_type;
-use typing_exprs::type_expr;
 use typing_parts::{Known, Names};
 use typing_scopes::{Base, Scope};
-use typing_texts::declared_type;
+use typing_texts::{declared_type, type_expr};
 
 // The type of a local, which has at most 65,536 bits (E701).
 #[tactic(auto, using(typing_steps::proofs::Combining::steps))]

@@ -21,9 +21,9 @@ use std::alloc::Global;
 use sv_tree::{Expr, Initializer, Select};
 use sv_types::SvType;
 use typing_dimensions::dimensioned;
-use typing_exprs::operand;
 use typing_parts::{Known, Names};
 use typing_system::as_type;
+use typing_texts::operand;
 
 // What an operand that is looked at by itself stops.
 fn halt_of(o: Result<Operand, Halt>) -> Halt

@@ -13,3 +13,4 @@ pub use dimensions::dims;
 pub use enums::enumeration;
 pub use found::TypeFound;
 pub use types::{base_type, declared_type, implicit, keyword, named_with};
+pub use typing_exprs::{operand, type_expr};

@@ -25,9 +25,10 @@ use Rattle.typing_steps.specs.Steps.{TypesTo}
 use Rattle.typing_steps.proofs.Combining.{checked-fine, checked-stops, rule-types}
 use Rattle.typing_calls.specs.Lists.{as_meant}
 use Rattle.typing_loops.specs.declared.turns.LoopVariable.{LoopVariable}
-use Rattle.typing_loops.specs.Loops.{known_of, variable_of}
+use Rattle.typing_loops.specs.Loops.{variable_of}
 use Rattle.typing_loop_variables.specs.Variables.{GivenFirst, VariableAt}
-use Rattle.typing_loops.proofs.Sides.{by-both-fine, by-both-stops}
+use Rattle.typing_sides.specs.Sides.{known_of}
+use Rattle.typing_sides.proofs.Together.{by-both-fine, by-both-stops}
 
 -- a value of at most 2^22 bits
 abbrev narrow_by : O.Operand-F O.Operand J.Item → Type 0

@@ -10,7 +10,7 @@ use Rattle.expr_type.specs.Operands.{Operand}
 use Rattle.expr_type.specs.Statements as D
 use Rattle.expr_type.specs.Types.{TypeFound}
 use Rattle.frame_things.specs.Finding.{local_id}
-use Rattle.typing_loops.specs.TypingLvalues.{first_stop, stop}
+use Rattle.typing_sides.specs.Sides.{first_stop, stop}
 use Rattle.typing_loops.specs.declared.turns.LoopVariable.{LoopVariable}
 
 -- what is given to a variable of a type that may not be whole

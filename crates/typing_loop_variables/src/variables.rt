@@ -12,11 +12,12 @@ ghost use Rattle.routine_fits.specs.Sound.{AllSoundFunctions};
 ghost use Rattle.stmt_laws.specs.Written.{start_written};
 ghost use Rattle.sv_types.specs.Layouts.{width_of};
 ghost use Rattle.typing_calls.specs.Lists.{as_meant};
-ghost use Rattle.typing_loops.specs.Loops.{known_of, variable_of};
+ghost use Rattle.typing_loops.specs.Loops.{variable_of};
 ghost use Rattle.typing_loop_variables.specs.Variables.{GivenFirst, VariableAt};
 ghost use Rattle.typing_fits.specs.Sound.{Extends};
 ghost use Rattle.typing_parts.specs.Typists.{IsNarrowOperand, IsReady, MakesKnown};
 ghost use Rattle.typing_scopes.specs.Scopes.{context_of};
+ghost use Rattle.typing_sides.specs.Sides.{known_of};
 ghost use Rattle.typing_steps.specs.Steps.{TypesTo};
 ghost use Rattle.typing_walks.specs.Keeps.{Surrounded};
 
@@ -28,10 +29,11 @@ use std::alloc::Global;
 use stmt_forms::loop_first;
 use sv_tree::LoopStart;
 use sv_types::{Expr, SvType};
-use typing_loops::{LoopVariable, beside, operand};
+use typing_loops::LoopVariable;
 use typing_parts::{Known, Names};
 use typing_scopes::{Base, Scope};
-use typing_texts::{TypeFound, typed_text};
+use typing_sides::beside;
+use typing_texts::{TypeFound, operand, typed_text};
 
 // The most bits of a loop's variable.
 const MOST_BITS: u32 = 65_536;

@@ -1,3 +1,3 @@
 pub mod Sides
 pub mod Looping
-pub mod Steps
+pub mod Entering

@@ -11,11 +11,12 @@ use Rattle.expr_type.specs.Statements as D
 use Rattle.expr_type.specs.Typings.{Typing, both, whole}
 use Rattle.typing_steps.specs.Steps.{TypesTo}
 use Rattle.typing_calls.specs.Lists.{as_meant}
-use Rattle.typing_lvalues.specs.Sides.{Besides, first_stop, stop}
+use Rattle.typing_sides.specs.Sides.{Besides, first_stop, known_of, stop}
+use Rattle.typing_sides.proofs.Together.{by-both-fine, by-both-stops}
 use Rattle.typing_loops.specs.declared.turns.LoopVariable.{LoopVariable}
 use Rattle.typing_loops.specs.declared.turns.Control.{Control}
-use Rattle.typing_loops.specs.Loops.{control_of, known_of, looped, variable_of}
-use Rattle.typing_loops.proofs.Sides.{by-both-fine, by-both-stops, same-stop, together}
+use Rattle.typing_loops.specs.Loops.{control_of, looped, variable_of}
+use Rattle.typing_loops.proofs.Sides.{same-stop, together}
 
 -- a loop of its parts
 abbrev turns_of : Control × R.Stmt → D.Turns

@@ -1,57 +1,18 @@
--- Two things in the order of the text, and what is made of both.
-use Rattle.std.proofs.Common.{◌≡◌, List, Option, Some, refl, sym, ap, ◌∙◌, subst}
+-- What is made of two things in the order of the text.
+use Rattle.std.proofs.Common.{◌≡◌, List, Option, Some, refl, ap, ◌∙◌, sym, subst}
 use Rattle.std.specs.Prelude.{Result, Ok, Err}
-use Rattle.sv_tree.specs.declared.expressions.Expr as X
-use Rattle.sv_tree.specs.declared.statements.LoopStep.{LoopStep}
-use Rattle.sv_types.specs.declared.expression.Expr.{Expr}
 use Rattle.sv_types.specs.declared.statement.Function.{Function}
 use Rattle.sv_types.specs.declared.statement.Stmt as R
 use Rattle.sv_types.specs.declared.statement.Stmt.TheVariants as S
 use Rattle.expr_type.specs.declared.halt.Halt.{Halt}
-use Rattle.expr_type.specs.declared.halt.Halt.TheVariants as H
 use Rattle.expr_type.specs.declared.operand.Valued.{Valued}
-use Rattle.expr_type.specs.Names.{Context, LocalId}
 use Rattle.expr_type.specs.Statements as D
-use Rattle.expr_type.specs.Typings.{Typing, beside, beside_by, both, both_by, whole}
+use Rattle.expr_type.specs.Typings.{Typing, both, whole}
 use Rattle.typing_steps.specs.Steps.{TypesTo}
-use Rattle.typing_steps.proofs.Combining.{beside-fine, checked-fine, checked-stops}
-use Rattle.typing_steps.proofs.Following.{by-fine, by-breaks, by-second, by-quiet, by-behind-quiet}
 use Rattle.typing_calls.specs.Lists.{as_meant}
-use Rattle.typing_lvalues.specs.Sides.{Besides, first_stop, stop}
-use Rattle.typing_lvalues.proofs.Together.{beside-stops}
+use Rattle.typing_sides.specs.Sides.{Besides, first_stop, stop}
+use Rattle.typing_sides.proofs.Together.{both-fine, both-stops}
 use Rattle.typing_loops.specs.Branches.{chosen}
-use Rattle.typing_loops.specs.Loops.{controlled, known_of}
-
--- both of them
-pub both-stops : {A B C : Type 0} (x : Typing A) (y : Typing B) (f : A → B → Typing C) (fs gs hs : List Function) (a : Result A Halt) (b : Result B Halt) (h : Halt) → first_stop (stop a) (stop b) ≡ Some h
-    → TypesTo a (x fs) gs → TypesTo b (y gs) hs → TypesTo {A = C} (Err h) (both x y f fs) hs
-both-stops x y f fs gs hs a b h s p q = checked-stops (beside x y) (λ z. f z.0 z.1) fs hs h (beside-stops x y fs gs hs a b h s p q)
-
-pub both-fine : {A B C : Type 0} (x : Typing A) (y : Typing B) (f : A → B → Typing C) (fs gs hs : List Function) (a : A) (b : B) (r : Result C Halt) → TypesTo (Ok a) (x fs) gs → TypesTo (Ok b) (y gs) hs
-    → TypesTo r (f a b hs) hs → TypesTo r (both x y f fs) hs
-both-fine x y f fs gs hs a b r p q g = checked-fine (beside x y) (λ z. f z.0 z.1) fs hs hs (a, b) r (beside-fine x y fs gs hs a b p q) g
-
--- the second by what the first is
-same : (g h : Halt) → Some g ≡ Some h → g ≡ h
-same g h s = cc
-
-by-stops : {A B : Type 0} (x : Typing A) (y : Option A → Typing B) (fs gs hs : List Function) (a : Result A Halt) (b : Result B Halt) (h : Halt) → first_stop (stop a) (stop b) ≡ Some h
-    → TypesTo a (x fs) gs → TypesTo b (y (known_of a) gs) hs → TypesTo {A = A × B} (Err h) (beside_by x y fs) hs
-by-stops x y fs gs hs (Ok a) (Ok b) h s p q = absurd (cc)
-by-stops {A = A} {B = B} x y fs gs hs (Ok a) (Err g) h s p q = subst (λ (e : Halt). TypesTo {A = A × B} (Err e) (beside_by x y fs) hs) (same g h s) (by-second x y fs gs hs a g p q)
-by-stops {A = A} {B = B} x y fs gs hs (Err H.Quiet) (Ok b) h s p q = subst (λ (e : Halt). TypesTo {A = A × B} (Err e) (beside_by x y fs) hs) (same H.Quiet h s) (by-quiet x y fs gs hs b p q)
-by-stops {A = A} {B = B} x y fs gs hs (Err H.Quiet) (Err g) h s p q = subst (λ (e : Halt). TypesTo {A = A × B} (Err e) (beside_by x y fs) hs) (same g h s) (by-behind-quiet x y fs gs hs g p q)
-by-stops {A = A} {B = B} x y fs gs hs (Err H.Memory) b h s p q = subst (λ (e : Halt). TypesTo {A = A × B} (Err e) (beside_by x y fs) hs) (same H.Memory h s) tt
-by-stops {A = A} {B = B} x y fs gs hs (Err (H.Breaks at n)) b h s p q =
-    subst (λ (e : Halt). TypesTo {A = A × B} (Err e) (beside_by x y fs) hs) (same (H.Breaks at n) h s) (by-breaks x y fs gs hs at n p)
-
-pub by-both-stops : {A B C : Type 0} (x : Typing A) (y : Option A → Typing B) (f : A → B → Typing C) (fs gs hs : List Function) (a : Result A Halt) (b : Result B Halt) (h : Halt) → first_stop (stop a) (stop b) ≡ Some h
-    → TypesTo a (x fs) gs → TypesTo b (y (known_of a) gs) hs → TypesTo {A = C} (Err h) (both_by x y f fs) hs
-by-both-stops x y f fs gs hs a b h s p q = checked-stops (beside_by x y) (λ z. f z.0 z.1) fs hs h (by-stops x y fs gs hs a b h s p q)
-
-pub by-both-fine : {A B C : Type 0} (x : Typing A) (y : Option A → Typing B) (f : A → B → Typing C) (fs gs hs : List Function) (a : A) (b : B) (r : Result C Halt) → TypesTo (Ok a) (x fs) gs → TypesTo (Ok b) (y (Some a) gs) hs
-    → TypesTo r (f a b hs) hs → TypesTo r (both_by x y f fs) hs
-by-both-fine x y f fs gs hs a b r p q g = checked-fine (beside_by x y) (λ z. f z.0 z.1) fs hs hs (a, b) r (by-fine x y fs gs hs a b p q) g
 
 -- what a thing means stops by the same
 pub same-stop : {A C : Type 0} (m : A → C) (a : Result A Halt) → stop (as_meant m a) ≡ stop a
@@ -100,17 +61,3 @@ choice-fine x y z fs gs hs js test body other r v two s b e f is p q t =
     (subst (λ (u : R.Stmt). TypesTo (Ok u) (as_if v (branches_of two) js) js) (sym is) refl)
 
 pub ruleset choices = (choice-stops, choice-fine)
-
--- tests and steps of loops
-pub control-stops : (k : Context) (o : Option D.LoopVariable) (i : Option LocalId) (test : X.Expr) (step : LoopStep) (fs gs hs : List Function) (v : Result Valued Halt) (e : Result Expr Halt) (h : Halt) → i ≡ D.id_of o
-    → first_stop (stop v) (stop e) ≡ Some h → TypesTo v (D.condition k test fs) gs → TypesTo e (D.loop_step k i step gs) hs → TypesTo {A = D.Control} (Err h) (controlled k o test step fs) hs
-control-stops k o i test step fs gs hs v e h is s p q =
-    both-stops (D.condition k test) (D.loop_step k (D.id_of o) step) D.control fs gs hs v e h s p (subst (λ (j : Option LocalId). TypesTo e (D.loop_step k j step gs) hs) is q)
-
-pub control-fine : (k : Context) (o : Option D.LoopVariable) (i : Option LocalId) (test : X.Expr) (step : LoopStep) (fs gs hs : List Function) (v : Result Valued Halt) (e : Result Expr Halt) (a : Valued) (b : Expr) → i ≡ D.id_of o
-    → v ≡ Ok a → e ≡ Ok b → TypesTo v (D.condition k test fs) gs → TypesTo e (D.loop_step k i step gs) hs → TypesTo {A = D.Control} (Ok (record { test = a; step = b })) (controlled k o test step fs) hs
-control-fine k o i test step fs gs hs v e a b is f g p q =
-    both-fine (D.condition k test) (D.loop_step k (D.id_of o) step) D.control fs gs hs a b (Ok (record { test = a; step = b })) (subst (λ (r : Result Valued Halt). TypesTo r (D.condition k test fs) gs) f p)
-    (subst (λ (r : Result Expr Halt). TypesTo r (D.loop_step k (D.id_of o) step gs) hs) g (subst (λ (j : Option LocalId). TypesTo e (D.loop_step k j step gs) hs) is q)) refl
-
-pub ruleset controls = (control-stops, control-fine)

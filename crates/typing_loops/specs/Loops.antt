@@ -1,9 +1,6 @@
--- The heads of loops as the code has them.
-use Rattle.std.specs.Prelude.{ℕ, Option, Some, None, Result, Ok, Err}
-use Rattle.sv_tree.specs.declared.expressions.Expr as X
-use Rattle.sv_tree.specs.declared.statements.LoopStep.{LoopStep}
+-- Loops as the code has them.
+use Rattle.std.specs.Prelude.{ℕ, Option}
 use Rattle.sv_types.specs.declared.statement.Stmt as R
-use Rattle.expr_type.specs.declared.halt.Halt.{Halt}
 use Rattle.expr_type.specs.Names.{Context}
 use Rattle.expr_type.specs.Statements as D
 use Rattle.expr_type.specs.Typings.{Typing, both, both_by, whole}
@@ -11,20 +8,11 @@ use Rattle.frame_things.specs.Finding.{local_id}
 use Rattle.typing_loops.specs.declared.turns.LoopVariable.{LoopVariable}
 use Rattle.typing_loops.specs.declared.turns.Control.{Control}
 
--- what is whole
-abbrev pub known_of : {A : Type 0} → Result A Halt → Option A
-known_of (Ok a) = Some a
-known_of (Err h) = None
-
 abbrev pub variable_of : LoopVariable → D.LoopVariable
 variable_of v = record { id = local_id v.local; first = v.first }
 
 abbrev pub control_of : Control → D.Control
 control_of c = record { test = c.test; step = c.step }
-
--- a test and a step of a loop of a variable, where it stands
-abbrev pub controlled : Context → Option D.LoopVariable → X.Expr → LoopStep → Typing D.Control
-controlled k o test step = both (D.condition k test) (D.loop_step k (D.id_of o) step) D.control
 
 -- a loop of a variable, its control and its statement, both of which are looked at where the variable stands
 abbrev pub looped : Context → ℕ → Typing D.LoopVariable → (Option D.LoopVariable → Typing D.Control) → (Option D.LoopVariable → Typing R.Stmt) → Typing R.Stmt

@@ -13,7 +13,7 @@ use expr_type::{Halt, Valued};
 use std::alloc::{AllocError, Global};
 use sv_source::Boxed;
 use sv_types::{Expr, Stmt};
-use typing_lvalues::beside;
+use typing_sides::beside;
 
 // A statement that may be left out, as a part of another one.
 fn boxed(alloc: Global, s: Option<Stmt>) -> Result<Option<Boxed<Stmt>>, AllocError>

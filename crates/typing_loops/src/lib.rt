@@ -5,5 +5,4 @@ mod branches;
 mod turns;
 
 pub use branches::choice;
-pub use turns::{Control, LoopVariable, entered, loop_of, test_and_step};
-pub use typing_lvalues::{beside, operand};
+pub use turns::{Control, LoopVariable, entered, loop_of};

@@ -27,7 +27,7 @@ use Rattle.typing_assigns.specs.declared.target.Target.{Target}
 use Rattle.typing_assigns.proofs.Joining.{where-stops}
 use Rattle.typing_exprs.proofs.TypingOperators.{then-types}
 use Rattle.typing_lvalues.specs.Loops as Y
-use Rattle.typing_lvalues.specs.Sides.{first_stop, stop}
+use Rattle.typing_sides.specs.Sides.{first_stop, stop}
 use Rattle.typing_lvalues.specs.Walks as W
 use Rattle.typing_lvalues.proofs.Together.{narrow-operand, narrow-target, sides-fine, sides-stop}
 

@@ -25,10 +25,11 @@ use Rattle.typing_assigns.specs.declared.target.Target.TheVariants as T
 use Rattle.typing_assigns.specs.declared.target.TargetPart.{TargetPart}
 use Rattle.typing_assigns.specs.Parts.{GivesTarget, IsNarrowTarget, part_meant, part_result}
 use Rattle.typing_assigns.specs.Targets.{StandsFor, TargetsTo}
-use Rattle.typing_lvalues.specs.Sides.{first_stop, stop}
+use Rattle.typing_sides.specs.Sides.{first_stop, stop}
 use Rattle.typing_lvalues.specs.Walks as W
 use Rattle.typing_lvalues.specs.Walks.{as_itself}
-use Rattle.typing_lvalues.proofs.Together.{beside-stops, meant-stop}
+use Rattle.typing_sides.proofs.Together.{beside-stops}
+use Rattle.typing_lvalues.proofs.Together.{meant-stop}
 
 -- a part of a concatenation
 meant-part : (r : Result TargetPart Halt) → part_result r ≡ as_meant part_meant r

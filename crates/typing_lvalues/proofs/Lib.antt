@@ -6,3 +6,4 @@ pub mod Joining
 pub mod Turns
 pub mod Levels
 pub mod Assigning
+pub mod Variables

@@ -4,7 +4,6 @@ use Rattle.std.specs.Prelude.{Result, Ok, Err, Vec}
 use Rattle.std.specs.declared.alloc.Global.{Global}
 use Rattle.sv_types.specs.declared.statement.Function.{Function}
 use Rattle.expr_type.specs.declared.halt.Halt.{Halt}
-use Rattle.expr_type.specs.declared.halt.Halt.TheVariants as H
 use Rattle.expr_type.specs.Answers.{Gives}
 use Rattle.expr_type.specs.Names.{Source}
 use Rattle.expr_type.specs.Operands.{Operand}
@@ -13,27 +12,15 @@ use Rattle.expr_type.specs.Typings.{Checked, Typed, Typing, beside, both, rule}
 use Rattle.pattern_types.specs.Meaning.{operand_of}
 use Rattle.pattern_types.specs.declared.operand.Operand as O
 use Rattle.typing_steps.specs.Steps.{TypesTo}
-use Rattle.typing_steps.proofs.Combining.{beside-behind-quiet, beside-breaks, beside-fine, beside-quiet, beside-second, checked-fine, checked-stops, rule-types}
+use Rattle.typing_steps.proofs.Combining.{beside-fine, checked-fine, checked-stops, rule-types}
 use Rattle.typing_parts.specs.Operands.{as_operand}
 use Rattle.typing_parts.specs.Typists.{IsNarrowOperand, NarrowIfOk}
 use Rattle.typing_assigns.specs.declared.target.Target.{Target}
 use Rattle.typing_assigns.specs.Parts.{IsNarrowTarget, NarrowTarget}
 use Rattle.typing_assigns.specs.Targets.{StandsFor, TargetsTo}
 use Rattle.typing_calls.specs.Lists.{all_meant}
-use Rattle.typing_lvalues.specs.Sides.{first_stop, stop}
-
-same : (g h : Halt) → Some g ≡ Some h → g ≡ h
-same g h s = cc
-
-pub beside-stops : {A B : Type 0} (x : Typing A) (y : Typing B) (fs gs hs : List Function) (a : Result A Halt) (b : Result B Halt) (h : Halt) → first_stop (stop a) (stop b) ≡ Some h
-    → TypesTo a (x fs) gs → TypesTo b (y gs) hs → TypesTo {A = A × B} (Err h) (beside x y fs) hs
-beside-stops x y fs gs hs (Ok a) (Ok b) h s p q = absurd (cc)
-beside-stops {A = A} {B = B} x y fs gs hs (Ok a) (Err g) h s p q = subst (λ (e : Halt). TypesTo {A = A × B} (Err e) (beside x y fs) hs) (same g h s) (beside-second x y fs gs hs a g p q)
-beside-stops {A = A} {B = B} x y fs gs hs (Err H.Quiet) (Ok b) h s p q = subst (λ (e : Halt). TypesTo {A = A × B} (Err e) (beside x y fs) hs) (same H.Quiet h s) (beside-quiet x y fs gs hs b p q)
-beside-stops {A = A} {B = B} x y fs gs hs (Err H.Quiet) (Err g) h s p q = subst (λ (e : Halt). TypesTo {A = A × B} (Err e) (beside x y fs) hs) (same g h s) (beside-behind-quiet x y fs gs hs g p q)
-beside-stops {A = A} {B = B} x y fs gs hs (Err H.Memory) b h s p q = subst (λ (e : Halt). TypesTo {A = A × B} (Err e) (beside x y fs) hs) (same H.Memory h s) tt
-beside-stops {A = A} {B = B} x y fs gs hs (Err (H.Breaks at n)) b h s p q =
-    subst (λ (e : Halt). TypesTo {A = A × B} (Err e) (beside x y fs) hs) (same (H.Breaks at n) h s) (beside-breaks x y fs gs hs at n p)
+use Rattle.typing_sides.specs.Sides.{first_stop, stop}
+use Rattle.typing_sides.proofs.Together.{beside-stops}
 
 -- what a thing means stops by the same
 pub operand-stop : (k : Source) (b : Result O.Operand Halt) → stop (as_operand k b) ≡ stop b

@@ -21,7 +21,6 @@ ghost use Rattle.typing_lvalues.specs.Walks as walks;
 use crate::lvalues::target;
 use crate::ones::{one, step_operator};
 use crate::paths::name_target;
-use crate::sides::beside;
 use expr_type::Halt;
 use pattern_types::Operand;
 use std::alloc::Global;
@@ -30,6 +29,7 @@ use sv_types::Stmt;
 use typing_assigns::{Target, assignment};
 use typing_exprs::operand;
 use typing_parts::{Known, Names};
+use typing_sides::beside;
 use typing_targets::Nets;
 
 // An assignment at its operator, where what is assigned to and what is assigned are whole.

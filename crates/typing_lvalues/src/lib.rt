@@ -8,12 +8,9 @@ mod lvalues;
 mod ones;
 mod parts;
 mod paths;
-mod sides;
 mod sizes;
 
 pub use assigns::{assign, continuous, counted};
 pub use loops::loop_step;
 pub use lvalues::target;
 pub use paths::name_target;
-pub use sides::beside;
-pub use typing_exprs::operand;

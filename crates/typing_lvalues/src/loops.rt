@@ -1,6 +1,6 @@
 //! What loops do behind each turn.
 
-ghost use Rattle.std.specs.Prelude.{◌≡◌, List, true, OnSome};
+ghost use Rattle.std.specs.Prelude.{◌≡◌, List, true, Some, IfSome};
 ghost use Rattle.std.specs.Option.{option_copied, option_map};
 ghost use Rattle.sv_types.specs.declared.statement.Function.{Function};
 ghost use Rattle.expr_type.specs.Answers.{Gives};
@@ -22,7 +22,6 @@ ghost use Rattle.typing_walks.specs.Written.{is_written};
 ghost use Rattle.typing_lvalues.specs.Loops.{assigned_of, counted_of, step_written, stepped};
 
 use crate::ones::{one, step_operator};
-use crate::sides::beside;
 use expr_type::Halt;
 use frame_things::NamedLocal;
 use operand_types::by_itself;
@@ -34,6 +33,7 @@ use type_kinds::copy_type;
 use typing_assigns::{Target, assigned_by};
 use typing_exprs::operand;
 use typing_parts::{Known, Names};
+use typing_sides::beside;
 use typing_targets::Nets;
 use typing_values::not_streamed;
 
@@ -73,24 +73,37 @@ fn stepped<S: Names>(
     step_value(alloc, names, at, op, &to, value)
 }
 
-// What a step assigns to: the variable of its loop, whose name stands at this token. None is whole where the variable isn't.
+// The variable of a loop, whose name stands at this token, as what is assigned to.
+fn variable_target<S: Names>(
+    alloc: Global,
+    names: &S,
+    local: &NamedLocal,
+    name: u32,
+) -> Result<Target, Halt>
+    requires narrow { IsNarrowType local.now.of }
+    ensures value { (fs : List Function) → TargetsTo result (statement.loop_target (S.context names.now) (Some (local_id local.now)) name fs) fs }
+    ensures narrow { NarrowTarget result }
+{
+    let of = copy_type(alloc, &local.of)?;
+    let form = Form::Local(local.number);
+    Ok(Target::Path(by_itself(alloc, names.text(), name, of, form)?))
+}
+
+// What a step assigns to: the variable of its loop. None is whole where the variable isn't.
+#[tactic(auto, using(crate::proofs::Variables::variables))]
 fn loop_target<S: Names>(
     alloc: Global,
     names: &S,
     variable: Option<&NamedLocal>,
     name: u32,
 ) -> Result<Target, Halt>
-    requires narrow { OnSome variable (λ l. IsNarrowType l.of) }
-    ensures value { (fs : List Function) → TargetsTo result (statement.loop_target (S.context names.now) (option_map local_id (option_copied variable)) name fs) fs }
+    requires narrow { IfSome (option_copied variable) (λ l. IsNarrowType l.of) }
+    ensures value { (fs : List Function) → TargetsTo result (statement.loop_target (S.context names.now) (option_map local_id (option_copied variable.entry)) name fs) fs }
     ensures narrow { NarrowTarget result }
 {
     match variable {
         None => Err(Halt::Quiet),
-        Some(local) => {
-            let of = copy_type(alloc, &local.of)?;
-            let v = by_itself(alloc, names.text(), name, of, Form::Local(local.number))?;
-            Ok(Target::Path(v))
-        }
+        Some(local) => variable_target(alloc, names, local, name),
     }
 }
 
@@ -103,8 +116,8 @@ fn counted_step<S: Names>(
     op: StepOperator,
     at: u32,
 ) -> Result<Expr, Halt>
-    requires narrow { OnSome variable (λ l. IsNarrowType l.of) }
-    ensures { (fs : List Function) → TypesTo result (counted_of (S.context names.now) (option_map local_id (option_copied variable)) name op at fs) fs }
+    requires narrow { IfSome (option_copied variable) (λ l. IsNarrowType l.of) }
+    ensures { (fs : List Function) → TypesTo result (counted_of (S.context names.now) (option_map local_id (option_copied variable.entry)) name op at fs) fs }
 {
     let to = loop_target(alloc, names, variable, name);
     let value = one(alloc, names, at);
@@ -125,10 +138,10 @@ fn assigned_step<S: Nets, C: Fn(u32, &mut Known) -> Result<u32, Halt>>(
 ) -> Result<Expr, Halt>
     requires needs { MakesKnown _ ((n : _) (k : _) → IsReady k.now → C.pre needs.now n k) (λ k. k.now) (C.post needs.now) (S.context names.now) }
     requires names { Surrounded AllSoundFunctions (S.context names.now) }
-    requires narrow { OnSome variable (λ l. IsNarrowType l.of) }
+    requires narrow { IfSome (option_copied variable) (λ l. IsNarrowType l.of) }
     requires written { is_written e.now ≡ true }
     requires ready { IsReady known.old }
-    ensures value { TypesTo result (assigned_of (S.context names.now) (option_map local_id (option_copied variable)) name op at e.now known.old.functions) known.new.functions }
+    ensures value { TypesTo result (assigned_of (S.context names.now) (option_map local_id (option_copied variable.entry)) name op at e.now known.old.functions) known.new.functions }
     ensures ready { IsReady known.new }
     ensures keeps { Extends known.old.functions known.new.functions }
 {
@@ -139,6 +152,7 @@ fn assigned_step<S: Nets, C: Fn(u32, &mut Known) -> Result<u32, Halt>>(
 
 /// What a loop gives to its variable behind each turn (IEEE 1800-2017 clauses 11.4.1, 11.4.2 and 12.7.1): no stream stands there (E512).
 /// The first break in the order of the text counts; no variable stands for one that isn't whole, of whose step nothing is known.
+#[tactic(auto, using(typing_parts::proofs::Keeping::keepings))]
 pub fn loop_step<S: Nets, C: Fn(u32, &mut Known) -> Result<u32, Halt>>(
     alloc: Global,
     names: &S,
@@ -149,10 +163,10 @@ pub fn loop_step<S: Nets, C: Fn(u32, &mut Known) -> Result<u32, Halt>>(
 ) -> Result<Expr, Halt>
     requires needs { MakesKnown _ ((n : _) (k : _) → IsReady k.now → C.pre needs.now n k) (λ k. k.now) (C.post needs.now) (S.context names.now) }
     requires names { Surrounded AllSoundFunctions (S.context names.now) }
-    requires narrow { OnSome variable (λ l. IsNarrowType l.of) }
+    requires narrow { IfSome (option_copied variable) (λ l. IsNarrowType l.of) }
     requires written { step_written step.now ≡ true }
     requires ready { IsReady known.old }
-    ensures value { TypesTo result (statement.loop_step (S.context names.now) (option_map local_id (option_copied variable)) step.now known.old.functions) known.new.functions }
+    ensures value { TypesTo result (statement.loop_step (S.context names.now) (option_map local_id (option_copied variable.entry)) step.now known.old.functions) known.new.functions }
     ensures ready { IsReady known.new }
     ensures keeps { Extends known.old.functions known.new.functions }
 {

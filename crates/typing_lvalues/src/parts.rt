@@ -12,13 +12,13 @@ ghost use Rattle.typing_calls.specs.Lists.{all_meant, as_meant};
 ghost use Rattle.typing_steps.specs.Steps.{TypesTo};
 ghost use Rattle.typing_lvalues.specs.Walks as walks;
 
-use crate::sides::beside;
 use expr_type::{Halt, Valued};
 use std::alloc::Global;
 use sv_tree::StreamOperator;
 use typing_assigns::{Target, TargetPart, joined_target, stream_target, target_part, whole_of};
 use typing_exprs::reverses;
 use typing_parts::Names;
+use typing_sides::beside;
 
 /// A target as a part of a concatenated one, where it is whole.
 #[tactic(auto, using(crate::proofs::Joining::parts))]

@@ -40,7 +40,7 @@ use Rattle.typing_calls.specs.Lists.{as_meant}
 use Rattle.typing_controls.specs.Written.{written_if}
 use Rattle.typing_fits.proofs.Full.{and-left, and-right}
 use Rattle.typing_loops.specs.Branches.{chosen}
-use Rattle.typing_loops.specs.Loops.{controlled, looped}
+use Rattle.typing_loops.specs.Loops.{looped}
 use Rattle.typing_lvalues.specs.Walks.{assigned_to}
 use Rattle.typing_steps.specs.Steps.{TypesTo}
 use Rattle.typing_stmt_parts.specs.Items.{cases_of}
@@ -49,6 +49,7 @@ use Rattle.typing_stmt_parts.specs.Parts.{declared_part, statement_part}
 use Rattle.typing_stmt_parts.proofs.Making.{some-types}
 use Rattle.typing_walks.specs.Written.{is_written}
 use Rattle.typing_walks.specs.WrittenTypes.{type_written}
+use Rattle.typing_stmts.specs.Controls.{controlled}
 use Rattle.typing_stmts.specs.Written.{cases_written, else_if_written, else_of}
 
 abbrev StmtLevel : Type 0
@@ -207,9 +208,9 @@ module _ (keyword opening : ℕ) (first : LoopStart) (first_semicolon : ℕ) (te
   for-body w = subst (λ (t : Stmt). stmt_written t ≡ true) (sym same) (and-right (step_written step) (stmt_written body) (for-rest w))
 
   abbrev for_level : Context → Stmt → Typing R.Stmt
-  for_level k t = looped k keyword (D.loop_variable k first) (λ o. controlled (D.in_loop k o) test step) (λ o. stmt_meaning t (D.in_loop k o))
+  for_level k t = looped k keyword (D.loop_variable k first) (λ o. controlled (D.in_loop k o) o test step) (λ o. stmt_meaning t (D.in_loop k o))
 
-  pub for-meant : (k : Context) (fs gs : List Function) (r : Result R.Stmt Halt) → TypesTo r (looped k keyword (D.loop_variable k first) (λ o. controlled (D.in_loop k o) test step) (λ o. stmt_meaning b (D.in_loop k o)) fs) gs
+  pub for-meant : (k : Context) (fs gs : List Function) (r : Result R.Stmt Halt) → TypesTo r (looped k keyword (D.loop_variable k first) (λ o. controlled (D.in_loop k o) o test step) (λ o. stmt_meaning b (D.in_loop k o)) fs) gs
       → TypesTo r (D.typed_stmt k s fs) gs
   for-meant k fs gs r h = stmt-meant for_form k s fs gs r for-is (subst (λ (t : Stmt). TypesTo r (for_level k t fs) gs) same h)
 

@@ -13,12 +13,13 @@ use Rattle.routine_fits.specs.Sound.{AllSoundFunctions}
 use Rattle.stmt_laws.specs.Sound.{SoundDeclared}
 use Rattle.stmt_laws.specs.Written.{start_written}
 use Rattle.stmt_laws.proofs.Declared.{behind-sound}
-use Rattle.stmt_laws.proofs.Parts.{OfStart, loop-behind, variable-keeps}
+use Rattle.stmt_laws.proofs.Parts.{SoundVariable, loop-behind, variable-keeps}
 use Rattle.stmt_types.specs.declared.blocks.BlockPart.{BlockPart}
 use Rattle.typing_calls.specs.Lists.{as_meant}
 use Rattle.typing_loops.specs.declared.turns.LoopVariable.{LoopVariable}
-use Rattle.typing_loops.specs.declared.turns.Start.{Start}
-use Rattle.typing_loops.specs.Loops.{Entered, known_of, start_of, variable_of}
+use Rattle.typing_loops.specs.Loops.{variable_of}
+use Rattle.typing_sides.specs.Sides.{known_of}
+use Rattle.typing_fits.specs.Sound.{IsNarrowType}
 use Rattle.typing_fits.proofs.Full.{and-left, and-right}
 use Rattle.typing_scopes.specs.declared.declared.Declared.{Declared}
 use Rattle.typing_scopes.specs.Scopes.{means}
@@ -63,26 +64,31 @@ joined-routine made r k j (Err H.Quiet) routine s e = ap (λ (c : Context). c.ro
 joined-routine made r k j (Err H.Memory) routine s e = absurd (cc)
 joined-routine made r k j (Err (H.Breaks at n)) routine s e = absurd (cc)
 
+-- the variable of a loop that is whole
+variable-sound : (k : Context) (l : LoopStart) (v : LoopVariable) (fs gs : List Function) → Surrounded AllSoundFunctions k → start_written l ≡ true → AllSoundFunctions fs
+    → TypesTo (Ok (variable_of v)) (D.loop_variable k l fs) gs → SoundVariable (variable_of v) gs
+variable-sound k l v fs gs names w sound p =
+    let keeps = variable-keeps AllSoundFunctions k l names (and-left (type_written l.of) (is_written l.value) w) (and-right (type_written l.of) (is_written l.value) w) in
+    kept-by SoundVariable (D.loop_variable k l) fs gs (variable_of v) keeps sound p
+
+pub variable-narrow : (k : Context) (l : LoopStart) (v : Result LoopVariable Halt) (fs gs : List Function) → Surrounded AllSoundFunctions k → start_written l ≡ true → AllSoundFunctions fs
+    → TypesTo (as_meant variable_of v) (D.loop_variable k l fs) gs → IfOk v (λ (x : LoopVariable). IsNarrowType x.local.of)
+variable-narrow k l (Ok v) fs gs names w sound p = (variable-sound k l v fs gs names w sound p).of
+variable-narrow k l (Err h) fs gs names w sound p = tt
+
+behind-variable : (k : Context) (l : LoopStart) (v : Result LoopVariable Halt) (fs gs : List Function) → Surrounded AllSoundFunctions k → start_written l ≡ true → AllSoundFunctions fs
+    → TypesTo (as_meant variable_of v) (D.loop_variable k l fs) gs → Surrounded AllSoundFunctions (D.in_loop k (known_of (as_meant variable_of v)))
+behind-variable k l (Ok v) fs gs names w sound p = loop-behind AllSoundFunctions k (variable_of v) gs names (variable-sound k l v fs gs names w sound p)
+behind-variable k l (Err h) fs gs names w sound p = names
+
 -- in a loop
-pub entered-text : (k j : Context) (v : Result LoopVariable Halt) (s : Result Start Halt) → Entered k v j s → j ≡ D.in_loop k (known_of (as_meant variable_of v))
-entered-text k j (Ok v) s e = e.0
-entered-text k j (Err h) s e = e.0
-
-pub entered-start : (k j : Context) (v : Result LoopVariable Halt) (s : Result Start Halt) → Entered k v j s → s ≡ as_meant start_of v
-entered-start k j (Ok v) s e = e.1
-entered-start k j (Err h) s e = e.1
-
 loop-routine : (k : Context) (o : Option D.LoopVariable) → (D.in_loop k o).routine ≡ k.routine
 loop-routine k None = refl
 loop-routine k (Some v) = refl
 
-pub entered-routine : (k j : Context) (v : Result LoopVariable Halt) (s : Result Start Halt) → Entered k v j s → j.routine ≡ k.routine
-entered-routine k j v s e = ap (λ (c : Context). c.routine) (entered-text k j v s e) ∙ loop-routine k (known_of (as_meant variable_of v))
+module _ (k j : Context) (v : Result LoopVariable Halt) (is : j ≡ D.in_loop k (known_of (as_meant variable_of v))) where
+  pub entered-routine : j.routine ≡ k.routine
+  entered-routine = ap (λ (c : Context). c.routine) is ∙ loop-routine k (known_of (as_meant variable_of v))
 
-pub entered-names : (k j : Context) (l : LoopStart) (v : Result LoopVariable Halt) (s : Result Start Halt) (fs gs : List Function) → Entered k v j s → Surrounded AllSoundFunctions k → start_written l ≡ true → AllSoundFunctions fs
-    → TypesTo (as_meant variable_of v) (D.loop_variable k l fs) gs → Surrounded AllSoundFunctions j
-entered-names k j l (Ok v) s fs gs e names w sound p =
-    let keeps = variable-keeps AllSoundFunctions k l names (and-left (type_written l.of) (is_written l.value) w) (and-right (type_written l.of) (is_written l.value) w) in
-    let is = kept-by (OfStart AllSoundFunctions k l) (D.loop_variable k l) fs gs (variable_of v) keeps sound p in
-    subst (λ (c : Context). Surrounded AllSoundFunctions c) (sym e.0) (loop-behind AllSoundFunctions k (variable_of v) gs names is.sound)
-entered-names k j l (Err h) s fs gs e names w sound p = subst (λ (c : Context). Surrounded AllSoundFunctions c) (sym e.0) names
+  pub entered-names : (l : LoopStart) (fs gs : List Function) → Surrounded AllSoundFunctions k → start_written l ≡ true → AllSoundFunctions fs → TypesTo (as_meant variable_of v) (D.loop_variable k l fs) gs → Surrounded AllSoundFunctions j
+  entered-names l fs gs names w sound p = subst (λ (c : Context). Surrounded AllSoundFunctions c) (sym is) (behind-variable k l v fs gs names w sound p)

@@ -2,6 +2,7 @@
 //! makes functions known: with all their parts, or with the first rule that they break.
 #![tactic(auto)]
 
+mod turns;
 mod walk;
 
 pub use walk::{block, statement};

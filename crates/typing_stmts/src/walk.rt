@@ -14,6 +14,7 @@ ghost use Rattle.typing_stmt_parts.specs.Parts.{SoundIn, part_meant};
 ghost use Rattle.typing_stmts.specs.Written.{cases_written, else_if_written, else_of};
 ghost use Rattle.typing_walks.specs.Keeps.{Surrounded};
 
+use crate::turns::test_and_step;
 use expr_type::Halt;
 use std::alloc::Global;
 use stmt_types::{BlockPart, CaseFound};
@@ -22,7 +23,7 @@ use sv_tree::{BlockItem, CaseItem, Else, Stmt};
 use typing_blocks::{named_variables, parameters, variables};
 use typing_controls::{condition, item_values, returned};
 use typing_loop_variables::loop_variable;
-use typing_loops::{choice, entered, loop_of, test_and_step};
+use typing_loops::{choice, entered, loop_of};
 use typing_lvalues::{assign, counted};
 use typing_parts::{Known, Names};
 use typing_scopes::{Base, Scope};
@@ -87,11 +88,11 @@ pub fn statement<B: Base, C: Fn(u32, &mut Known) -> Result<u32, Halt>>(
             ..
         } => {
             let variable = loop_variable(alloc, names, needs, first, known);
-            let (inner, start) = entered(alloc, &*names, variable)?;
-            let controlled = test_and_step(alloc, &inner, needs, test, step, known);
+            let inner = entered(alloc, &*names, &variable)?;
+            let controlled = test_and_step(alloc, &inner, needs, &variable, test, step, known);
             let repeated = body.get();
             let turn = statement(alloc, &inner, needs, repeated, known);
-            loop_of(alloc, names.text(), *keyword, start, controlled, turn)
+            loop_of(alloc, names.text(), *keyword, variable, controlled, turn)
         }
         Stmt::Break { .. } => Ok(sv_types::Stmt::Break),
         Stmt::Continue { .. } => Ok(sv_types::Stmt::Continue),

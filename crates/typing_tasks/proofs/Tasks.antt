@@ -23,8 +23,8 @@ use Rattle.typing_steps.specs.Steps.{TypesTo}
 use Rattle.typing_steps.proofs.Combining.{rule-types}
 use Rattle.typing_calls.specs.Calls.{needed_of}
 use Rattle.typing_calls.specs.Lists.{all_meant}
-use Rattle.typing_loops.specs.TypingLvalues.{first_stop, stop}
-use Rattle.typing_loops.proofs.Sides.{by-both-fine, by-both-stops}
+use Rattle.typing_sides.specs.Sides.{first_stop, stop}
+use Rattle.typing_sides.proofs.Together.{by-both-fine, by-both-stops}
 use Rattle.typing_tasks.specs.declared.passing.Actual.{Actual}
 use Rattle.typing_tasks.specs.Actuals.{AreWays, actuals_of, ways_if}
 use Rattle.typing_tasks.specs.Calls.{Called, CallsTask, Stopped, actual_of}

@@ -12,7 +12,7 @@ use Rattle.expr_type.specs.Names.{Context, Source}
 use Rattle.expr_type.specs.Statements as D
 use Rattle.expr_type.specs.Typings.{Checked}
 use Rattle.pattern_types.specs.Meaning.{operand_of}
-use Rattle.typing_loops.specs.TypingLvalues.{first_stop, stop}
+use Rattle.typing_sides.specs.Sides.{first_stop, stop}
 use Rattle.typing_tasks.specs.declared.passing.Actual.{Actual}
 use Rattle.typing_tasks.specs.declared.passing.Actual.TheVariants as A
 

@@ -18,8 +18,8 @@ use std::alloc::Global;
 use sv_tree::{Expr, QualifiedName};
 use sv_types::Stmt;
 use typing_calls::needed;
-use typing_loops::beside;
 use typing_parts::{Known, Names};
+use typing_sides::beside;
 use typing_targets::Nets;
 
 // A call of what is known at a place, of actuals that have been looked at.

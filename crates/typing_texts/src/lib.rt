@@ -7,5 +7,5 @@ mod members;
 mod packed;
 mod walk;
 
-pub use typing_enums::{TypeFound, declared_type, dims};
+pub use typing_enums::{TypeFound, declared_type, dims, operand, type_expr};
 pub use walk::typed_text;

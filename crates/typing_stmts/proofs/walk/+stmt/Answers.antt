@@ -15,10 +15,11 @@ use Rattle.routine_fits.specs.Sound.{AllSoundFunctions}
 use Rattle.stmt_laws.specs.Written.{case_written, item_written, items_written, stmt_written}
 use Rattle.stmt_laws.proofs.Declared.{parameters-keep, selected-keeps, text-keeps, variables-keep}
 use Rattle.typing_calls.specs.Lists.{as_meant}
-use Rattle.typing_loops.specs.Loops.{control_of, controlled}
+use Rattle.typing_loops.specs.Loops.{control_of, variable_of}
 use Rattle.typing_parts.proofs.Keeping.{extends-same, extends-then}
 use Rattle.typing_scopes.specs.Scopes.{context_of}
 use Rattle.typing_scopes.proofs.Behind.{needs-alike}
+use Rattle.typing_sides.specs.Sides.{known_of}
 use Rattle.typing_steps.specs.Steps.{TypesTo}
 use Rattle.typing_walks.specs.Keeps.{Surrounded}
 use Rattle.typing_stmt_parts.specs.Blocks.{MadeOf, made_row}
@@ -28,9 +29,10 @@ use Rattle.typing_stmt_parts.proofs.Blocks.{block-begins, block-ends, joined-goe
 use Rattle.typing_stmt_parts.proofs.Finding.{default-found, kept-extends, listed-loud, sound-before, values-end, values-found, within-longer}
 use Rattle.typing_stmt_parts.proofs.Making.{declared-types, statement-sound, statement-types}
 use Rattle.typing_stmt_parts.proofs.Rows.{all-found, found-loud, item-more, none-yet}
+use Rattle.typing_stmts.specs.Controls.{controlled}
 use Rattle.typing_stmts.specs.Written.{cases_written, else_if_written, else_of}
 use Rattle.typing_stmts.proofs.Forms.{assign-meant, assign-target, assign-value, block-at, block-meant, block-written, break-meant, call-meant, call-written, case-at, case-items, case-meant, case-sought, cases-at, continue-meant, default-body, default-is, else-none, else-types, else-written, empty-meant, for-at, for-body, for-meant, for-start, for-step, for-test, if-at, if-body, if-meant, if-other, if-test, items-at, named-meant, named-selects, named-written, parameters-meant, parameters-written, postfix-meant, postfix-written, prefix-meant, prefix-written, return-meant, return-written, statement-meant, statement-written, values-are, values-body, values-written, variables-meant, variables-type, variables-written}
-use Rattle.typing_stmts.proofs.Scopes.{entered-names, entered-routine, entered-start, entered-text, joined-names, joined-routine, part-sound}
+use Rattle.typing_stmts.proofs.Scopes.{entered-names, entered-routine, joined-names, joined-routine, part-sound, variable-narrow}
 use Rattle.typing_stmts.proofs.walk.+stmt.Goals as goal
 
 -- blocks
@@ -138,12 +140,21 @@ pub statement-test_and_step-controlled-requires-clause-needs : goal.statement-te
 statement-test_and_step-controlled-requires-clause-needs g t c =
     let k = context_of g.B.Names.context c.args.names.now in
     let j = context_of g.B.Names.context c.in_ok-inner-in-For.inner in
-    needs-alike _ _ _ _ j k (entered-routine k j c.loop_variable-variable.result c.in_ok-inner-in-For.start c.in_ok-inner-in-For.ensures) c.requires.needs
+    needs-alike _ _ _ _ j k (entered-routine k j c.loop_variable-variable.result c.in_ok-inner-in-For.ensures) c.requires.needs
 
 pub statement-test_and_step-controlled-requires-clause-names : goal.statement-test_and_step-controlled-requires-clause-names
 statement-test_and_step-controlled-requires-clause-names g t c =
     let i = c.in-For in
-    entered-names (context_of g.B.Names.context c.args.names.now) (context_of g.B.Names.context c.in_ok-inner-in-For.inner) i.first c.loop_variable-variable.result c.in_ok-inner-in-For.start c.args.known.now.functions c.loop_variable-variable.new.known.functions c.in_ok-inner-in-For.ensures c.requires.names (for-start i.keyword i.opening i.first i.first_semicolon i.test i.test_semicolon i.step i.closing i.body c.args.s.now i.is i.body refl c.requires.written) c.requires.ready.sound
+    let k = context_of g.B.Names.context c.args.names.now in
+    let j = context_of g.B.Names.context c.in_ok-inner-in-For.inner in
+    entered-names k j c.loop_variable-variable.result c.in_ok-inner-in-For.ensures i.first c.args.known.now.functions c.loop_variable-variable.new.known.functions c.requires.names (for-start i.keyword i.opening i.first i.first_semicolon i.test i.test_semicolon i.step i.closing i.body c.args.s.now i.is i.body refl c.requires.written) c.requires.ready.sound
+    c.loop_variable-variable.ensures.value
+
+pub statement-test_and_step-controlled-requires-clause-narrow : goal.statement-test_and_step-controlled-requires-clause-narrow
+statement-test_and_step-controlled-requires-clause-narrow g t c =
+    let i = c.in-For in
+    let k = context_of g.B.Names.context c.args.names.now in
+    variable-narrow k i.first c.loop_variable-variable.result c.args.known.now.functions c.loop_variable-variable.new.known.functions c.requires.names (for-start i.keyword i.opening i.first i.first_semicolon i.test i.test_semicolon i.step i.closing i.body c.args.s.now i.is i.body refl c.requires.written) c.requires.ready.sound
     c.loop_variable-variable.ensures.value
 
 pub statement-test_and_step-controlled-requires-clause-test : goal.statement-test_and_step-controlled-requires-clause-test
@@ -164,8 +175,8 @@ statement-statement-turn-requires g t c =
     let j = context_of g.B.Names.context c.in_ok-inner-in-For.inner in
     let same : c.args.s.now ≡ V.For i.keyword i.opening i.first i.first_semicolon i.test i.test_semicolon i.step i.closing b = for-at i.keyword i.opening i.first i.first_semicolon i.test i.test_semicolon i.step i.closing i.body c.args.s.now i.is b c.get-repeated.ensures in
     let w : stmt_written b ≡ true = for-body i.keyword i.opening i.first i.first_semicolon i.test i.test_semicolon i.step i.closing i.body c.args.s.now i.is b c.get-repeated.ensures c.requires.written in
-    let needs = needs-alike _ _ _ _ j k (entered-routine k j c.loop_variable-variable.result c.in_ok-inner-in-For.start c.in_ok-inner-in-For.ensures) c.requires.needs in
-    let names = entered-names k j i.first c.loop_variable-variable.result c.in_ok-inner-in-For.start c.args.known.now.functions c.loop_variable-variable.new.known.functions c.in_ok-inner-in-For.ensures c.requires.names (for-start i.keyword i.opening i.first i.first_semicolon i.test i.test_semicolon i.step i.closing i.body c.args.s.now i.is i.body refl c.requires.written) c.requires.ready.sound
+    let needs = needs-alike _ _ _ _ j k (entered-routine k j c.loop_variable-variable.result c.in_ok-inner-in-For.ensures) c.requires.needs in
+    let names = entered-names k j c.loop_variable-variable.result c.in_ok-inner-in-For.ensures i.first c.args.known.now.functions c.loop_variable-variable.new.known.functions c.requires.names (for-start i.keyword i.opening i.first i.first_semicolon i.test i.test_semicolon i.step i.closing i.body c.args.s.now i.is i.body refl c.requires.written) c.requires.ready.sound
     c.loop_variable-variable.ensures.value in
     search (rules, the_lemmas)
 
@@ -180,12 +191,12 @@ statement-returns-in_ok-inner-in-For-clause-value g t c =
     let hs = c.test_and_step-controlled.new.known.functions in
     let js = c.statement-turn.new.known.functions in
     let v = c.loop_variable-variable.result in
-    let e = c.in_ok-inner-in-For.ensures in
-    let text = entered-text k j v c.in_ok-inner-in-For.start e in
-    let control = subst (λ (l : Context). TypesTo (as_meant control_of c.test_and_step-controlled.result) (controlled l i.test i.step gs) hs) text c.test_and_step-controlled.ensures.value in
+    let o = known_of (as_meant variable_of v) in
+    let text = c.in_ok-inner-in-For.ensures in
+    let control = subst (λ (l : Context). TypesTo (as_meant control_of c.test_and_step-controlled.result) (controlled l o i.test i.step gs) hs) text c.test_and_step-controlled.ensures.value in
     let turn = subst (λ (l : Context). TypesTo c.statement-turn.result (D.stmt_meaning b l hs) js) text c.statement-turn.ensures.value in
     for-meant i.keyword i.opening i.first i.first_semicolon i.test i.test_semicolon i.step i.closing i.body c.args.s.now i.is b c.get-repeated.ensures k fs js c.loop_of.result
-    (c.loop_of.ensures k (D.loop_variable k i.first) (λ o. controlled (D.in_loop k o) i.test i.step) (λ o. D.stmt_meaning b (D.in_loop k o)) v fs gs hs js c.text.ensures (entered-start k j v c.in_ok-inner-in-For.start e) c.loop_variable-variable.ensures.value control turn)
+    (c.loop_of.ensures k (D.loop_variable k i.first) (λ q. controlled (D.in_loop k q) q i.test i.step) (λ q. D.stmt_meaning b (D.in_loop k q)) fs gs hs js c.text.ensures c.loop_variable-variable.ensures.value control turn)
 
 pub statement-returns-in_ok-inner-in-For-clause-keeps : goal.statement-returns-in_ok-inner-in-For-clause-keeps
 statement-returns-in_ok-inner-in-For-clause-keeps g t c =

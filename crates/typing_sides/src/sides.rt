@@ -1,6 +1,6 @@
 //! Two things in the order of the text.
 
-ghost use Rattle.typing_lvalues.specs.Sides.{Besides};
+ghost use Rattle.typing_sides.specs.Sides.{Besides};
 
 use expr_type::Halt;
 

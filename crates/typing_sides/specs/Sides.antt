@@ -19,3 +19,8 @@ first_stop (Some (H.Breaks at rule)) b = Some (H.Breaks at rule)
 abbrev pub Besides : {A B : Type 0} → Result A Halt → Result B Halt → Result (A × B) Halt → Type 0
 Besides a b (Ok p) = (a ≡ Ok p.0) × (b ≡ Ok p.1)
 Besides a b (Err h) = first_stop (stop a) (stop b) ≡ Some h
+
+-- what is whole
+abbrev pub known_of : {A : Type 0} → Result A Halt → Option A
+known_of (Ok a) = Some a
+known_of (Err h) = None
