@@ -7,4 +7,4 @@ use Rattle.eval_stmts.proofs.writes.default_bits_of.Goals as goal
 pub returns : goal.returns
 returns c =
     let marks = (layout c.args.of.now).two_state in
-    A.if-ok (λ v is. is ∙ ap (stored marks) (c.in_ok-filled.ensures ∙ ap (λ n. replicate n X) c.width.ensures.bits) ∙ A.all-default marks) c.store-2.result c.store-2.ensures
+    A.if-ok (λ v is. is ∙ ap (stored marks) (c.in_ok-filled.ensures ∙ ap (λ n. replicate n X) c.width.ensures.bits) ∙ A.all-default marks) c.store.result c.store.ensures
