@@ -29,6 +29,10 @@ use Rattle.expr_type.specs.Statements.{typed_stmt}
 use Rattle.expr_type.specs.Functions.{routine}
 use Rattle.expr_type.specs.Routines.{routines, named_at}
 
+-- Functions and tasks name nothing of a module or an interface (E610): no signal and no member stands for anything in their texts.
+abbrev pub without_signals : Context → Context
+without_signals k = record k { signals = []; is_interface = λ n. false }
+
 module _ (tree : SourceTree) (t : Table) where
   -- the declaration that a name finds at its token
   abbrev pub finds : QualifiedName → Option ℕ
@@ -143,7 +147,7 @@ module _ (tree : SourceTree) (t : Table) where
   }
 
   abbrev pub context : Frame → ℕ → Context
-  context f at = let k = without_routines f at in record k { routine = routine (length t.declared) k }
+  context f at = let k = without_routines f at in record k { routine = routine (length t.declared) (without_signals k) }
 
   -- The three calls: what is typed, and the functions of the frame behind it.
   abbrev pub type_expr : Frame → ℕ → Expr → Option SvType → Typed T.Expr

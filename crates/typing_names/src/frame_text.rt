@@ -5,7 +5,7 @@ ghost use Rattle.std.specs.Option.{option_copied};
 ghost use Rattle.expr_type.specs.Names as names;
 ghost use Rattle.frame_texts.specs.Frames as means;
 ghost use Rattle.typing_parts.specs.Things.{StandsFor};
-ghost use Rattle.typing_names.specs.Texts.{context_of};
+ghost use Rattle.typing_names.specs.Texts.{context_of, module_thing};
 
 use crate::source_names::SourceNames;
 use crate::text::{FrameText, Start};
@@ -39,6 +39,20 @@ impl<'a, 't> FrameText<'a, 't> {
         }
     }
 
+    /// What a declaration of a module stands for that is no local, value or type.
+    fn module_thing(&self, declaration: u32) -> Thing<'_>
+        ensures { StandsFor result (module_thing self.now.source.now.tree.now self.now.source.now.names.now self.now.things.base.frame.now declaration) }
+    {
+        if let Some(signal) = self.things.base.signal(declaration, &self.whole) {
+            return Thing::Signal(signal.signal, &signal.of);
+        }
+        if self.source.is_interface(declaration) {
+            Thing::Interface(declaration)
+        } else {
+            Thing::Other(declaration)
+        }
+    }
+
     /// What the declaration with a number stands for.
     fn thing_of(&self, declaration: u32) -> Thing<'_>
         ensures { StandsFor result (names.thing_of (context_of self.now) declaration) }
@@ -52,13 +66,9 @@ impl<'a, 't> FrameText<'a, 't> {
         if let Some(named) = self.things.named_type(declaration) {
             return Thing::TypeName(&named.of);
         }
-        if let Some(signal) = self.things.base.signal(declaration, &self.whole) {
-            return Thing::Signal(signal.signal, &signal.of);
-        }
-        if self.source.is_interface(declaration) {
-            Thing::Interface(declaration)
-        } else {
-            Thing::Other(declaration)
+        match self.start {
+            Start::Items => self.module_thing(declaration),
+            Start::Routine(_) => Thing::Other(declaration),
         }
     }
 }
@@ -85,7 +95,10 @@ impl<'a, 't> Names for FrameText<'a, 't> {
     }
 
     fn member(&self, interface: u32, name: u32) -> Option<&SignalId> {
-        self.things.base.member(interface, self.source.word(name))
+        match self.start {
+            Start::Items => self.things.base.member(interface, self.source.word(name)),
+            Start::Routine(_) => None,
+        }
     }
 
     fn formal_count(&self, routine: u32) -> Option<usize> {
