@@ -1,2 +1,12 @@
 pub mod Joining
 pub mod Collecting
+pub mod Stepping
+pub mod Ending
+pub mod Roots
+pub mod Writing
+pub mod Counting
+pub mod Unrolling
+pub mod Seeing
+pub mod Turning
+pub mod Finding
+pub mod Fitting

@@ -1,0 +1,6 @@
+pub mod Turns
+pub mod Targets
+pub mod Counted
+pub mod Walks
+pub mod Bodies
+pub mod Looked

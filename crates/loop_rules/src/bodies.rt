@@ -5,8 +5,8 @@ ghost use Rattle.eval_runs.specs.Functions.{AllCanRun};
 ghost use Rattle.proc_rules.specs.Processes.{IsLoops};
 ghost use Rattle.unroll_laws.specs.Bodies.{BodyFits};
 
+use crate::{least_unbounded, unrolled};
 use bound_values::lesser;
-use loop_unrolls::{least_unbounded, unrolled};
 use proc_rules::Loops;
 use std::alloc::{AllocError, Global};
 use sv_types::{Design, Stmt};

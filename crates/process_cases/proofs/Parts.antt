@@ -25,7 +25,7 @@ use Rattle.comb_order.specs.Bits.{KeepsLimits, AreNarrow}
 use Rattle.edge_breaks.specs.Joins.{LinksStand}
 use Rattle.proc_rules.specs.declared.bodies.Loops.{Loops}
 use Rattle.proc_rules.specs.Processes.{IsLoops}
-use Rattle.design_rules.proofs.DesignFlows.{sound}
+use Rattle.loop_rules.proofs.Finding.{sound}
 use Rattle.process_cases.specs.Fits.{IfSo, EachNarrow, EachFits, EachBodyFits, Limited, Stands, IsFit}
 
 some-same : {A : Type 0} (a b : A) → Some a ≡ Some b → a ≡ b

@@ -4,7 +4,7 @@ use crate::designs::{Case, design};
 use crate::fits::is_fit;
 use b4_core::{Bit4, Vec4};
 use design_breaks::Break;
-use design_rules::{Checked, check_processes, least_break};
+use loop_rules::{Checked, check_processes, least_break};
 use std::alloc::{AllocError, Global};
 use sv_source::Fail;
 

@@ -17,8 +17,8 @@ use Rattle.expr_type.specs.Names.{Context}
 use Rattle.expr_type.specs.Operands as V
 use Rattle.typing_steps.specs.Steps.{TypesTo}
 use Rattle.typing_operators.specs.TypingValuesParts as P
-use Rattle.typing_cast_forms.specs.Casts.{called_of, parenthesized_of}
-use Rattle.typing_cast_forms.proofs.TypingFormsForms as M
+use Rattle.typing_exprs.specs.CastForms.{called_of, parenthesized_of}
+use Rattle.typing_exprs.proofs.FormMeanings as M
 use Rattle.typing_exprs.specs.Casts.{name_of, word_of}
 
 pub word-alone : (k : Context) (of : KeywordType) (ds : List Dimension) (o : Option Cast) (fs : List Function) → o ≡ None → TypesTo {A = V.Operand} (Err H.Quiet) (word_of k of ds o fs) fs

@@ -1,6 +1,13 @@
+pub mod Naming
+pub mod FormsPutting
+pub mod Unrolling
+pub mod FormMeanings
+pub mod Children
+pub mod WalkLawsOperands
+pub mod WalkLaws
 pub mod Casting
 pub mod Parted
 pub mod Putting
 pub mod Sounding
-pub mod WalkLaws
 pub mod TypingOperators
+pub mod CastFormsCasting

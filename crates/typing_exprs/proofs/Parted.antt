@@ -13,9 +13,9 @@ use Rattle.sv_tree.specs.declared.names.QualifiedName.{QualifiedName}
 use Rattle.typing_fits.proofs.Full.{and-left}
 use Rattle.typing_walks.specs.Written as W
 use Rattle.typing_walks.specs.Written.{is_written, cast_written, dimension_written, pattern_written, item_written, select_written, slice_written, range_written}
-use Rattle.walk_laws.specs.Children.{AllWritten, children_in, in_casts}
-use Rattle.walk_laws.proofs.Written.{children-written}
-use Rattle.typing_cast_forms.specs.TypingForms.{Level}
+use Rattle.typing_operators.specs.Children.{AllWritten, children_in, in_casts}
+use Rattle.typing_operators.proofs.Written.{children-written}
+use Rattle.typing_exprs.specs.Levels.{Level}
 
 front-written : (xs ys : List Expr) → AllWritten (xs ++ ys) → AllWritten xs
 front-written [] ys w = tt

@@ -1,4 +1,4 @@
 -- What is typed is narrow and can be valued, as a ruleset.
-use Rattle.walk_laws.proofs.Sound.{typed-fits, typed-narrow}
+use Rattle.typing_operators.proofs.Sound.{typed-fits, typed-narrow}
 
 pub ruleset soundness = (typed-narrow, typed-fits)

@@ -1,2 +1,3 @@
 -- What crates above cite of walk_laws.
-pub use Rattle.walk_laws.proofs.Written.{children-written}
+pub use Rattle.typing_operators.proofs.Premises.{call-fits}
+pub use Rattle.typing_operators.proofs.Written.{children-written}

@@ -1,3 +1,5 @@
-pub mod Casts
-pub mod TypingForms
+pub mod Named
+pub mod Levels
 pub mod WalkLaws
+pub mod Casts
+pub mod CastForms

@@ -9,20 +9,18 @@ ghost use Rattle.typing_fits.specs.Sound.{Extends};
 ghost use Rattle.typing_steps.specs.Steps.{TypesTo};
 ghost use Rattle.typing_parts.specs.Operands.{as_operand};
 ghost use Rattle.typing_parts.specs.Typists.{AllCanType, IsReady, MakesKnown};
-ghost use Rattle.walk_laws.specs.Children.{children};
+ghost use Rattle.typing_operators.specs.Children.{children};
 
 use crate::names::{name, word};
+use crate::{as_stream, by_sign, by_written_size, called, parenthesized, pattern, plain_operand};
 use expr_type::Halt;
 use literal_types::{based_number, decimal, fill, sized_number};
 use pattern_types::Operand;
 use std::alloc::Global;
 use sv_tree::Expr;
-use typing_cast_forms::{as_stream, by_sign, by_written_size, called, parenthesized, pattern};
-use typing_insides::inside;
-use typing_operators::{binary, concatenation, conditional, replication, stream, unary};
+use typing_operators::{binary, concatenation, conditional, inside, replication, stream, unary};
 use typing_parts::{Known, Names};
-use typing_system::system_call;
-use typing_type_casts::plain_operand;
+use typing_paths::system_call;
 
 /// An expression as an operand, over something that types the expressions in it. Its first break in the order of the text counts.
 pub fn form<

@@ -11,15 +11,15 @@ ghost use Rattle.typing_parts.specs.Operands.{as_operand};
 ghost use Rattle.typing_parts.specs.Typists.{AllCanType, IsReady};
 ghost use Rattle.typing_operators.specs.TypingValues.{in_dimensions, in_selects};
 ghost use Rattle.typing_exprs.specs.Casts.{name_of, word_of};
-ghost use Rattle.walk_laws.specs.Children.{in_casts};
+ghost use Rattle.typing_operators.specs.Children.{in_casts};
 
+use crate::{named_path, plain_operand, to_name, to_word};
 use expr_type::Halt;
 use pattern_types::Operand;
 use std::alloc::Global;
 use sv_source::Boxed;
 use sv_tree::{Cast, Dimension, Expr, KeywordType, QualifiedName, Select};
 use typing_parts::{Known, Names};
-use typing_type_casts::{named_path, plain_operand, to_name, to_word};
 
 /// The type of a word, which is no value, or a cast to it.
 pub(crate) fn word<S: Names, F: Fn(&Expr, &mut Known) -> Result<Operand, Halt>>(

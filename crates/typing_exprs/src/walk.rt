@@ -13,7 +13,7 @@ ghost use Rattle.typing_fits.specs.Sound.{Extends};
 ghost use Rattle.typing_parts.specs.Operands.{as_operand};
 ghost use Rattle.typing_steps.specs.Steps.{TypesTo};
 ghost use Rattle.typing_parts.specs.Typists.{FitsIfOk, IsReady, MakesKnown, NarrowIfOk};
-ghost use Rattle.walk_laws.specs.Children.{nodes};
+ghost use Rattle.typing_operators.specs.Children.{nodes};
 
 use crate::forms::form;
 use expr_type::{Halt, Source};

@@ -1,3 +1,11 @@
+pub mod Written
+pub mod Smaller
+pub mod Sound
+pub mod Premises
+pub mod Many
+pub mod OperandLaws
+pub mod Ranges
+pub mod InsidesPutting
 pub mod Exprs
 pub mod Narrow
 pub mod Rows

@@ -1,3 +1,5 @@
+pub mod Children
+pub mod Ranges
 pub mod Operators
 pub mod Lists
 pub mod Joins

@@ -2,11 +2,13 @@
 //! that types an expression (IEEE 1800-2017 clause 11.4).
 #![tactic(auto)]
 
+mod insides;
 mod joins;
 mod lists;
 mod operators;
 mod slices;
 
+pub use insides::inside;
 pub use joins::{concatenation, replication, reverses, stream};
 pub use operators::{binary, conditional, unary};
 pub use slices::written_size;

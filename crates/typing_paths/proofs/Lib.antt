@@ -1,3 +1,8 @@
 pub mod Selecting
 pub mod Naming
-pub mod TypingDimensions
+pub mod TargetNaming
+pub mod Asking
+pub mod Words
+pub mod Typable
+pub mod Levels
+pub mod Rows

@@ -24,8 +24,8 @@ use Rattle.expr_type.specs.Typings.{rule}
 use Rattle.typing_fits.specs.Operands.{AllSignalsNarrow}
 use Rattle.typing_fits.specs.Sound.{IsNarrowType}
 use Rattle.typing_steps.specs.Steps.{TypesTo}
-use Rattle.typing_dimensions.specs.TypingValues.{leaf_of}
-use Rattle.typing_dimensions.specs.TypingValuesParts as part
+use Rattle.typing_paths.specs.TypingValues.{leaf_of}
+use Rattle.typing_paths.specs.TypingValuesParts as part
 use Rattle.typing_paths.specs.Paths.{member_of, member_path_of, path_of, value_path_of}
 
 -- members of interfaces are narrow

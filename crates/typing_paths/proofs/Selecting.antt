@@ -13,7 +13,7 @@ use Rattle.expr_type.specs.Names.{Context, Source}
 use Rattle.expr_type.specs.Selects.{path, stepped}
 use Rattle.expr_type.specs.Typings.{Typing, both, rule}
 use Rattle.typing_steps.specs.Steps.{TypesTo}
-use Rattle.typing_dimensions.proofs.Rows.{map-of-map, more}
+use Rattle.typing_paths.proofs.Rows.{map-of-map, more}
 use Rattle.typing_paths.specs.Paths.{path_of, selected_of, step_of}
 
 path-behind : (k : Source) (x : Typing Valued) (ss : List (Typing Step)) (s : Typing Step)

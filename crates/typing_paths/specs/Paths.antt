@@ -16,9 +16,9 @@ use Rattle.expr_type.specs.Forms as F
 use Rattle.expr_type.specs.Names.{Context, member_in, word}
 use Rattle.expr_type.specs.Selects.{path, stepped}
 use Rattle.expr_type.specs.Typings.{Checked, Typing, beside, both, checked, rule, whole}
-use Rattle.typing_dimensions.specs.TypingValues.{named_alone}
-use Rattle.typing_dimensions.specs.TypingValues.{width_of}
-use Rattle.typing_dimensions.specs.TypingValues.{index_of}
+use Rattle.typing_paths.specs.TypingValues.{named_alone}
+use Rattle.typing_paths.specs.TypingValues.{width_of}
+use Rattle.typing_paths.specs.TypingValues.{index_of}
 
 -- an index or a base and a width
 abbrev pub sliding_of : Context → Expr → Expr → Typing (Valued × Number)

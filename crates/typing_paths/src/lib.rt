@@ -2,10 +2,24 @@
 //! 7.4.6, 11.5.1, 23.9 and 25.3).
 #![tactic(auto)]
 
+mod asked_types;
+mod calls;
+mod dimension_types;
 mod names;
+mod nets;
 mod paths;
+mod ranges;
 mod steps;
+mod target_names;
+mod written;
 
+pub use asked_types::as_type;
+pub use calls::system_call;
+pub use dimension_types::{dimensioned, type_of_name, type_of_word};
 pub use names::named_path;
+pub use nets::Nets;
 pub use paths::path;
-pub use typing_dimensions::{dimensioned, leaf, type_of_name, type_of_word};
+pub use ranges::bounds;
+pub use target_names::named_target;
+pub use typing_values::{behind_quiet, bits, index, leaf, named, value, width};
+pub use written::{Dims, dimensions, select_dimensions};

@@ -7,17 +7,17 @@ ghost use Rattle.typing_fits.specs.Operands.{SoundContext};
 ghost use Rattle.typing_fits.specs.Sound.{Extends};
 ghost use Rattle.typing_steps.specs.Steps.{TypesTo};
 ghost use Rattle.typing_parts.specs.Typists.{AllCanType, IsReady};
-ghost use Rattle.typing_dimensions.specs.TypingValues.{in_selects};
-ghost use Rattle.typing_dimensions.specs.TypingValuesParts as part;
+ghost use Rattle.typing_paths.specs.TypingValues.{in_selects};
+ghost use Rattle.typing_paths.specs.TypingValuesParts as part;
 ghost use Rattle.typing_paths.specs.Paths.{member_of, member_path_of, value_path_of};
 
 use crate::paths::path;
+use crate::{leaf, named};
 use expr_type::{Halt, Valued};
 use pattern_types::Operand;
 use std::alloc::Global;
 use sv_tree::{Expr, QualifiedName, Select};
 use sv_types::Form;
-use typing_dimensions::{leaf, named};
 use typing_parts::{Known, Names, Thing};
 
 // The member of an interface's instance or port whose name stands at a token (E405).

@@ -8,16 +8,16 @@ ghost use Rattle.operand_types.specs.Allowed.{IsNarrow};
 ghost use Rattle.typing_fits.specs.Sound.{Extends};
 ghost use Rattle.typing_steps.specs.Steps.{TypesTo};
 ghost use Rattle.typing_parts.specs.Typists.{AllCanType, IsReady};
-ghost use Rattle.typing_dimensions.specs.TypingValues.{in_select, in_selects};
+ghost use Rattle.typing_paths.specs.TypingValues.{in_select, in_selects};
 ghost use Rattle.typing_paths.specs.Paths.{CanStep, path_of, selected_of, stepping_of};
 
+use crate::behind_quiet;
 use crate::steps::step;
 use expr_type::{Halt, Step, Valued};
 use pattern_types::Operand;
 use select_types::stepped;
 use std::alloc::Global;
 use sv_tree::{Expr, Select};
-use typing_dimensions::behind_quiet;
 use typing_parts::{Known, Names};
 
 // A value and the select behind it: where what stands before isn't whole and breaks nothing, the select is looked at for its breaks.

@@ -5,15 +5,15 @@ ghost use Rattle.select_types.specs.Selected.{StepFits};
 ghost use Rattle.typing_fits.specs.Sound.{Extends};
 ghost use Rattle.typing_steps.specs.Steps.{TypesTo};
 ghost use Rattle.typing_parts.specs.Typists.{AllCanType, CanType, IsReady};
-ghost use Rattle.typing_dimensions.specs.TypingValues.{in_select};
+ghost use Rattle.typing_paths.specs.TypingValues.{in_select};
 ghost use Rattle.typing_paths.specs.Paths.{SlidesFit, index_step_of, part_of, slide_of, sliding_of, step_of};
 ghost use Rattle.sv_tree.specs.declared.operators.PartOperator.TheVariants as W;
 
+use crate::{behind_quiet, bounds, index, width};
 use expr_type::{Halt, Number, Step, Valued};
 use pattern_types::Operand;
 use std::alloc::Global;
 use sv_tree::{Expr, PartOperator, Select};
-use typing_dimensions::{behind_quiet, bounds, index, width};
 use typing_parts::{Known, Names};
 
 // A base and a width in the order of the text.

@@ -5,3 +5,7 @@ pub mod Placing
 pub mod Among
 pub mod Putting
 pub mod TypingValues
+pub mod CastAmong
+pub mod Crossing
+pub mod Fitting
+pub mod CastPutting

@@ -15,9 +15,9 @@ use Rattle.frame_things.specs.declared.things.NamedLocal.{NamedLocal}
 use Rattle.stmt_laws.specs.Written as W
 use Rattle.typing_calls.specs.Lists.{as_meant}
 use Rattle.typing_fits.specs.Sound.{IsNarrowType}
-use Rattle.typing_loops.specs.declared.turns.LoopVariable.{LoopVariable}
-use Rattle.typing_loops.specs.Loops.{variable_of}
-use Rattle.typing_lvalues.specs.Loops as V
+use Rattle.typing_declarations.specs.declared.turns.LoopVariable.{LoopVariable}
+use Rattle.typing_declarations.specs.Loops.{variable_of}
+use Rattle.typing_actions.specs.Loops as V
 use Rattle.typing_sides.specs.Sides.{first_stop, known_of, stop}
 use Rattle.typing_sides.proofs.Together.{both-fine, both-stops}
 use Rattle.typing_steps.specs.Steps.{TypesTo}

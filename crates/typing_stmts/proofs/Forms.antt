@@ -37,11 +37,11 @@ use Rattle.stmt_laws.specs.Written as W
 use Rattle.stmt_laws.specs.Written.{bodies_written, case_written, declarators_written, else_written, exprs_written, item_written, items_written, selects_written, start_written, step_written, stmt_written}
 use Rattle.stmt_walks.specs.Written.{lvalue_written}
 use Rattle.typing_calls.specs.Lists.{as_meant}
-use Rattle.typing_controls.specs.Written.{written_if}
+use Rattle.typing_actions.specs.ControlsWritten.{written_if}
 use Rattle.typing_fits.proofs.Full.{and-left, and-right}
-use Rattle.typing_loops.specs.Branches.{chosen}
-use Rattle.typing_loops.specs.Loops.{looped}
-use Rattle.typing_lvalues.specs.Walks.{assigned_to}
+use Rattle.typing_declarations.specs.Branches.{chosen}
+use Rattle.typing_declarations.specs.Loops.{looped}
+use Rattle.typing_actions.specs.Walks.{assigned_to}
 use Rattle.typing_steps.specs.Steps.{TypesTo}
 use Rattle.typing_stmt_parts.specs.Items.{cases_of}
 use Rattle.typing_stmt_parts.specs.Meanings.{case_meaning, else_meaning}

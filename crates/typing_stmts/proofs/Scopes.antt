@@ -16,8 +16,8 @@ use Rattle.stmt_laws.proofs.Declared.{behind-sound}
 use Rattle.stmt_laws.proofs.Parts.{SoundVariable, loop-behind, variable-keeps}
 use Rattle.stmt_types.specs.declared.blocks.BlockPart.{BlockPart}
 use Rattle.typing_calls.specs.Lists.{as_meant}
-use Rattle.typing_loops.specs.declared.turns.LoopVariable.{LoopVariable}
-use Rattle.typing_loops.specs.Loops.{variable_of}
+use Rattle.typing_declarations.specs.declared.turns.LoopVariable.{LoopVariable}
+use Rattle.typing_declarations.specs.Loops.{variable_of}
 use Rattle.typing_sides.specs.Sides.{known_of}
 use Rattle.typing_fits.specs.Sound.{IsNarrowType}
 use Rattle.typing_fits.proofs.Full.{and-left, and-right}

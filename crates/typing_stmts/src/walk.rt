@@ -20,18 +20,16 @@ use std::alloc::Global;
 use stmt_types::{BlockPart, CaseFound};
 use sv_source::Boxed;
 use sv_tree::{BlockItem, CaseItem, Else, Stmt};
-use typing_blocks::{named_variables, parameters, variables};
-use typing_controls::{condition, item_values, returned};
-use typing_loop_variables::loop_variable;
-use typing_loops::{choice, entered, loop_of};
-use typing_lvalues::{assign, counted};
+use typing_actions::{assign, condition, counted, item_values, returned, task_called};
+use typing_declarations::{
+    choice, entered, loop_of, loop_variable, named_variables, parameters, variables,
+};
 use typing_parts::{Known, Names};
 use typing_scopes::{Base, Scope};
 use typing_stmt_parts::{
     Part, block_by, case_of, empty, ended, ends, item_by, joined, no_values, of_declared,
     of_statement, some_of,
 };
-use typing_tasks::task_called;
 
 /// A statement of a text (IEEE 1800-2017 clauses 9.3, 10.4, 11.4.2, 12.4 to 12.8, 13.3 and 13.5), where `needs` is asked to make a
 /// function or task known that isn't. Its first break in the order of the text counts.

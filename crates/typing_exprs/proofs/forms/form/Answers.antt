@@ -11,10 +11,10 @@ use Rattle.typing_operators.specs.TypingValues.{in_dimensions, in_selects, in_sl
 use Rattle.typing_operators.specs.TypingValuesParts as P
 use Rattle.typing_operators.specs.Joins as J
 use Rattle.typing_operators.specs.Operators as O
-use Rattle.walk_laws.specs.Children.{in_casts}
-use Rattle.walk_laws.proofs.Many.{behind-can, front-can}
-use Rattle.typing_cast_forms.proofs.TypingForms.{level-can}
-use Rattle.typing_cast_forms.proofs.TypingFormsForms as M
+use Rattle.typing_operators.specs.Children.{in_casts}
+use Rattle.typing_operators.proofs.Many.{behind-can, front-can}
+use Rattle.typing_exprs.proofs.Children.{level-can}
+use Rattle.typing_exprs.proofs.FormMeanings as M
 use Rattle.typing_exprs.proofs.Casting as K
 use Rattle.typing_exprs.proofs.Parted.{arguments-written, selects-written}
 use Rattle.typing_exprs.proofs.forms.form.Goals as goal

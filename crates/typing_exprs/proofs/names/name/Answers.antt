@@ -1,8 +1,8 @@
 use Rattle.std.proofs.Common.{◌≡◌, Some}
 use Rattle.typing_parts.specs.Operands.{as_operand}
 use Rattle.typing_operators.specs.TypingValuesParts as P
-use Rattle.typing_cast_forms.proofs.Casting.{cast-can}
-use Rattle.walk_laws.proofs.Premises.{path-fits}
+use Rattle.typing_exprs.proofs.CastFormsCasting.{cast-can}
+use Rattle.typing_operators.proofs.Premises.{path-fits}
 use Rattle.typing_exprs.proofs.Casting.{name-alone, name-cast}
 use Rattle.typing_exprs.proofs.names.name.Goals as goal
 

@@ -1,7 +1,7 @@
 use Rattle.std.proofs.Common.{◌≡◌, Some}
 use Rattle.typing_parts.specs.Operands.{as_operand}
 use Rattle.typing_operators.specs.TypingValues.{to_word}
-use Rattle.typing_cast_forms.proofs.Casting.{cast-can}
+use Rattle.typing_exprs.proofs.CastFormsCasting.{cast-can}
 use Rattle.typing_exprs.proofs.Casting.{word-alone, word-cast}
 use Rattle.typing_exprs.proofs.names.word.Goals as goal
 

@@ -4,8 +4,8 @@ use Rattle.expr_type.specs.Expressions.{meaning}
 use Rattle.typing_parts.specs.Operands.{as_operand}
 use Rattle.typing_steps.specs.Steps.{TypesTo}
 use Rattle.typing_walks.specs.Written.{is_written}
-use Rattle.walk_laws.specs.Children.{nodes}
-use Rattle.typing_cast_forms.proofs.TypingForms.{children-can}
+use Rattle.typing_operators.specs.Children.{nodes}
+use Rattle.typing_exprs.proofs.Children.{children-can}
 use Rattle.typing_exprs.proofs.walk.+typing.Goals as goal
 
 pub operand-form-requires-clause-can : goal.operand-form-requires-clause-can

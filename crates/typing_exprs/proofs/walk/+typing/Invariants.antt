@@ -1,5 +1,5 @@
 use Rattle.std.proofs.Common.{◌+◌, ◌*◌}
-use Rattle.walk_laws.specs.Children.{nodes}
+use Rattle.typing_operators.specs.Children.{nodes}
 use Rattle.typing_exprs.proofs.walk.+typing.Given as goal
 
 abbrev pub decreases-operand-typed : goal.decreases-operand-typed

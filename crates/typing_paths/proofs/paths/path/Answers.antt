@@ -1,7 +1,7 @@
 use Rattle.std.proofs.Common.{take}
 use Rattle.typing_parts.proofs.Keeping.{extends-then}
-use Rattle.typing_dimensions.specs.TypingValues.{in_select}
-use Rattle.typing_dimensions.proofs.Typable.{can-in}
+use Rattle.typing_paths.specs.TypingValues.{in_select}
+use Rattle.typing_paths.proofs.Typable.{can-in}
 use Rattle.typing_paths.specs.Paths.{path_of}
 use Rattle.typing_paths.proofs.Selecting.{path-turn}
 use Rattle.typing_paths.proofs.paths.path.Goals as goal

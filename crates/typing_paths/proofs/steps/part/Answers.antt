@@ -1,7 +1,7 @@
 use Rattle.expr_type.specs.declared.step.Step.TheVariants as S
 use Rattle.expr_type.specs.Typings.{whole}
 use Rattle.typing_steps.proofs.Combining.{checked-stops}
-use Rattle.typing_dimensions.specs.Dimensions.{bounds_of}
+use Rattle.typing_paths.specs.Dimensions.{bounds_of}
 use Rattle.typing_paths.proofs.steps.part.Goals as goal
 
 pub returns-in-Err-clause-value : goal.returns-in-Err-clause-value

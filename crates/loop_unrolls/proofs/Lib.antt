@@ -1,3 +1,0 @@
-pub mod Unrolling
-pub mod Seeing
-pub mod Turning

@@ -1,0 +1,24 @@
+use Rattle.std.proofs.Common.{◌≡◌, true, Some, sym, subst}
+use Rattle.sv_tree.specs.declared.expressions.Expr.{Expr}
+use Rattle.expr_type.specs.Expressions.{meaning}
+use Rattle.typing_parts.specs.Operands.{as_operand}
+use Rattle.typing_steps.specs.Steps.{TypesTo}
+use Rattle.typing_values.specs.Children.{in_slice}
+use Rattle.typing_walks.specs.Written.{is_written}
+use Rattle.typing_actions.proofs.Written.{each-can, slice-parts}
+use Rattle.typing_actions.proofs.sizes.sized.Goals as goal
+
+pub written_size-requires-clause-names : goal.written_size-requires-clause-names
+written_size-requires-clause-names g c = c.requires.names.context
+
+pub written_size-requires-clause-can : goal.written_size-requires-clause-can
+written_size-requires-clause-can g c =
+    let k = g.S.Names.context c.args.names.now in
+    each-can _ _ _ _ _ _ _ (in_slice (Some c.args.size.now)) (λ x written. record {
+      can = λ y s is q. (c.requires.needs, (c.requires.names, (subst (λ (z : Expr). is_written z ≡ true) (sym is) written, q)));
+      gives = λ y s r u is p. subst (λ (z : Expr). TypesTo (as_operand k.source r) ((meaning z).typed k s.now.functions) u.now.functions) is p.0;
+      narrow = λ y s r u is p. p.1.0;
+      fits = λ y s r u is p. p.1.1.0;
+      ready = λ y s r u is p. p.1.1.1.0;
+      keeps = λ y s r u is p. p.1.1.1.1;
+    }) (slice-parts c.args.size.now c.requires.written)

@@ -1,4 +1,0 @@
-pub mod Blocks
-pub mod Declaring
-pub mod Kinds
-pub mod Rows

@@ -1,4 +1,0 @@
-pub mod Among
-pub mod Crossing
-pub mod Fitting
-pub mod Putting

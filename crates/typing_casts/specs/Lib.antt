@@ -1,4 +1,0 @@
-pub mod Insides
-pub mod Sized
-pub mod TypingValues
-pub mod TypingValuesParts

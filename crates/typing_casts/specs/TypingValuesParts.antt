@@ -1,2 +1,0 @@
--- What crates above use of typing_values.
-pub use Rattle.typing_patterns.specs.TypingValues.{call, by_size}

@@ -1,0 +1,54 @@
+-- Expressions in types that can be typed, where all that is written can be.
+use Rattle.std.proofs.Common.{◌≡◌, Bool, true, ◌&&◌, List, [], ◌∷◌, ◌++◌, map, None, refl, ap, sym, ◌∙◌, subst}
+use Rattle.std.specs.Prelude.{Result}
+use Rattle.sv_tree.specs.declared.expressions.Cast.{Cast}
+use Rattle.sv_tree.specs.declared.expressions.Dimension.{Dimension}
+use Rattle.sv_tree.specs.declared.expressions.Expr.{Expr, Expr-F, fold_out-Expr, map-Expr, out-roll-Expr, roll-Expr}
+use Rattle.sv_tree.specs.declared.expressions.Pattern.{Pattern}
+use Rattle.sv_tree.specs.declared.expressions.PatternItem.{PatternItem}
+use Rattle.sv_tree.specs.declared.expressions.Select.{Select}
+use Rattle.sv_tree.specs.declared.expressions.SliceSize.{SliceSize}
+use Rattle.sv_tree.specs.declared.expressions.ValueRange.{ValueRange}
+use Rattle.expr_type.specs.declared.halt.Halt.{Halt}
+use Rattle.expr_type.specs.Names.{Context}
+use Rattle.expr_type.specs.Targets.{simple_name}
+use Rattle.pattern_types.specs.declared.operand.Operand as O
+use Rattle.typing_parts.specs.declared.known.Known.{Known}
+use Rattle.typing_parts.specs.Typists.{AllCanType, CanType}
+use Rattle.typing_paths.specs.Children.{in_type}
+use Rattle.typing_values.specs.Children.{in_selects}
+use Rattle.typing_walks.specs.Written as W
+use Rattle.typing_walks.specs.Written.{is_written, cast_written, dimension_written, pattern_written, item_written, select_written, slice_written, range_written}
+use Rattle.typing_operators.specs.Children.{AllWritten, children_in}
+use Rattle.typing_operators.proofs.Written.{children-written}
+
+module _ (R S : Type 0) (tree : R → Expr) (held : S → Known) (pre : R → S → Type 0) (post : R → S → Result O.Operand Halt → S → Type 0) (k : Context) where
+  pub each-can : (es : List Expr) → ((e : Expr) → is_written e ≡ true → CanType R S tree held pre post k e) → AllWritten es → AllCanType R S tree held pre post k es
+  each-can [] c w = tt
+  each-can (e ∷ es) c w = (c e w.0, each-can es c w.1)
+
+abbrev Level : Type 0
+Level = Expr-F Cast Dimension Expr Pattern PatternItem Select SliceSize ValueRange
+
+abbrev step : Level → Bool
+step z = W.expr_step (map-Expr Cast Dimension Expr Pattern PatternItem Select SliceSize ValueRange Bool Bool Bool Bool Bool Bool Bool Bool cast_written dimension_written is_written pattern_written item_written select_written slice_written range_written z)
+
+rolled : (z : Level) → step z ≡ true → AllWritten (children_in z)
+rolled z w =
+    let same = fold_out-Expr Bool Bool Bool Bool Bool Bool Bool Bool W.cast_step W.dimension_step W.expr_step W.pattern_step W.item_step W.select_step W.slice_step W.range_step (roll-Expr z) ∙ ap step (out-roll-Expr z) in
+    subst (λ (y : Level). AllWritten (children_in y)) (out-roll-Expr z) (children-written (roll-Expr z) (same ∙ w))
+
+-- selects, as those behind a name
+front-written : (xs ys : List Expr) → AllWritten (xs ++ ys) → AllWritten xs
+front-written [] ys w = tt
+front-written (x ∷ xs) ys w = (w.0, front-written xs ys w.1)
+
+and-all : (b : Bool) → b ≡ true → (b && true) ≡ true
+and-all b e = subst (λ (c : Bool). (c && true) ≡ true) (sym e) refl
+
+pub selects-written : (ss : List Select) → W.all (map select_written ss) ≡ true → AllWritten (in_selects ss)
+selects-written ss w = front-written (in_selects ss) [] (rolled (Expr-F.«Expr::Name» (simple_name 0) ss None) (and-all (W.all (map select_written ss)) w))
+
+-- a type, as that under `$bits`
+pub type-written : (e : Expr) → is_written e ≡ true → AllWritten (in_type e)
+type-written e w = let all = rolled (Expr-F.SystemCall 0 0 e 0) w in all.1

@@ -1,0 +1,13 @@
+pub mod Blocks
+pub mod Declaring
+pub mod Kinds
+pub mod Rows
+pub mod Texts
+pub mod Types
+pub mod Naming
+pub mod Loops
+pub mod Branches
+pub mod Variables
+pub mod Giving
+pub mod FormalRows
+pub mod Formals

@@ -1,0 +1,156 @@
+//! Types in declarations.
+
+ghost use Rattle.std.specs.Prelude.{◌≡◌, IfOk, map, true};
+ghost use Rattle.std.specs.Option.{option_copied};
+ghost use Rattle.expr_type.specs.Statements as statement;
+ghost use Rattle.routine_fits.specs.Sound.{AllSoundFunctions};
+ghost use Rattle.typing_fits.specs.Sound.{Extends};
+ghost use Rattle.typing_parts.specs.Typists.{IsReady, MakesKnown};
+ghost use Rattle.typing_steps.specs.Steps.{TypesTo};
+ghost use Rattle.typing_walks.specs.Keeps.{Surrounded};
+ghost use Rattle.typing_scopes.specs.Scopes.{context_of};
+ghost use Rattle.typing_walks.specs.Written as written;
+ghost use Rattle.typing_walks.specs.WrittenTypes.{dims_written, type_written};
+ghost use Rattle.typing_declarations.specs.Declaring.{type_or_bit};
+
+use crate::operands::with_selects;
+use crate::{TypeFound, dims, typed_text};
+use expr_type::Halt;
+use std::alloc::{AllocError, Global};
+use sv_tree::{Dimension, QualifiedName, Select, Signing, TypeText};
+use sv_types::SvType;
+use type_kinds::copy_type;
+use type_texts::{implicit_type, unpacked};
+use typing_parts::{Known, Names};
+use typing_paths::type_of_name;
+use typing_scopes::{Base, Scope};
+
+/// A named type with selects in the place of dimensions. A name that stands for no type isn't whole and breaks nothing here.
+#[tactic(auto, using(typing_parts::proofs::Keeping::keepings))]
+pub(crate) fn selected_type<S: Names, C: Fn(u32, &mut Known) -> Result<u32, Halt>>(
+    alloc: Global,
+    names: &S,
+    needs: &C,
+    of: u32,
+    selects: &[Select],
+    known: &mut Known,
+) -> Result<TypeFound, Halt>
+    requires needs { MakesKnown _ ((n : _) (k : _) → IsReady k.now → C.pre needs.now n k) (λ k. k.now) (C.post needs.now) (S.context names.now) }
+    requires names { Surrounded AllSoundFunctions (S.context names.now) }
+    requires written { written.all (map written.select_written selects.now) ≡ true }
+    requires ready { IsReady known.old }
+    ensures value { TypesTo result (statement.selected_type (S.context names.now) of selects.now known.old.functions) known.new.functions }
+    ensures ready { IsReady known.new }
+    ensures keeps { Extends known.old.functions known.new.functions }
+{
+    let name = QualifiedName {
+        scope: None,
+        name: of,
+    };
+    match type_of_name(names, name) {
+        None => Err(Halt::Quiet),
+        Some(t) => {
+            let t = with_selects(alloc, names, needs, t, selects, known)?;
+            Ok(TypeFound::only(alloc, t))
+        }
+    }
+}
+
+// Whether nothing is written.
+fn nothing_written(signing: Option<Signing>, packed: &[Dimension]) -> bool
+    ensures { result ≡ statement.nothing_written signing packed.now }
+{
+    match signing {
+        None => match packed {
+            [] => true,
+            [_, ..] => false,
+        },
+        Some(_) => false,
+    }
+}
+
+/// Whether a type is left out.
+pub(crate) fn is_unwritten(of: &TypeText) -> bool
+    ensures { result ≡ statement.is_unwritten of.now }
+{
+    match of {
+        TypeText::Keyword { .. } => false,
+        TypeText::Structure { .. } => false,
+        TypeText::Enumeration { .. } => false,
+        TypeText::Named { .. } => false,
+        TypeText::Implicit { signing, packed } => nothing_written(*signing, packed.as_slice()),
+    }
+}
+
+/// The type of a parameter that is written, or that of the parameter before where it is left out; none where the value gives it
+/// (IEEE 1800-2017 clause 6.20.2).
+#[tactic(auto, using(typing_parts::proofs::Keeping::keepings))]
+pub(crate) fn type_or_before<B: Base, C: Fn(u32, &mut Known) -> Result<u32, Halt>>(
+    alloc: Global,
+    names: &Scope<'_, B>,
+    needs: &C,
+    before: Option<SvType>,
+    of: &TypeText,
+    known: &mut Known,
+) -> Result<Option<SvType>, Halt>
+    requires needs { MakesKnown _ ((n : _) (k : _) → IsReady k.now → C.pre needs.now n k) (λ k. k.now) (C.post needs.now) (context_of B.context names.now) }
+    requires names { Surrounded AllSoundFunctions (context_of B.context names.now) }
+    requires written { type_written of.now ≡ true }
+    requires ready { IsReady known.old }
+    ensures value { TypesTo result (statement.written_type (context_of B.context names.now) before of.now known.old.functions) known.new.functions }
+    ensures ready { IsReady known.new }
+    ensures keeps { Extends known.old.functions known.new.functions }
+{
+    if is_unwritten(of) {
+        return Ok(before);
+    }
+    let found = typed_text(alloc, names, needs, of, known)?;
+    let TypeFound { of: t, .. } = found;
+    Ok(Some(t))
+}
+
+// A type, or four-state bits where there is none.
+fn type_or_bit(alloc: Global, t: Option<&SvType>) -> Result<SvType, AllocError>
+    ensures { IfOk result (λ r. r ≡ type_or_bit (option_copied t.entry)) }
+{
+    match t {
+        None => implicit_type(alloc, None, &[]),
+        Some(t) => copy_type(alloc, t),
+    }
+}
+
+// The same type, if there is one.
+fn copied(alloc: Global, t: Option<&SvType>) -> Result<Option<SvType>, AllocError>
+    ensures { IfOk result (λ r. r ≡ option_copied t.entry) }
+{
+    match t {
+        None => Ok(None),
+        Some(t) => Ok(Some(copy_type(alloc, t)?)),
+    }
+}
+
+/// The type of a parameter with the dimensions behind its name, if there are any: under them stand four-state bits where it has none.
+#[tactic(auto, using(typing_steps::proofs::Combining::steps, typing_parts::proofs::Keeping::keepings))]
+pub(crate) fn with_dimensions<S: Names, C: Fn(u32, &mut Known) -> Result<u32, Halt>>(
+    alloc: Global,
+    names: &S,
+    needs: &C,
+    t: Option<&SvType>,
+    ds: &[Dimension],
+    known: &mut Known,
+) -> Result<Option<SvType>, Halt>
+    requires needs { MakesKnown _ ((n : _) (k : _) → IsReady k.now → C.pre needs.now n k) (λ k. k.now) (C.post needs.now) (S.context names.now) }
+    requires names { Surrounded AllSoundFunctions (S.context names.now) }
+    requires written { dims_written ds.now ≡ true }
+    requires ready { IsReady known.old }
+    ensures value { TypesTo result (statement.with_dimensions (S.context names.now) (option_copied t.entry) ds.now known.old.functions) known.new.functions }
+    ensures ready { IsReady known.new }
+    ensures keeps { Extends known.old.functions known.new.functions }
+{
+    if ds.is_empty() {
+        return Ok(copied(alloc, t)?);
+    }
+    let dims = dims(alloc, names, needs, ds, known)?;
+    let under = type_or_bit(alloc, t)?;
+    Ok(Some(unpacked(alloc, dims.as_slice(), under)?))
+}

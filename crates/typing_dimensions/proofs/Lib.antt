@@ -1,3 +1,0 @@
-pub mod Typable
-pub mod Levels
-pub mod Rows

@@ -1,3 +1,0 @@
-pub mod Dimensions
-pub mod TypingValues
-pub mod TypingValuesParts

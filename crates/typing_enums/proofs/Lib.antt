@@ -1,4 +1,0 @@
-pub mod Written
-pub mod Valuing
-pub mod Rows
-pub mod Declaring

@@ -1,4 +1,0 @@
-pub mod Rows
-pub mod Joining
-pub mod Under
-pub mod Levels

@@ -1,6 +1,0 @@
-pub mod Written
-pub mod Smaller
-pub mod Sound
-pub mod Premises
-pub mod Many
-pub mod Operands
