@@ -12,10 +12,14 @@ use Rattle.expr_type.specs.Functions.{FormalFound, ResultFound, Head, at_first, 
 use Rattle.expr_type.specs.Names.{Context}
 use Rattle.expr_type.specs.Statements.{block, item_meaning}
 use Rattle.expr_type.specs.Typings.{Typing, rule}
+use Rattle.routine_fits.specs.Sound.{AllSoundFunctions}
+use Rattle.routine_laws.specs.Sound.{SoundResult}
+use Rattle.routine_laws.proofs.Heads.{body-sound}
 use Rattle.typing_scopes.specs.Ahead.{halted}
 use Rattle.typing_steps.specs.Steps.{StopsBy, TypesTo}
 use Rattle.typing_steps.proofs.Following.{by-breaks, by-fine, by-second}
 use Rattle.typing_values.specs.Values.{behind}
+use Rattle.typing_walks.specs.Keeps.{Surrounded}
 use Rattle.typing_declarations.specs.FormalRows.{FormalsTo, HeadsTo, IsHead, head_rest}
 use Rattle.typing_declarations.proofs.Heading.{head-is}
 use Rattle.typing_declarations.proofs.Parts.{beside-quiet, both-breaks, both-quiet, both-whole}
@@ -31,6 +35,13 @@ moved P a b e p = subst P (sym e) p
 behind-is : {A : Type 0} (b : Result A Halt) → behind b ≡ halted b
 behind-is (Ok a) = refl
 behind-is (Err h) = refl
+
+-- the text of a body: what makes the functions of the text around it known makes its functions known, and its names are sound
+pub routine-in : (k i : Context) (name : ℕ) (r : ResultFound) → i ≡ in_body k name (Some r) → i.routine ≡ k.routine
+routine-in k i name r e = ap (λ (x : Context). x.routine) e
+
+pub names-in : (k i : Context) (name : ℕ) (r : ResultFound) (fs : List Function) → i ≡ in_body k name (Some r) → Surrounded AllSoundFunctions k → SoundResult r fs → Surrounded AllSoundFunctions i
+names-in k i name r fs e s q = moved (λ (x : Context). Surrounded AllSoundFunctions x) i (in_body k name (Some r)) e (body-sound AllSoundFunctions k name r fs s q)
 
 -- what is said of a body, by what it stands behind
 pub behind-ok : (j k : Context) (made : Result (List Formal) Halt) (m : List Formal) (r : Result (List Formal × Stmt) Halt) (items : List BlockItem) (fs gs : List Function) → made ≡ Ok m → BodyTo m r j items fs gs → BehindTo made r j k items fs gs

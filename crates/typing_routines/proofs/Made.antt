@@ -1,5 +1,5 @@
 -- Functions by their parts, and by their texts.
-use Rattle.std.proofs.Common.{◌≡◌, List, map, Bool, true, ◌&&◌, ℕ, refl, sym, ap, ◌∙◌, subst}
+use Rattle.std.proofs.Common.{◌≡◌, List, map, Bool, ℕ, sym, ap, ◌∙◌, subst}
 use Rattle.std.specs.Prelude.{Result, Ok, Err}
 use Rattle.sv_source.specs.declared.token.Spot.{Spot}
 use Rattle.sv_tree.specs.declared.functions.Formal as G
@@ -12,7 +12,7 @@ use Rattle.sv_types.specs.declared.types.SvType.{SvType}
 use Rattle.expr_type.specs.declared.halt.Halt.{Halt}
 use Rattle.expr_type.specs.declared.halt.Halt.TheVariants as H
 use Rattle.expr_type.specs.Functions.{ResultFound, Head, function_of, function_path, name_of, typed_routine}
-use Rattle.expr_type.specs.Names.{Context, Home, RoutineText, spot, word}
+use Rattle.expr_type.specs.Names.{Context, Home, RoutineText, Source, spot, word}
 use Rattle.expr_type.specs.Typings.{Typed, Typing, whole}
 use Rattle.typing_scopes.specs.Ahead.{mapped}
 use Rattle.typing_steps.specs.Steps.{StopsBy, TypesTo}
@@ -21,7 +21,7 @@ use Rattle.typing_declarations.specs.declared.results.ResultFound as C
 use Rattle.typing_declarations.specs.FormalRows.{formal_in}
 use Rattle.typing_declarations.specs.Giving.{kind_by, no_result, plain_result, result_of}
 use Rattle.typing_routines.specs.declared.identity.Identity.{Identity}
-use Rattle.typing_routines.specs.Routines.{AreParts, IsIdentity, PartsTo, body_typed, function_by, routine_of}
+use Rattle.typing_routines.specs.Routines.{IsIdentity, PartsTo, body_typed, function_by, routine_of}
 use Rattle.typing_routines.proofs.Bodied.{result-broken}
 
 -- what a function gives, as it was found
@@ -64,6 +64,9 @@ module _ (k : Context) (h : Home) (name : ℕ) (x : Typing ResultFound) (gs : Li
 pub text-there : (k j : Context) (h : Home) (s t : RoutineText) (r : Result Function Halt) (fs js : List Function) → j ≡ k → s ≡ t → TypesTo r (routine_of j h t fs) js → TypesTo r (routine_of k h s fs) js
 text-there k j h s t r fs js e f p =
     subst (λ (z : Context). TypesTo r (routine_of z h s fs) js) e (subst (λ (y : RoutineText). TypesTo r (routine_of j h y fs) js) (sym f) p)
+
+pub spot-there : (k : Context) (z : Source) (s : RoutineText) (n : ℕ) (at : Spot) → at ≡ spot z n → z ≡ k.source → n ≡ name_of s → at ≡ spot k.source (name_of s)
+spot-there k z s n at a e f = a ∙ ap (λ (q : Source). spot q n) e ∙ ap (spot k.source) f
 
 pub known-by : (k j : Context) (h : Home) (s t : RoutineText) (instance : ℕ) (path : List ℕ) (at : Spot) → j ≡ k → s ≡ t → at ≡ spot k.source (name_of s) → h.instance ≡ instance → function_path h (word k.source (name_of s)) ≡ path
     → IsIdentity (record { instance = instance; path = path; spot = at }) j h (name_of t)

@@ -23,8 +23,8 @@ returns-in-Err-Breaks-clause-value g c h x fs known is =
     let e : c.args.found ≡ Err (H.Breaks c.in-Err-Breaks.at c.in-Err-Breaks.rule) = search rules in
     function-broken (context_of g.B.Names.context c.args.outer.now) h c.args.name x c.args.list.now c.args.items.now c.args.found fs c.args.known.now.functions c.args.known.now.functions c.in-Err-Breaks.at c.in-Err-Breaks.rule e is
 
-pub returns-in-Err-Quiet-clause-value : goal.returns-in-Err-Quiet-clause-value
-returns-in-Err-Quiet-clause-value g c h x fs known is =
+pub returns-clause-value : goal.returns-clause-value
+returns-clause-value g c h x fs known is =
     let e : c.args.found ≡ Err H.Quiet = search rules in
     function-stops (context_of g.B.Names.context c.args.outer.now) h c.args.name x c.args.list.now c.args.items.now fs c.without_result.new.known.functions c.without_result.result
     (c.without_result.ensures.value x fs (found-is x c.args.found (Err H.Quiet) fs c.args.known.now.functions e is))
