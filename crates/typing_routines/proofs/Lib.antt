@@ -1,2 +1,0 @@
-pub mod Bodied
-pub mod Made
