@@ -3,6 +3,7 @@
 ghost use Rattle.std.specs.Prelude.{◌≡◌, [], ◌∷◌, map, None, IfOk};
 ghost use Rattle.std.specs.Option.{option_map};
 ghost use Rattle.sv_core.specs.declared.design.ProcessKind.TheVariants.{Continuous};
+ghost use Rattle.v_tree.specs.declared.statements.VBranch.TheVariants.{Statement};
 ghost use Rattle.v_tree.specs.declared.statements.VStmt.TheVariants.{Block};
 ghost use Rattle.lower_design.specs.Shape.{name_of};
 ghost use Rattle.lower_design.specs.Translatable.{KindFits};
@@ -134,12 +135,20 @@ fn lines(alloc: Global, stmt: VStmt) -> Result<VStmts, AllocError>
     }
 }
 
+/// A branch that is a block of these statements.
+fn branch_of(alloc: Global, stmts: VStmts) -> Result<VBranch, AllocError>
+    ensures { IfOk result (λ b. b ≡ Statement (Block None stmts)) }
+{
+    let block = block(stmts);
+    Ok(VBranch::Statement(Boxed::new(alloc, block)?))
+}
+
 /// A branch that is a block: the statement itself if it is one, and else a block of it alone.
 fn block_of(alloc: Global, stmt: VStmt) -> Result<VBranch, AllocError>
     ensures { IfOk result (λ b. b ≡ branch stmt) }
 {
-    let block = block(lines(alloc, stmt)?);
-    Ok(VBranch::Statement(Boxed::new(alloc, block)?))
+    let stmts = lines(alloc, stmt)?;
+    branch_of(alloc, stmts)
 }
 
 /// A statement. Each branch of an `if` becomes a block, so that each `else` belongs to its own `if`.
@@ -203,14 +212,24 @@ fn trigger_line(alloc: Global) -> Result<VStmt, AllocError>
     })
 }
 
+/// Statements behind one that reads the trigger.
+fn behind_trigger(alloc: Global, stmts: VStmts) -> Result<VStmts, AllocError>
+    ensures { IfOk result (λ ss. ss ≡ reads_trigger ∷ stmts) }
+{
+    let line = trigger_line(alloc)?;
+    let mut all = Items::new(alloc);
+    all.push(line)?;
+    all.append(stmts)?;
+    Ok(all)
+}
+
 /// A statement as a block that reads the trigger first.
 fn with_trigger(alloc: Global, stmt: VStmt) -> Result<VBranch, AllocError>
     ensures { IfOk result (λ b. b ≡ triggered stmt) }
 {
-    let mut stmts = Items::new(alloc);
-    stmts.push(trigger_line(alloc)?)?;
-    stmts.append(lines(alloc, stmt)?)?;
-    Ok(VBranch::Statement(Boxed::new(alloc, block(stmts))?))
+    let own = lines(alloc, stmt)?;
+    let stmts = behind_trigger(alloc, own)?;
+    branch_of(alloc, stmts)
 }
 
 /// The edges of an `always`.
