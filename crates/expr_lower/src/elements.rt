@@ -9,7 +9,7 @@ ghost use Rattle.expr_lower.specs.Named.{signal_name, is_memory};
 
 use crate::named::signal_text;
 use eval_parts::{Step, step_of};
-use memory_words::{known_reading, word_of, word_reading};
+use memory_words::{known_reading, word_number, word_reading};
 use path_flatten::{Index, Reading};
 use std::alloc::{AllocError, Global};
 use sv_types::{Expr, SvType};
@@ -64,7 +64,7 @@ pub fn indexed_word(
     ensures names { IfOk result (NamesWordBy (signal_name names.now.signals n) at) }
 {
     let memory = signal_text(alloc, names.signals.as_slice(), n);
-    let (memory, word) = pairs::both(memory, word_of(alloc, at, of))?;
+    let (memory, word) = pairs::both(memory, word_number(alloc, at, of))?;
     let made = word_reading(alloc, memory, of, word)?;
     Ok(made)
 }

@@ -31,7 +31,7 @@ pub const WORDS: &[(&[Word], u32, &str)] = &[
         8,
         "m[a]",
     ),
-    // m[a] of [0:2]: index 3 has no word
+    // m[a] of [0:2]: index 3 has no word, where the memory reads x
     (
         &[
             Type("four packed 3 0 array 0 2"),
@@ -42,7 +42,7 @@ pub const WORDS: &[(&[Word], u32, &str)] = &[
             Index,
         ],
         4,
-        "{(a<='10)?m[{a}]:{4{'x}}}",
+        "m[a]",
     ),
     // m[3] of [3:0]
     (
@@ -102,7 +102,54 @@ pub const WORDS: &[(&[Word], u32, &str)] = &[
             Index,
         ],
         8,
-        "{(($signed($signed(a))>=$signed('000000000000000000000000000000000000000000000000000000000000000000))&&($signed($signed(a))<=$signed('000000000000000000000000000000000000000000000000000000000000000011)))?m[{$signed($signed(a))-$signed('000000000000000000000000000000000000000000000000000000000000000000)}]:{8{'x}}}",
+        "m[{$signed($signed(a))-$signed('000000000000000000000000000000000000000000000000000000000000000000)}]",
+    ),
+    // m[a] of [5:2]: how far a lies above 2, in 66 bits
+    (
+        &[
+            Type("four packed 7 0 array 5 2"),
+            Signal(8),
+            Vector(3, 0),
+            Signal(0),
+            Vector(7, 0),
+            Index,
+        ],
+        8,
+        "m[{$signed({'0,a})-$signed('000000000000000000000000000000000000000000000000000000000000000010)}]",
+    ),
+    // m[m[m[a]]] of five words of three bits: each index stands in the text once
+    (
+        &[
+            Type("four packed 2 0 array 4 0"),
+            Signal(8),
+            Type("four packed 2 0 array 4 0"),
+            Signal(8),
+            Type("four packed 2 0 array 4 0"),
+            Signal(8),
+            Vector(2, 0),
+            Signal(0),
+            Vector(2, 0),
+            Index,
+            Vector(2, 0),
+            Index,
+            Vector(2, 0),
+            Index,
+        ],
+        3,
+        "m[m[m[a]]]",
+    ),
+    // m[a] of two-state bits of [0:2]: where index 3 reads x, the helper makes 0 of it
+    (
+        &[
+            Type("two packed 3 0 array 0 2"),
+            Signal(8),
+            Vector(1, 0),
+            Signal(0),
+            Type("two packed 3 0"),
+            Index,
+        ],
+        4,
+        "sv2v_h_two_state_4(m[a])",
     ),
     // m[a][2]
     (

@@ -42,11 +42,7 @@ braced-width : (e : T.Meaning) (w : ℕ) (sc : Scope) → e.width sc ≡ w → (
 unfolding T.concatenation
 braced-width e w sc is = omega arith
 
--- an exact word is one
-pub as-word : (of : Layout) (i : Option ℤ) (g : Option T.Meaning) (r : T.Meaning) (sc : Scope) (v : Valuation) → IsExactWord of i g r sc v → IsWord of i g r sc v
-as-word of i g r sc v h = record { unsigned = h.unsigned; yes = λ on k. inl (h.yes on k); no = h.no; lost = h.lost }
-
--- and a word is one where the guard and the bits leave out numbers behind all words
+-- a word is exact where the guard and the bits leave out numbers behind all words
 exact-by : (of : Layout) (i : Option ℤ) (g : Option T.Meaning) (r : T.Meaning) (sc : Scope) (v : Valuation) → IsWord of i g r sc v
     → (holds g sc v ≡ true → known (T.alone r sc v) ≡ true → BehindAll of i (num (T.alone r sc v)) → ⊥) → IsExactWord of i g r sc v
 exact-by of i g r sc v h never = record {
@@ -161,7 +157,7 @@ pub record IsNear (n : ℤ) : Type 0 where
   pub above : neg_ℤ (pos (2 ^ 63)) ≤ℤ n
   pub below : n <ℤ pos (2 ^ 63)
 
-near-fits : (n : ℤ) → IsNear n → FitsSigned 65 n
+pub near-fits : (n : ℤ) → IsNear n → FitsSigned 65 n
 near-fits n h = (let l = h.above in let u = h.below in record { above = omega (arith, ints); below = omega (arith, ints) })
 
 near-few : (left right : ℤ) → IsNear left → IsNear right → count_of left right < 2 ^ 66
@@ -200,7 +196,7 @@ count-between of b left right = by (int_le b.right b.left) ∙ sym (λ i. count_
     by false = ap (λ n. n + 1) (abs-turn b.right b.left _ _ refl refl)
 
 -- an index in more bits
-wider : (i : Option ℤ) (m : T.Meaning) (n w : ℕ) (sc : Scope) (v : Valuation) → n ≤ w → IsIndex i m n sc v → IsIndex i m w sc v
+pub wider : (i : Option ℤ) (m : T.Meaning) (n w : ℕ) (sc : Scope) (v : Valuation) → n ≤ w → IsIndex i m n sc v → IsIndex i m w sc v
 wider i m n w sc v more h = (let a = h.width in let b = h.long in record { width = omega arith; long = omega arith; there = h.there; lost = h.lost })
 
 above-width : (i : Option ℤ) (m : T.Meaning) (w : ℕ) (n : ℤ) (sc : Scope) (v : Valuation) → IsIndex i m w sc v → (above (T.signing true m) w n).width sc ≡ w
@@ -307,7 +303,7 @@ rising-out left right k (negsuc d) (pos q) last e f count up (inl far) =
     test m n many = grind (arith, nat_tests)
 rising-out left right k (negsuc d) (pos q) last e f count up (inr far) = (let abs : unsigned_abs (negsuc d) ≡ suc d = refl in absurd (omega (arith, ints)))
 
-none-beyond : (of : Layout) (k : ℤ) (last : ℕ) → count_of of.left of.right ≡ suc last → (k <ℤ lower of) ⊎ ((lower of +ℤ pos last) <ℤ k) → NoRank of (Some k)
+pub none-beyond : (of : Layout) (k : ℤ) (last : ℕ) → count_of of.left of.right ≡ suc last → (k <ℤ lower of) ⊎ ((lower of +ℤ pos last) <ℤ k) → NoRank of (Some k)
 none-beyond of k last count far = outside k (by (falls of) refl)
   where
     by : (down : Bool) → falls of ≡ down → (int_le (pos 0) (rank of k) && int_lt (rank of k) (pos (count_of of.left of.right))) ≡ false

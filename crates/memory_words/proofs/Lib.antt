@@ -1,4 +1,5 @@
 pub mod Powers
 pub mod Finding
+pub mod Unguarded
 pub mod Reading
 pub mod Naming

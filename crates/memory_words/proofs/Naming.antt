@@ -1,13 +1,12 @@
 -- What words and their readings name.
-use Rattle.std.proofs.Common.{◌≡◌, ◌⊎◌, inl, inr, ℕ, true, ℤ, List, [], ◌∷◌, ◌++◌, append-nil, Option, Some, None, refl, ap, sym, ◌∙◌, subst}
-use Rattle.row_machine.specs.Valuation.{Member}
+use Rattle.std.proofs.Common.{◌≡◌, ℕ, true, ℤ, List, [], ◌∷◌, ◌++◌, append-nil, Option, Some, None, refl, ap, sym, ◌∙◌, subst}
 use Rattle.v_tree.specs.Names.{Name}
 use Rattle.v_tree.specs.declared.expressions.VExpr.{VExpr}
 use Rattle.v_meaning.specs.Scopes.{Scope, named}
 use Rattle.v_meaning.specs.Values as T
 use Rattle.v_meaning.specs.Values.{meaning, expression_base}
 use Rattle.lowering_laws.specs.Terms as terms
-use Rattle.lowering_laws.specs.Terms.{braced, guarded}
+use Rattle.lowering_laws.specs.Terms.{braced}
 use Rattle.path_flatten.specs.declared.offsets.Index.{Index}
 use Rattle.path_flatten.specs.declared.ranks.Rank.{Rank}
 use Rattle.path_flatten.specs.declared.readings.Reading.{Reading}
@@ -19,7 +18,7 @@ use Rattle.path_flatten.specs.Naming.{SameNumbers, NamesLike, root_names}
 use Rattle.path_flatten.proofs.Naming.{same-itself, same-by, same-then, same-twice, like-braced}
 use Rattle.path_flatten.proofs.NamingSlides.{like-distance}
 use Rattle.memory_words.specs.Names.{guard_names, rank_names}
-use Rattle.memory_words.specs.Readings.{unknown, word_value, NamesRead, NamesMemory}
+use Rattle.memory_words.specs.Readings.{NamesRead, NamesMemory}
 use Rattle.memory_words.specs.Words.{NamesWord}
 
 -- an index as it is
@@ -61,59 +60,19 @@ between-rank-names x m w low high n r like guard rank sc =
     (same-by (m.names sc ++ m.names sc) ((terms.between (T.signing true m) w low high).names sc) (sym (between-named m w low high sc)))))
     (like-distance true m w n (meaning r.rank) rank sc))
 
--- numbers in lists
-member-left : (xs ys : List ℕ) (q : ℕ) → Member xs q → Member (xs ++ ys) q
-member-left [] ys q h = absurd h
-member-left (x ∷ xs) ys q (inl e) = inl e
-member-left (x ∷ xs) ys q (inr h) = inr (member-left xs ys q h)
-
-member-right : (xs ys : List ℕ) (q : ℕ) → Member ys q → Member (xs ++ ys) q
-member-right [] ys q h = h
-member-right (x ∷ xs) ys q h = inr (member-right xs ys q h)
-
-member-split : (xs ys : List ℕ) (q : ℕ) → Member (xs ++ ys) q → Member xs q ⊎ Member ys q
-member-split [] ys q h = inr h
-member-split (x ∷ xs) ys q (inl e) = inl (inl e)
-member-split (x ∷ xs) ys q (inr h) = elim (member-split xs ys q h) [ inl k ↦ inl (inr k) | inr k ↦ inr k ]
-
-turned : (c : ℕ) (g k : List ℕ) → SameNumbers (c ∷ (g ++ k)) (g ++ (c ∷ k))
-turned c g k = record { there = there; back = λ q h. back q (member-split g (c ∷ k) q h) }
-  where
-    there : (q : ℕ) → Member (c ∷ (g ++ k)) q → Member (g ++ (c ∷ k)) q
-    there q (inl e) = member-right g (c ∷ k) q (inl e)
-    there q (inr h) = elim (member-split g k q h) [ inl a ↦ member-left g (c ∷ k) q a | inr b ↦ member-right g (c ∷ k) q (inr b) ]
-
-    back : (q : ℕ) → Member g q ⊎ Member (c ∷ k) q → Member (c ∷ (g ++ k)) q
-    back q (inl a) = inr (member-left g k q a)
-    back q (inr (inl e)) = inl e
-    back q (inr (inr b)) = inr (member-right g k q b)
+-- an index by its number alone
+pub above-names : (x : Index) (m : T.Meaning) (w : ℕ) (low : ℤ) (e : VExpr) → NamesLike (meaning x.expr) m → meaning e ≡ distance_term true (T.signing true m) w low → NamesLike (meaning x.expr) (meaning e)
+above-names x m w low e like is sc = same-then ((meaning x.expr).names sc) (m.names sc) ((meaning e).names sc) (like sc) (like-distance true m w low (meaning e) is sc)
 
 -- a reading
-guarded-names : (memory : Name) (g : Option T.Meaning) (k : T.Meaning) (n : ℕ) (sc : Scope)
-    → SameNumbers ((named sc.names memory).number ∷ (guard_names g sc ++ k.names sc)) ((guarded g (T.reference memory (expression_base k None ∷ [])) (unknown n)).names sc)
-unfolding T.reference T.choose T.repetition T.literal
-guarded-names memory None k n sc = same-by _ _ (ap (λ l. (named sc.names memory).number ∷ l) (sym (append-nil (k.names sc))))
-guarded-names memory (Some g) k n sc =
-    let c = (named sc.names memory).number in
-    let ks = k.names sc in
-    let is : c ∷ ks ≡ (c ∷ (ks ++ [])) ++ [] = ap (λ l. c ∷ l) (sym (append-nil ks)) ∙ sym (append-nil (c ∷ (ks ++ []))) in
-    same-then (c ∷ (g.names sc ++ ks)) (g.names sc ++ (c ∷ ks)) _ (turned c (g.names sc) ks) (same-by _ _ (ap (λ l. g.names sc ++ l) is))
+word-names : (memory : Name) (k : T.Meaning) (sc : Scope) → (T.reference memory (expression_base k None ∷ [])).names sc ≡ (named sc.names memory).number ∷ k.names sc
+unfolding T.reference
+word-names memory k sc = ap (λ l. (named sc.names memory).number ∷ l) (append-nil (k.names sc))
 
-pub reading-names : (memory : Name) (word : Rank) (r : Reading) (x : VExpr) (n : ℕ) → r.root ≡ R.Value x
-    → meaning x ≡ word_value (guard_meaning word.guard) (T.reference memory (expression_base (meaning word.rank) None ∷ [])) n → NamesRead memory word r
-reading-names memory word r x n root value sc =
-    subst (λ (y : Root). SameNumbers ((named sc.names memory).number ∷ rank_names word sc) (root_names y sc)) (sym root)
-    (subst (λ (m : T.Meaning). SameNumbers ((named sc.names memory).number ∷ rank_names word sc) (m.names sc)) (sym value)
-    (by (guard_meaning word.guard)))
-  where
-    m : T.Meaning
-    m = T.reference memory (expression_base (meaning word.rank) None ∷ [])
-
-    by : (g : Option T.Meaning) → SameNumbers ((named sc.names memory).number ∷ (guard_names g sc ++ (meaning word.rank).names sc)) ((word_value g m n).names sc)
-    by None = guarded-names memory None (meaning word.rank) n sc
-    by (Some g) =
-        same-then ((named sc.names memory).number ∷ (g.names sc ++ (meaning word.rank).names sc)) ((guarded (Some g) m (unknown n)).names sc) ((braced (guarded (Some g) m (unknown n))).names sc)
-        (guarded-names memory (Some g) (meaning word.rank) n sc) (like-braced (guarded (Some g) m (unknown n)) sc)
+pub reading-names : (memory : Name) (word : VExpr) (r : Reading) (x : VExpr) → r.root ≡ R.Value x → meaning x ≡ T.reference memory (expression_base (meaning word) None ∷ []) → NamesRead memory word r
+reading-names memory word r x root value sc =
+    subst (λ (y : Root). SameNumbers ((named sc.names memory).number ∷ (meaning word).names sc) (root_names y sc)) (sym root)
+    (same-by ((named sc.names memory).number ∷ (meaning word).names sc) ((meaning x).names sc) (sym (ap (λ (m : T.Meaning). m.names sc) value ∙ word-names memory (meaning word) sc)))
 
 -- a word by its number
 numbered-names : (memory : Name) (k : ℕ) (sc : Scope) → (T.reference memory (T.decimal_base k None ∷ [])).names sc ≡ (named sc.names memory).number ∷ []

@@ -1,5 +1,5 @@
 -- An element is read from its word.
-use Rattle.std.proofs.Common.{◌≡◌, inl, inr, ℕ, zero, suc, ◌*◌, ◌<◌, ◌≤◌, Bool, true, false, ◌&&◌, cond, ℤ, pos, negsuc, ◌+ℤ◌, ◌*ℤ◌, length, replicate, List, [], ◌∷◌, Option, Some, None, refl, arith, ap, sym, ◌∙◌, subst}
+use Rattle.std.proofs.Common.{◌≡◌, inl, inr, ℕ, zero, suc, ◌*◌, ◌<◌, ◌≤◌, Bool, true, false, ◌&&◌, cond, ℤ, pos, negsuc, ◌+ℤ◌, ◌*ℤ◌, length, List, [], ◌∷◌, Option, Some, None, refl, arith, ap, sym, ◌∙◌, subst}
 use Rattle.std.specs.Prelude.{nat_lt, int_le, int_lt, slice_index_or}
 use Rattle.std.proofs.lemmas.Int.{ints}
 use Rattle.std.proofs.lemmas.Bool.Decides.{nat_tests}
@@ -25,29 +25,23 @@ use Rattle.eval_parts.specs.Places.{window_of}
 use Rattle.lowering_laws.specs.Images.{raw}
 use Rattle.lowering_laws.specs.Same.{HasBits}
 use Rattle.lowering_laws.specs.Steps.{IsElement}
-use Rattle.lowering_laws.specs.Terms.{guarded}
 use Rattle.lowering_laws.specs.Words.{IsMemory}
 use Rattle.lowering_laws.proofs.Extensions.{ext-at}
 use Rattle.lowering_laws.proofs.Paths.{length-raw}
 use Rattle.lowering_laws.proofs.PathSteps.{element-names-none}
-use Rattle.lowering_laws.proofs.Pieces.{literal-bits, fill-bits}
-use Rattle.lowering_laws.proofs.ReadAt.{read-raw}
 use Rattle.lowering_laws.proofs.Slides.{far}
 use Rattle.lowering_laws.proofs.Words.{word-read}
 use Rattle.lowering_laws.proofs.WriteAt.{IsTight, whole-tight}
 use Rattle.memory_laws.proofs.Ranking.{rank-below}
-use Rattle.path_flatten.specs.declared.ranks.Rank.{Rank}
 use Rattle.path_flatten.specs.declared.readings.Reading.{Reading}
 use Rattle.path_flatten.specs.declared.readings.Root.{Root}
 use Rattle.path_flatten.specs.declared.readings.Root.TheVariants as R
-use Rattle.path_flatten.specs.Guards.{guard_meaning}
 use Rattle.path_flatten.specs.Reading.{HasRoot, Sees, StaysIn, Reads}
 use Rattle.path_flatten.specs.Stepping.{IsStep}
 use Rattle.path_flatten.proofs.Sees.{stays-of}
-use Rattle.path_flatten.proofs.Stepping.{braced-has, element-stays}
-use Rattle.memory_words.specs.Readings.{unknown, word_value, ReadsWord, ReadsKnownWord}
+use Rattle.path_flatten.proofs.Stepping.{element-stays}
+use Rattle.memory_words.specs.Readings.{ReadsWord, ReadsKnownWord}
 use Rattle.memory_words.specs.Words.{NumbersWord}
-use Rattle.memory_words.proofs.Finding.{as-word}
 
 -- the bits that a path reads, by their places
 index-tabulated : (n m : ℕ) (f : ℕ → Bit4) → m < n → slice_index_or (tabulated n f) m X ≡ f m
@@ -77,9 +71,6 @@ sees-raw held path n tight (pos m) = by (nat_lt m n) refl
         apart : (j l k : ℕ) → pos j ≡ pos k → k < l → l ≤ j → ⊥
         apart j l k e less many = omega (arith, ints)
 
-unknown-has : (n : ℕ) (sc : Scope) (v : Valuation) → HasBits (unknown n) (replicate n X) sc v
-unknown-has n sc v = fill-bits n X (T.literal (X ∷ [])) sc v (literal-bits (X ∷ []) sc v)
-
 -- a reference has its bits wherever it stands
 reference-has : (memory : Name) (sels : List SelMeaning) (c : List Bit4) (sc : Scope) (v : Valuation) → (T.reference memory sels).width sc ≡ length c → T.alone (T.reference memory sels) sc v ≡ c
     → HasBits (T.reference memory sels) c sc v
@@ -92,12 +83,6 @@ reference-has memory sels c sc v width bits =
       unsigned = refl;
       value = λ w s. ap (ext w s) own;
     }
-
-value-has : (memory : Name) (k : T.Meaning) (g : Option T.Meaning) (n : ℕ) (c : List Bit4) (sc : Scope) (v : Valuation)
-    → (guarded g (T.reference memory (expression_base k None ∷ [])) (unknown n)).width sc ≡ length c → T.alone (guarded g (T.reference memory (expression_base k None ∷ [])) (unknown n)) sc v ≡ c
-    → HasBits (word_value g (T.reference memory (expression_base k None ∷ [])) n) c sc v
-value-has memory k None n c sc v width bits = reference-has memory (expression_base k None ∷ []) c sc v width bits
-value-has memory k (Some g) n c sc v width bits = braced-has (guarded (Some g) (T.reference memory (expression_base k None ∷ [])) (unknown n)) c sc v width bits
 
 -- What has the bits that the path reads, whole, reads the path.
 reads-by : (e from : S.Meaning) (t : SvType) (a : Around) (z : Option ℤ) (r : Reading) (x : VExpr) (n : ℕ) (sc : Scope) (v : Valuation) → r.root ≡ R.Value x → n ≡ length (layout t).element.two_state
@@ -118,17 +103,13 @@ reads-by e from t a z r x n sc v root size width window of step wide has =
     }
 
 -- so an expression that reads the word reads the element
-pub reads-word : (memory : Name) (t : SvType) (word : Rank) (r : Reading) (x : VExpr) (n : ℕ) → r.root ≡ R.Value x → n ≡ length (layout t).element.two_state → r.width ≡ n → window_of r.window ≡ whole n
-    → meaning x ≡ word_value (guard_meaning word.guard) (T.reference memory (expression_base (meaning word.rank) None ∷ [])) n → ReadsWord memory t word r
+pub reads-word : (memory : Name) (t : SvType) (word : VExpr) (r : Reading) (x : VExpr) (n : ℕ) → r.root ≡ R.Value x → n ≡ length (layout t).element.two_state → r.width ≡ n → window_of r.window ≡ whole n
+    → meaning x ≡ T.reference memory (expression_base (meaning word) None ∷ []) → ReadsWord memory t word r
 reads-word memory t word r x n root size width window value e from z a sc v of path step wide all holds is_word =
     let is_element : IsElement e from a z = record { window = step.window; wide = wide; all = all } in
-    let own : S.wide e ≡ n = wide ∙ ap (λ (l : Layout). length l.element.two_state) of ∙ sym size in
-    let m = T.reference memory (expression_base (meaning word.rank) None ∷ []) in
-    let read = word-read e from a z (guard_meaning word.guard) (meaning word.rank) memory sc v step.base is_element holds (as-word from.of z (guard_meaning word.guard) (meaning word.rank) sc v is_word) in
-    let bits = read-raw e a m (unknown n) sc v path (subst (λ k. HasBits (unknown n) (replicate k X) sc v) (sym own) (unknown-has n sc v)) (guard_meaning word.guard) read in
-    let has : HasBits (meaning x) (raw e a) sc v =
-    subst (λ y. HasBits y (raw e a) sc v) (sym value) (value-has memory (meaning word.rank) (guard_meaning word.guard) n (raw e a) sc v (bits.0 ∙ sym (length-raw e a)) bits.1) in
-    reads-by e from t a z r x n sc v root size width window of step wide has
+    let read = word-read e from a z None (meaning word) memory sc v step.base is_element holds is_word in
+    let has = reference-has memory (expression_base (meaning word) None ∷ []) (raw e a) sc v (read.width ∙ sym (length-raw e a)) (read.yes refl) in
+    reads-by e from t a z r x n sc v root size width window of step wide (subst (λ y. HasBits y (raw e a) sc v) (sym value) has)
 
 -- A word by its number.
 module _ (e from : S.Meaning) (a : Around) (z : Option ℤ) (k : ℕ) (memory : Name) (sc : Scope) (v : Valuation) (base : e.base a ≡ from.base a) (is_element : IsElement e from a z)

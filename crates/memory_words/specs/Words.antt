@@ -7,12 +7,13 @@ use Rattle.sv_types.specs.Layouts.{Layout, layout, count_of}
 use Rattle.sv_types.specs.Surroundings.{Around}
 use Rattle.sv_types.specs.Meanings as S
 use Rattle.sv_types.specs.Paths as P
+use Rattle.v_tree.specs.declared.expressions.VExpr.{VExpr}
 use Rattle.v_meaning.specs.Scopes.{Scope}
 use Rattle.v_meaning.specs.Values as T
 use Rattle.v_meaning.specs.Values.{meaning}
 use Rattle.eval_parts.specs.declared.layouts.Bounds.{Bounds}
 use Rattle.lowering_laws.specs.Placed.{holds, NoRank}
-use Rattle.lowering_laws.specs.Words.{lower, HasWord, BehindAll}
+use Rattle.lowering_laws.specs.Words.{lower, HasWord, BehindAll, IsWord}
 use Rattle.path_flatten.specs.declared.offsets.Index.{Index}
 use Rattle.path_flatten.specs.declared.ranks.Rank.{Rank}
 use Rattle.path_flatten.specs.Guards.{guard_meaning}
@@ -51,6 +52,15 @@ FindsWordUpTo x last r = (of : Layout) (i : S.Meaning) (a : Around) (sc : Scope)
 -- they name what the index does
 abbrev pub NamesWord : Index → Rank → Type 0
 NamesWord x r = (sc : Scope) → SameNumbers ((meaning x.expr).names sc) (rank_names r sc)
+
+-- a number without a guard is that of the word of each such index, and that of no word where no element has the index; so of what
+-- has a type, and of what has a smaller bound
+abbrev pub FindsNumber : Index → SvType → VExpr → Type 0
+FindsNumber x t e = (i : S.Meaning) (a : Around) (sc : Scope) (v : Valuation) → IsIndexOf x i a sc v → IsWord (layout t) (P.index_of i a) None (meaning e) sc v
+
+abbrev pub FindsNumberAbove : Index → ℤ → VExpr → Type 0
+FindsNumberAbove x low e = (of : Layout) (i : S.Meaning) (a : Around) (sc : Scope) (v : Valuation) → lower of ≡ low → count_of of.left of.right ≤ 4194304 → IsIndexOf x i a sc v
+    → IsWord of (P.index_of i a) None (meaning e) sc v
 
 -- whether each number of so many bits is one up to a last one
 abbrev pub AreUpTo : Bool → ℕ → ℕ → Type 0

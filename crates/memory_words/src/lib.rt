@@ -2,8 +2,10 @@
 //! has its element, and how that is read.
 #![tactic(auto)]
 
+mod numbers;
 mod readings;
 mod words;
 
+pub use numbers::word_number;
 pub use readings::{known_reading, word_reading};
 pub use words::{known_word, word_of};

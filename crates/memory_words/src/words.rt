@@ -11,10 +11,10 @@ use sv_types::SvType;
 
 /// How many bits the numbers have by which words are found: there is room for each index of 64 bits, for each bound, and for how
 /// far they lie apart.
-const NUMBER_BITS: u32 = 66;
+pub(crate) const NUMBER_BITS: u32 = 66;
 
 /// The smaller bound.
-fn lowest(bounds: &Bounds) -> i64
+pub(crate) fn lowest(bounds: &Bounds) -> i64
     ensures { result ≡ lowest bounds.now }
 {
     if bounds.right <= bounds.left {
@@ -115,8 +115,9 @@ fn word_up_to(alloc: Global, index: Index, last: u32) -> Result<Rank, AllocError
     Ok(made)
 }
 
-/// The word of the element with an index, and a guard where the index' bits alone don't say that there is one: an unsigned index of
-/// an array whose smaller bound is 0 is the word as it is, if it has no bits for numbers behind the last word. Or want of memory.
+/// The word of the element with an index that is written, and a guard where the index' bits alone don't say that there is one: an
+/// unsigned index of an array whose smaller bound is 0 is the word as it is, if it has no bits for numbers behind the last word. Or want
+/// of memory.
 pub fn word_of(alloc: Global, index: Index, of: &SvType) -> Result<Rank, AllocError>
     requires narrow { width_of of.now ≤ 4194304 }
     requires some { 1 ≤ width_of of.now }
