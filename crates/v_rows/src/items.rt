@@ -2,15 +2,17 @@
 #![tactic(auto, using(crate::proofs::KeptItems::kept))]
 
 ghost use Rattle.std.specs.Prelude.{◌≡◌, IfOk};
+ghost use Rattle.v_parts.specs.Taking.{others};
 ghost use Rattle.v_tree.specs.Meaning as means;
+ghost use Rattle.v_tree.specs.Parts.{all_of, as_input, as_local};
 ghost use Rattle.v_tree.specs.declared.items.VSignal.TheVariants.{Input, Output, Wire};
 
 use std::alloc::{AllocError, Global};
 use sv_source::Items;
 use v_parts::{all, first, kinds, split};
 use v_tree::{
-    VFunction, VInit, VInitial, VInstance, VItem, VLocal, VModule, VPart, VParts, VProcess,
-    VRegRest, VSignal,
+    VFunction, VInit, VInitial, VInstance, VItem, VLocal, VLocals, VModule, VPart, VParts,
+    VProcess, VRegRest, VSignal,
 };
 
 /// A whole text, or want of memory.
@@ -192,6 +194,16 @@ pub fn always(mut parts: VParts) -> VPart
     VPart::Item(VItem::Process(VProcess::Always { on, body }))
 }
 
+/// The inputs of a function and its variables, or want of memory.
+fn declarations(alloc: Global, parts: VParts) -> Result<(VLocals, VLocals), AllocError>
+    ensures inputs { IfOk result (λ found. found.0 ≡ all_of as_input parts) }
+    ensures locals { IfOk result (λ found. found.1 ≡ all_of as_local (others as_input parts)) }
+{
+    let (inputs, parts) = split::<kinds::Input>(alloc, parts)?;
+    let locals = all::<kinds::Local>(alloc, parts)?;
+    Ok((inputs, locals))
+}
+
 /// A function, or want of memory.
 pub fn function(alloc: Global, mut parts: VParts) -> Result<VPart, AllocError>
     ensures { IfOk result (λ part. part ≡ means.function_of parts) }
@@ -203,8 +215,7 @@ pub fn function(alloc: Global, mut parts: VParts) -> Result<VPart, AllocError>
         return Ok(VPart::Nothing);
     };
     let range = first::<kinds::Range>(&mut parts);
-    let (inputs, parts) = split::<kinds::Input>(alloc, parts)?;
-    let locals = all::<kinds::Local>(alloc, parts)?;
+    let (inputs, locals) = declarations(alloc, parts)?;
     Ok(VPart::Item(VItem::Function(VFunction {
         range,
         name,
