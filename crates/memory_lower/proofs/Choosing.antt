@@ -1,18 +1,13 @@
 -- A path stands on an element of a memory, or in a vector.
-use Rattle.std.proofs.Common.{◌≡◌, ℕ, Bool, true, false, List, [], ◌∷◌, ◌++◌, append-nil, Some, Result, Ok, Err, IfOk, refl, ap, sym, ◌∙◌, subst}
+use Rattle.std.proofs.Common.{◌≡◌, ℕ, Bool, true, false, List, [], ◌∷◌, ◌++◌, append-nil, inl, inr, Some, Result, Ok, Err, IfOk, refl, ap, sym, ◌∙◌, subst}
 use Rattle.std.specs.declared.alloc.AllocError.{AllocError}
 use Rattle.sv_types.specs.declared.expression.Expr.{Expr}
 use Rattle.sv_types.specs.declared.expression.Form.TheVariants as V
 use Rattle.sv_types.specs.declared.statement.Function.{Function}
 use Rattle.sv_types.specs.declared.types.SvType.{SvType}
 use Rattle.sv_types.specs.Layouts.{Layout, layout}
-use Rattle.sv_types.specs.Meanings as S
-use Rattle.sv_types.specs.Expressions.{meaning}
 use Rattle.v_tree.specs.declared.names.Helper.{Helper}
 use Rattle.v_tree.specs.declared.names.NameMap.{NameMap}
-use Rattle.v_meaning.specs.Scopes.{Scope}
-use Rattle.lowering_laws.specs.Agreeing.{Images}
-use Rattle.sv_types.specs.Surroundings.{Around}
 use Rattle.target_flatten.specs.Owning.{AllWrite}
 use Rattle.target_flatten.specs.Writing.{pieces}
 use Rattle.target_walk.specs.declared.never.Targets.{Targets}
@@ -20,10 +15,13 @@ use Rattle.typed_paths.specs.Typed.{Indexing, IsTypedPath, IsTyped, of_signal, o
 use Rattle.expr_lower.specs.Leaves.{Leaf, Signals, Elements, Inside, Locals, onto, indexed, leaves}
 use Rattle.expr_lower.specs.Named.{is_memory}
 use Rattle.expr_lower.proofs.AskedLeaves.{leaves-Signal, leaves-Local, leaves-Member, leaves-Index, leaves-Part, leaves-Slide}
-use Rattle.target_lower.specs.Targets.{StandsAsTarget, StandsOnVector, LowersTarget}
+use Rattle.target_lower.specs.declared.within.Within.{Within}
+use Rattle.target_lower.specs.Targets.{StandsOnVector, LowersTarget, HasShape}
 use Rattle.element_paths.specs.Elements.{GoesOn, at_element, by_member, by_index, by_part, by_slide}
-use Rattle.memory_lower.specs.Lowered.{StandsInMemory, LowersInMemory}
-use Rattle.memory_lower.specs.Written.{StandsWritten, LowersWritten}
+use Rattle.element_paths.specs.declared.elements.Element.{Element}
+use Rattle.memory_lower.specs.Lowered.{LowersInMemory}
+use Rattle.memory_lower.specs.Shapes.{HasWordShape, HasWrittenShape}
+use Rattle.memory_lower.specs.Written.{IsInMemory, LowersWritten}
 
 -- The first leaf of a path: a whole signal, an element of one from which the path goes on, something else of one, or a local.
 data First (e : Expr) : Type 0 where
@@ -95,28 +93,38 @@ pub vector-with : (names : NameMap) (n : ℕ) (t : SvType) (i e : Expr) → Goes
 vector-with names n t i e goes no_memory = subst (StandsOnVector names) (sym (element-first n t i e goes).is) no_memory
 
 -- what is written in a vector
-vector-written : (names : NameMap) (fs : List Function) (hs : List Helper) (e : Expr) (x : Targets) → StandsOnVector names (leaves e) → LowersTarget names fs hs e x → LowersWritten names fs hs e x
-vector-written names fs hs e x vector h im a sc distinct all helps =
-    let s = h im a sc distinct vector all helps in record { changes = s.changes; names = s.names; own = s.own }
+vector-written : (within : Within) (names : NameMap) (fs : List Function) (hs : List Helper) (e : Expr) (x : Targets) → StandsOnVector names (leaves e) → LowersTarget within names fs hs e x → LowersWritten within names fs hs e x
+vector-written within names fs hs e x vector h im a sc calls distinct all helps =
+    let s = h im a sc calls distinct vector all helps in record { changes = s.changes; names = s.names; own = s.own }
 
-pub vector-all : (names : NameMap) (fs : List Function) (hs : List Helper) (e : Expr) (r : Result Targets AllocError) → StandsOnVector names (leaves e) → IfOk r (LowersTarget names fs hs e) → IfOk r (LowersWritten names fs hs e)
-vector-all names fs hs e (Ok x) vector h = vector-written names fs hs e x vector h
-vector-all names fs hs e (Err x) vector h = tt
+pub vector-all : (within : Within) (names : NameMap) (fs : List Function) (hs : List Helper) (e : Expr) (r : Result Targets AllocError) → StandsOnVector names (leaves e) → IfOk r (LowersTarget within names fs hs e) → IfOk r (LowersWritten within names fs hs e)
+vector-all within names fs hs e (Ok x) vector h = vector-written within names fs hs e x vector h
+vector-all within names fs hs e (Err x) vector h = tt
 
 -- and in a memory
 some-same : (x y : ℕ) → Some x ≡ Some y → x ≡ y
 some-same x y e = cc
 
-memory-written : (names : NameMap) (fs : List Function) (hs : List Helper) (n : ℕ) (t : SvType) (e : Expr) (x : Targets) → is_memory names.signals n ≡ true → LowersInMemory names fs hs n t e x → LowersWritten names fs hs e x
-memory-written names fs hs n t e x memory h im a sc distinct all helps =
-    let s = h im a sc distinct memory all helps in
+memory-written : (within : Within) (names : NameMap) (fs : List Function) (hs : List Helper) (n : ℕ) (t : SvType) (e : Expr) (x : Targets) → is_memory names.signals n ≡ true → LowersInMemory within names fs hs n t e x → LowersWritten within names fs hs e x
+memory-written within names fs hs n t e x memory h im a sc calls distinct all helps =
+    let s = h im a sc calls distinct memory all helps in
     record {
       changes = s.changes;
       names = s.names;
       own = λ r root. subst (λ k. AllWrite (im.number k) (pieces x.writes) sc) (some-same n r (sym s.root ∙ root)) s.own;
     }
 
-pub memory-all : (names : NameMap) (fs : List Function) (hs : List Helper) (n : ℕ) (t : SvType) (e : Expr) (r : Result Targets AllocError) → is_memory names.signals n ≡ true → IfOk r (LowersInMemory names fs hs n t e)
-    → IfOk r (LowersWritten names fs hs e)
-memory-all names fs hs n t e (Ok x) memory h = memory-written names fs hs n t e x memory h
-memory-all names fs hs n t e (Err x) memory h = tt
+pub memory-all : (within : Within) (names : NameMap) (fs : List Function) (hs : List Helper) (n : ℕ) (t : SvType) (e : Expr) (r : Result Targets AllocError) → is_memory names.signals n ≡ true → IfOk r (LowersInMemory within names fs hs n t e)
+    → IfOk r (LowersWritten within names fs hs e)
+memory-all within names fs hs n t e (Ok x) memory h = memory-written within names fs hs n t e x memory h
+memory-all within names fs hs n t e (Err x) memory h = tt
+
+-- the form of either
+pub vector-shape : (within : Within) (names : NameMap) (fs : List Function) (hs : List Helper) (e : Expr) (r : Result Targets AllocError) → IfOk r (HasShape within names fs hs e) → IfOk r (HasWrittenShape within names fs hs e)
+vector-shape within names fs hs e (Ok x) h = inl h
+vector-shape within names fs hs e (Err x) h = tt
+
+pub memory-shape : (within : Within) (names : NameMap) (fs : List Function) (hs : List Helper) (e : Expr) (x : Element) (r : Result Targets AllocError) → IsInMemory names e x → IfOk r (HasWordShape names x.signal x.of.now)
+    → IfOk r (HasWrittenShape within names fs hs e)
+memory-shape within names fs hs e x (Ok made) is h = inr (record { signal = x.signal; of = x.of.now; index = x.index.now; goes = is.goes; memory = is.memory; shape = h })
+memory-shape within names fs hs e x (Err y) is h = tt

@@ -44,7 +44,8 @@ use Rattle.expr_lower.specs.Leaves.{Elements, leaves, Each}
 use Rattle.expr_lower.specs.Lowering.{LeafStands, ShowsElements, IsShownInWords}
 use Rattle.expr_lower.specs.Named.{signal_name, is_memory}
 use Rattle.expr_lower.specs.Paths.{Indexes}
-use Rattle.target_lower.specs.Made.{StandsForIndex, AreMade}
+use Rattle.target_lower.specs.declared.within.Within.{Within}
+use Rattle.target_lower.specs.Made.{CallsFrom, StandsForIndex, AreMade}
 use Rattle.target_lower.proofs.Making.{made-stand, made-named}
 use Rattle.target_lower.proofs.Following.{indices-named}
 use Rattle.memory_laws.specs.InWords.{Inner, IsMemoryOf, word_alone, word_pieces, SelectsWord, IsWrittenInWords}
@@ -70,7 +71,7 @@ words-write name g s [] sc = tt
 words-write name g s (x ∷ xs) sc = (word-writes name s x.sels sc, words-write name g s xs sc)
 
 -- the word of an index is selected
-module _ (names : NameMap) (fs : List Function) (hs : List Helper) (im : Images) (a : Around) (sc : Scope) (helps : EachHelps hs sc) (t : SvType) (i : Expr) (typed : (meaning i).misfits ≡ 0)
+module _ (within : Within) (names : NameMap) (fs : List Function) (hs : List Helper) (im : Images) (a : Around) (sc : Scope) (calls : CallsFrom within fs a.callee) (helps : EachHelps hs sc) (t : SvType) (i : Expr) (typed : (meaning i).misfits ≡ 0)
     (all : Each (LeafStands names fs im a sc) (leaves i)) (now v : Valuation) (agree : Agree im now v) where
   index-of : (x : Index) → Indexes names fs hs i x → IsIndexOf x (meaning i) (record a { now = now }) sc v
   index-of x h = record {
@@ -81,8 +82,8 @@ module _ (names : NameMap) (fs : List Function) (hs : List Helper) (im : Images)
     same = (h.lowers im a sc all helps).stands now v agree;
   }
 
-  word-selected : (w : Word) → IsWordFor names fs hs t i w → SelectsWord (layout t) (P.index_of (meaning i) (record a { now = now })) (word_guard w) (word_sel w) sc v
-  word-selected (W.Known x) h = known-selects (layout t) _ x sc v (subst (λ z. NumbersWord (layout t) z x) (sym (h.1.number (record a { now = now }))) h.2)
+  word-selected : (w : Word) → IsWordFor within names fs hs t i w → SelectsWord (layout t) (P.index_of (meaning i) (record a { now = now })) (word_guard w) (word_sel w) sc v
+  word-selected (W.Known x) h = known-selects (layout t) _ x sc v (subst (λ z. NumbersWord (layout t) z x) (sym (h.1.number (record a { now = now }) calls)) h.2)
   word-selected (W.Lowered r) h = exact-selects (layout t) _ _ _ sc v (h.2 (meaning i) (record a { now = now }) sc v (index-of h.0 h.1))
 
 -- a valuation that always agrees
@@ -93,9 +94,9 @@ zero-stored : (b : Bool) → stored_bit b Zero ≡ Zero
 zero-stored true = refl
 zero-stored false = refl
 
-module _ (names : NameMap) (fs : List Function) (hs : List Helper) (n : ℕ) (t : SvType) (i e : Expr) (made : Targets) (h : IsInWord names fs hs n t i e made) (xs : List Indexing) (part : Bool)
+module _ (within : Within) (names : NameMap) (fs : List Function) (hs : List Helper) (n : ℕ) (t : SvType) (i e : Expr) (made : Targets) (h : IsInWord within names fs hs n t i e made) (xs : List Indexing) (part : Bool)
     (path : IsTypedPath n t e xs part) (typed : (meaning e).misfits ≡ 0)
-    (im : Images) (a : Around) (sc : Scope) (distinct : AreDistinct im) (memory : is_memory names.signals n ≡ true) (all : Each (LeafStands names fs im a sc) (leaves e)) (helps : EachHelps hs sc) where
+    (im : Images) (a : Around) (sc : Scope) (calls : CallsFrom within fs a.callee) (distinct : AreDistinct im) (memory : is_memory names.signals n ≡ true) (all : Each (LeafStands names fs im a sc) (leaves e)) (helps : EachHelps hs sc) where
   abbrev w : ℕ
   w = length (layout t).element.two_state
 
@@ -120,8 +121,8 @@ module _ (names : NameMap) (fs : List Function) (hs : List Helper) (n : ℕ) (t 
   fits : (meaning h.inner).misfits ≡ 0
   fits = inner-typed n t i e h.inner h.is_inner typed
 
-  are-made : AreMade names fs hs inner.indices h.indices
-  are-made = subst (AreMade names fs hs inner.indices) (sym h.puts.is) (h.puts.made (local_number 0) inner.of inner.indices part inner.path)
+  are-made : AreMade within names fs hs inner.indices h.indices
+  are-made = subst (AreMade within names fs hs inner.indices) (sym h.puts.is) (h.puts.made (local_number 0) inner.of inner.indices part inner.path)
 
   set : (now v : Valuation) → Agree im now v → IsSet w h.inner h.indices (word_alone w) (record a { now = now }) sc v
   set now v agree = record {
@@ -133,8 +134,8 @@ module _ (names : NameMap) (fs : List Function) (hs : List Helper) (n : ℕ) (t 
     typed = fits;
     width = in_element.wide (local_number 0) inner.of inner.indices part inner.path;
     vector = record { vector = refl; width = refl };
-    stand = made-stand names fs hs im a sc helps (local_number 0) inner.of h.inner inner.indices part h.indices inner.path fits
-        (kept.inner stand.1 (local_number 0) inner.of inner.indices part inner.path) are-made now v agree;
+    stand = made-stand within names fs hs im a sc helps (local_number 0) inner.of h.inner inner.indices part h.indices inner.path fits
+        (kept.inner stand.1 (local_number 0) inner.of inner.indices part inner.path) are-made calls now v agree;
   }
 
   spread : (now v : Valuation) → Agree im now v → Spread h.inner h.indices h.alone (word_alone w) (record a { now = now }) sc v
@@ -144,16 +145,16 @@ module _ (names : NameMap) (fs : List Function) (hs : List Helper) (n : ℕ) (t 
   written now v agree = (spread now v agree).path
 
   selected : (now v : Valuation) → Agree im now v → SelectsWord (layout t) (P.index_of (meaning i) (record a { now = now })) (word_guard h.word) (word_sel h.word) sc v
-  selected now v agree = word-selected names fs hs im a sc helps t i in_element.typed (kept.index stand.1) now v agree h.word h.is_word
+  selected now v agree = word-selected within names fs hs im a sc calls helps t i in_element.typed (kept.index stand.1) now v agree h.word h.is_word
 
   -- all indices of the path, by those of the path in the element and what names the word
   indices-images : AreImages im.number (meaning e).index_names (word_names h.word sc ++ all_names (givens_for h.indices) sc)
   indices-images =
       subst (λ l. AreImages im.number l (word_names h.word sc ++ all_names (givens_for h.indices) sc)) (sym (outer-names n t i e h.inner h.is_inner))
       (both-images im.number (meaning i).names (meaning h.inner).index_names (word_names h.word sc) (all_names (givens_for h.indices) sc)
-      (word-named names fs hs im a sc helps t i (kept.index stand.1) h.word h.is_word)
+      (word-named within names fs hs im a sc helps t i (kept.index stand.1) h.word h.is_word)
       (indices-named im.number sc (local_number 0) inner.of h.inner inner.indices part h.indices inner.path
-      (made-named names fs hs im a sc helps (local_number 0) inner.of h.inner inner.indices part h.indices inner.path fits
+      (made-named within names fs hs im a sc helps (local_number 0) inner.of h.inner inner.indices part h.indices inner.path fits
       (kept.inner stand.1 (local_number 0) inner.of inner.indices part inner.path) are-made)))
 
   zeros-agree : Agree im zeros zeros
@@ -185,22 +186,23 @@ module _ (names : NameMap) (fs : List Function) (hs : List Helper) (n : ℕ) (t 
         (words-write name (word_guard h.word) (word_sel h.word) (inners h.alone.writes) sc));
   }
 
-lowers-in-memory : (names : NameMap) (fs : List Function) (hs : List Helper) (n : ℕ) (t : SvType) (i e : Expr) (made : Targets) → IsInWord names fs hs n t i e made → (xs : List Indexing) (part : Bool)
-    → IsTypedPath n t e xs part → (meaning e).misfits ≡ 0 → LowersInMemory names fs hs n t e made
-lowers-in-memory names fs hs n t i e made h xs part path typed im a sc distinct memory all helps = stands-in-memory names fs hs n t i e made h xs part path typed im a sc distinct memory all helps
+lowers-in-memory : (within : Within) (names : NameMap) (fs : List Function) (hs : List Helper) (n : ℕ) (t : SvType) (i e : Expr) (made : Targets) → IsInWord within names fs hs n t i e made → (xs : List Indexing) (part : Bool)
+    → IsTypedPath n t e xs part → (meaning e).misfits ≡ 0 → LowersInMemory within names fs hs n t e made
+lowers-in-memory within names fs hs n t i e made h xs part path typed im a sc calls distinct memory all helps =
+    stands-in-memory within names fs hs n t i e made h xs part path typed im a sc calls distinct memory all helps
 
 -- where it is typed
-pub lowers-memory : (names : NameMap) (fs : List Function) (hs : List Helper) (n : ℕ) (t : SvType) (i e : Expr) (made : Targets) → IsInWord names fs hs n t i e made → IsTyped e → (meaning e).misfits ≡ 0
-    → LowersInMemory names fs hs n t e made
-lowers-memory names fs hs n t i e made h typed fits =
+pub lowers-memory : (within : Within) (names : NameMap) (fs : List Function) (hs : List Helper) (n : ℕ) (t : SvType) (i e : Expr) (made : Targets) → IsInWord within names fs hs n t i e made → IsTyped e → (meaning e).misfits ≡ 0
+    → LowersInMemory within names fs hs n t e made
+lowers-memory within names fs hs n t i e made h typed fits =
     let on = stands-on-signal n t i e h.inner h.is_inner typed.number typed.of typed.indices typed.part typed.path in
     let path : IsTypedPath n t e typed.indices typed.part =
     subst (λ k. IsTypedPath k t e typed.indices typed.part) (sym on.number) (subst (λ u. IsTypedPath typed.number u e typed.indices typed.part) (sym on.type) typed.path) in
-    lowers-in-memory names fs hs n t i e made h typed.indices typed.part path fits
+    lowers-in-memory within names fs hs n t i e made h typed.indices typed.part path fits
 
 -- the word of an index as it is given
-pub word-for : (names : NameMap) (fs : List Function) (hs : List Helper) (t : SvType) (i : Expr) (g : Given) (w : Word) → StandsForIndex names fs hs i g → WordOf t g w → IsWordFor names fs hs t i w
-word-for names fs hs t i (G.Known k) (W.Known x) h is = (k, h, is)
-word-for names fs hs t i (G.Known k) (W.Lowered r) h is = absurd is
-word-for names fs hs t i (G.Lowered x d) (W.Known y) h is = absurd is
-word-for names fs hs t i (G.Lowered x d) (W.Lowered r) h is = (x, h.0, is.0, is.1)
+pub word-for : (within : Within) (names : NameMap) (fs : List Function) (hs : List Helper) (t : SvType) (i : Expr) (g : Given) (w : Word) → StandsForIndex within names fs hs i g → WordOf t g w → IsWordFor within names fs hs t i w
+word-for within names fs hs t i (G.Known k) (W.Known x) h is = (k, h, is)
+word-for within names fs hs t i (G.Known k) (W.Lowered r) h is = absurd is
+word-for within names fs hs t i (G.Lowered x d) (W.Known y) h is = absurd is
+word-for within names fs hs t i (G.Lowered x d) (W.Lowered r) h is = (x, h.0, is.0, is.1)

@@ -26,6 +26,7 @@ use Rattle.target_flatten.specs.Writing.{pieces}
 use Rattle.target_walk.specs.Naming.{all_piece_names, apart_names}
 use Rattle.expr_lower.specs.Leaves.{leaves, Each}
 use Rattle.expr_lower.specs.Lowering.{LeafStands}
+use Rattle.target_lower.specs.declared.within.Within.{Within}
 use Rattle.memory_words.specs.Names as M
 use Rattle.memory_targets.specs.declared.words.Word.{Word}
 use Rattle.memory_targets.specs.declared.words.Word.TheVariants as W
@@ -46,10 +47,10 @@ pieces-same (p ∷ ps) sc = ap (λ l. F.piece_names p sc ++ l) (pieces-same ps s
 no-images : (image : ℕ → ℕ) → AreImages image [] []
 no-images image = record { all = λ n k. absurd k; only = λ q k. absurd k }
 
-module _ (names : NameMap) (fs : List Function) (hs : List Helper) (im : Images) (a : Around) (sc : Scope) (helps : EachHelps hs sc) (t : SvType) (i : Expr)
+module _ (within : Within) (names : NameMap) (fs : List Function) (hs : List Helper) (im : Images) (a : Around) (sc : Scope) (helps : EachHelps hs sc) (t : SvType) (i : Expr)
     (all : Each (LeafStands names fs im a sc) (leaves i)) where
   -- the word names what the element's index does
-  pub word-named : (w : Word) → IsWordFor names fs hs t i w → AreImages im.number (meaning i).names (word_names w sc)
+  pub word-named : (w : Word) → IsWordFor within names fs hs t i w → AreImages im.number (meaning i).names (word_names w sc)
   word-named (W.Known x) h = subst (λ l. AreImages im.number l []) (sym h.1.none) (no-images im.number)
   word-named (W.Lowered r) h =
       images-like im.number (meaning i).names ((T.meaning h.0.expr).names sc) (word_names (W.Lowered r) sc) (h.1.lowers im a sc all helps).names

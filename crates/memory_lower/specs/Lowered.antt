@@ -19,7 +19,6 @@ use Rattle.lowering_laws.proofs.Changes.{HasPieces}
 use Rattle.path_flatten.specs.declared.offsets.Index.{Index}
 use Rattle.path_flatten.specs.Helping.{EachHelps}
 use Rattle.path_flatten.specs.Naming.{SameNumbers}
-use Rattle.path_steps.specs.Known.{IsKnown}
 use Rattle.target_flatten.specs.declared.writes.Write.{Write}
 use Rattle.target_flatten.specs.Owning.{AllOwn, AllWrite}
 use Rattle.target_flatten.specs.Writing.{pieces}
@@ -31,7 +30,8 @@ use Rattle.expr_lower.specs.Leaves.{leaves, Each}
 use Rattle.expr_lower.specs.Lowering.{LeafStands}
 use Rattle.expr_lower.specs.Named.{signal_name, is_memory}
 use Rattle.expr_lower.specs.Paths.{Indexes}
-use Rattle.target_lower.specs.Made.{PutsIndices}
+use Rattle.target_lower.specs.declared.within.Within.{Within}
+use Rattle.target_lower.specs.Made.{CallsFrom, IsKnownFrom, PutsIndices}
 use Rattle.memory_laws.specs.InWords.{IsWrittenInWords}
 use Rattle.memory_words.specs.Words.{FindsWord, NamesWord, NumbersWord}
 use Rattle.memory_paths.specs.Inner.{IsInner}
@@ -52,14 +52,14 @@ pub record StandsInMemory (im : Images) (a : Around) (sc : Scope) (n : ℕ) (of 
 
 -- so they do wherever the signal is a memory, the text has what the path's leaves need and these helpers, and no two things have one
 -- image
-abbrev pub LowersInMemory : NameMap → List Function → List Helper → ℕ → SvType → Expr → Targets → Type 0
-LowersInMemory names fs hs n t e x = (im : Images) (a : Around) (sc : Scope) → AreDistinct im → is_memory names.signals n ≡ true → Each (LeafStands names fs im a sc) (leaves e) → EachHelps hs sc
+abbrev pub LowersInMemory : Within → NameMap → List Function → List Helper → ℕ → SvType → Expr → Targets → Type 0
+LowersInMemory within names fs hs n t e x = (im : Images) (a : Around) (sc : Scope) → CallsFrom within fs a.callee → AreDistinct im → is_memory names.signals n ≡ true → Each (LeafStands names fs im a sc) (leaves e) → EachHelps hs sc
     → StandsInMemory im a sc n (layout t) (meaning e) x
 
 -- the word of an element's index: by the number that it is known to have, or by the index that is lowered alone
-abbrev pub IsWordFor : NameMap → List Function → List Helper → SvType → Expr → Word → Type 0
-IsWordFor names fs hs t i (W.Known x) = (k : Option ℤ) × IsKnown i k × NumbersWord (layout t) k x
-IsWordFor names fs hs t i (W.Lowered r) = (x : Index) × Indexes names fs hs i x × FindsWord x t r × NamesWord x r
+abbrev pub IsWordFor : Within → NameMap → List Function → List Helper → SvType → Expr → Word → Type 0
+IsWordFor within names fs hs t i (W.Known x) = (k : Option ℤ) × IsKnownFrom within fs i k × NumbersWord (layout t) k x
+IsWordFor within names fs hs t i (W.Lowered r) = (x : Index) × Indexes names fs hs i x × FindsWord x t r × NamesWord x r
 
 -- Where no target is made, an expression apart names what the word does and what one before names; else that one is kept.
 abbrev pub NamedInWord : Word → List Write → Option VExpr → Option VExpr → Type 0
@@ -67,13 +67,13 @@ NamedInWord w [] old new = (sc : Scope) → SameNumbers (word_names w sc ++ apar
 NamedInWord w (x ∷ xs) old new = new ≡ old
 
 -- targets for the path in the element alone, in a vector of its bits that has the signal's name, and those in the word
-pub record IsInWord (names : NameMap) (fs : List Function) (hs : List Helper) (n : ℕ) (t : SvType) (i e : Expr) (made : Targets) : Type 0 where
+pub record IsInWord (within : Within) (names : NameMap) (fs : List Function) (hs : List Helper) (n : ℕ) (t : SvType) (i e : Expr) (made : Targets) : Type 0 where
   pub inner : Expr
   pub is_inner : IsInner n t i e inner
   pub word : Word
-  pub is_word : IsWordFor names fs hs t i word
+  pub is_word : IsWordFor within names fs hs t i word
   pub indices : List PathIndex
-  pub puts : PutsIndices names fs hs inner [] indices
+  pub puts : PutsIndices within names fs hs inner [] indices
   pub alone : Targets
   pub spreads : SpreadsTo (length (layout t).element.two_state) inner indices alone
   pub own : AllOwn (signal_name names.signals n) (length (layout t).element.two_state) alone.writes

@@ -19,10 +19,12 @@ use Rattle.eval_parts.specs.Limits.{FitsAlone}
 use Rattle.expr_lower.specs.Leaves.{leaves, Each, IsLowered}
 use Rattle.expr_lower.specs.Named.{signal_name}
 use Rattle.typed_paths.specs.Typed.{IsTyped}
+use Rattle.target_lower.specs.declared.within.Within.{Within}
 use Rattle.target_lower.specs.Made.{PutsIndices}
 use Rattle.memory_words.specs.Words.{FindsWord, NamesWord, NumbersWord}
 use Rattle.memory_targets.specs.declared.words.Word.{Word}
 use Rattle.memory_targets.specs.declared.words.Word.TheVariants as W
+use Rattle.memory_targets.specs.Owning.{OwnInWord}
 use Rattle.memory_targets.specs.Pieces.{AllInWord}
 use Rattle.memory_lower.specs.Lowered.{IsWordFor, NamedInWord}
 
@@ -52,6 +54,7 @@ pub record IsAloneFor (names : NameMap) (n : ℕ) (t : SvType) (inner : Expr) (p
 -- the same in a word, and what is named apart there
 pub record IsPutInWord (word : Word) (alone made : Targets) : Type 0 where
   pub all : AllInWord word alone.writes made.writes
+  pub own : OwnInWord word alone.writes made.writes
   pub apart : NamedInWord word alone.writes alone.named made.named
 
 pub record IsInWordFor (names : NameMap) (n : ℕ) (t : SvType) (inner : Expr) (word : Word) (ps : List PathIndex) (made : Targets) : Type 0 where
@@ -60,13 +63,13 @@ pub record IsInWordFor (names : NameMap) (n : ℕ) (t : SvType) (inner : Expr) (
   pub puts : IsPutInWord word alone made
 
 -- with the indices that are put together for the path
-pub record WordTargets (names : NameMap) (fs : List Function) (hs : List Helper) (n : ℕ) (t : SvType) (inner : Expr) (word : Word) (made : Targets) : Type 0 where
+pub record WordTargets (within : Within) (names : NameMap) (fs : List Function) (hs : List Helper) (n : ℕ) (t : SvType) (inner : Expr) (word : Word) (made : Targets) : Type 0 where
   pub indices : List PathIndex
-  pub puts : PutsIndices names fs hs inner [] indices
+  pub puts : PutsIndices within names fs hs inner [] indices
   pub in_word : IsInWordFor names n t inner word indices made
 
 -- in the word of an element's index
-pub record ElementTargets (names : NameMap) (fs : List Function) (hs : List Helper) (n : ℕ) (t : SvType) (i inner : Expr) (made : Targets) : Type 0 where
+pub record ElementTargets (within : Within) (names : NameMap) (fs : List Function) (hs : List Helper) (n : ℕ) (t : SvType) (i inner : Expr) (made : Targets) : Type 0 where
   pub word : Word
-  pub is_word : IsWordFor names fs hs t i word
-  pub targets : WordTargets names fs hs n t inner word made
+  pub is_word : IsWordFor within names fs hs t i word
+  pub targets : WordTargets within names fs hs n t inner word made

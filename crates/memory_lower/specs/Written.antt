@@ -21,6 +21,8 @@ use Rattle.target_walk.specs.Naming.{target_names}
 use Rattle.expr_lower.specs.Leaves.{leaves, Each}
 use Rattle.expr_lower.specs.Lowering.{LeafStands}
 use Rattle.expr_lower.specs.Named.{is_memory}
+use Rattle.target_lower.specs.declared.within.Within.{Within}
+use Rattle.target_lower.specs.Made.{CallsFrom}
 use Rattle.target_lower.specs.Targets.{StandsOnVector}
 use Rattle.element_paths.specs.Elements.{GoesOn}
 use Rattle.element_paths.specs.declared.elements.Element.{Element}
@@ -43,5 +45,5 @@ pub record StandsWritten (im : Images) (a : Around) (sc : Scope) (e : S.Meaning)
   pub own : (r : ℕ) → e.root ≡ Some r → AllWrite (im.number r) (pieces x.writes) sc
 
 -- so they do wherever the text has what the path's leaves need and these helpers, and no two things have one image
-abbrev pub LowersWritten : NameMap → List Function → List Helper → Expr → Targets → Type 0
-LowersWritten names fs hs e x = (im : Images) (a : Around) (sc : Scope) → AreDistinct im → Each (LeafStands names fs im a sc) (leaves e) → EachHelps hs sc → StandsWritten im a sc (meaning e) x
+abbrev pub LowersWritten : Within → NameMap → List Function → List Helper → Expr → Targets → Type 0
+LowersWritten within names fs hs e x = (im : Images) (a : Around) (sc : Scope) → CallsFrom within fs a.callee → AreDistinct im → Each (LeafStands names fs im a sc) (leaves e) → EachHelps hs sc → StandsWritten im a sc (meaning e) x

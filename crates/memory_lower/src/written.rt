@@ -3,11 +3,13 @@
 ghost use Rattle.std.specs.Prelude.{◌≡◌, IfOk, OnOk};
 ghost use Rattle.sv_types.specs.Expressions.{meaning};
 ghost use Rattle.eval_parts.specs.Limits.{FitsAlone};
-ghost use Rattle.eval_forms.specs.Callees.{formals_in, AllFunctionsFit};
+ghost use Rattle.eval_forms.specs.Callees.{formals_in};
+ghost use Rattle.eval_runs.specs.Functions.{AllCanRun};
 ghost use Rattle.path_flatten.specs.Helping.{Grows};
 ghost use Rattle.expr_lower.specs.Leaves.{leaves, Each, IsLowered};
 ghost use Rattle.expr_lower.specs.Named.{is_memory};
 ghost use Rattle.typed_paths.specs.Typed.{IsTyped};
+ghost use Rattle.memory_lower.specs.Shapes.{HasWrittenShape};
 ghost use Rattle.memory_lower.specs.Written.{FindsInMemory, LowersWritten};
 
 use crate::targets::lower_in_memory;
@@ -15,7 +17,7 @@ use element_paths::{Element, element_under};
 use path_flatten::Helpers;
 use std::alloc::{AllocError, Global};
 use sv_types::{Expr, Function};
-use target_lower::lower_target;
+use target_lower::{Within, lower_target};
 use target_walk::Targets;
 use v_tree::{NameMap, SignalName};
 
@@ -55,18 +57,20 @@ pub fn lower_written(
     alloc: Global,
     names: &NameMap,
     functions: &[Function],
+    within: Within,
     e: &Expr,
     helpers: &mut Helpers,
 ) -> Result<Targets, AllocError>
-    requires functions { AllFunctionsFit functions.now }
+    requires functions { AllCanRun functions.now }
     requires built { Each IsLowered (leaves e.now) }
     requires fits { FitsAlone (meaning e.now) (formals_in functions.now) }
     requires typed { IsTyped e.now }
     ensures grows { OnOk result (Grows helpers.old helpers.new) }
-    ensures lowers { IfOk result (LowersWritten names.now functions.now helpers.new e.now) }
+    ensures lowers { IfOk result (LowersWritten within names.now functions.now helpers.new e.now) }
+    ensures shape { IfOk result (HasWrittenShape within names.now functions.now helpers.new e.now) }
 {
     match element_in_memory(names, e) {
-        None => lower_target(alloc, names, functions, e, helpers),
-        Some(element) => lower_in_memory(alloc, names, functions, element, e, helpers),
+        None => lower_target(alloc, names, functions, within, e, helpers),
+        Some(element) => lower_in_memory(alloc, names, functions, within, element, e, helpers),
     }
 }

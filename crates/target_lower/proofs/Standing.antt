@@ -1,10 +1,10 @@
 -- Targets in the image of what a path stands on stand for the path.
-use Rattle.std.proofs.Common.{◌≡◌, ℕ, ◌≤◌, Bool, true, false, List, [], ◌∷◌, Some, refl, arith, ap, sym, ◌∙◌, subst}
+use Rattle.std.proofs.Common.{◌≡◌, ℕ, Bool, true, false, List, [], ◌∷◌, Some, refl, arith, ap, sym, ◌∙◌, subst}
 use Rattle.b4_core.specs.declared.bit.Bit4.TheVariants.{Zero}
 use Rattle.row_machine.specs.Valuation.{Valuation}
 use Rattle.sv_types.specs.declared.expression.Expr.{Expr}
 use Rattle.sv_types.specs.declared.statement.Function.{Function}
-use Rattle.sv_types.specs.Layouts.{layout, width_of, stored_bit}
+use Rattle.sv_types.specs.Layouts.{layout, stored_bit}
 use Rattle.sv_types.specs.Surroundings.{Around}
 use Rattle.sv_types.specs.Meanings as S
 use Rattle.sv_types.specs.Expressions.{meaning}
@@ -31,13 +31,15 @@ use Rattle.case_targets.specs.declared.indices.PathIndex.{PathIndex}
 use Rattle.case_targets.specs.Naming.{givens_for, Spread}
 use Rattle.case_targets.specs.Spreading.{IsSet}
 use Rattle.case_targets.proofs.Changing.{typed-changes}
-use Rattle.expr_lower.specs.Leaves.{Leaf, leaves, Each}
+use Rattle.expr_lower.specs.Leaves.{leaves, Each}
 use Rattle.expr_lower.specs.Lowering.{IsShown, LeafStands}
-use Rattle.target_lower.specs.Made.{AreMade, PutsIndices}
+use Rattle.target_lower.specs.declared.within.Within.{Within}
+use Rattle.target_lower.specs.declared.within.Within.TheVariants.{Process, Routine}
+use Rattle.target_lower.specs.Made.{CallsFrom, AreMade, PutsIndices}
 use Rattle.target_lower.specs.Roots.{index_leaves, StandsOn, IsInImage, name_under}
-use Rattle.target_lower.specs.Targets.{StandsAsTarget, IsInVector, StandsOnVector, LowersTarget, HasShape}
+use Rattle.target_lower.specs.Targets.{StandsAsTarget, IsInVector, StandsOnVector, LowersTarget, BareIf, HasShape}
 use Rattle.target_lower.proofs.Following.{indices-named}
-use Rattle.target_lower.proofs.Making.{made-stand, made-named}
+use Rattle.target_lower.proofs.Making.{made-stand, made-named, made-fixed}
 use Rattle.target_lower.proofs.Stepping.{root-shown}
 
 -- a valuation that always agrees
@@ -51,9 +53,9 @@ zero-stored false = refl
 some-same : (x y : ℕ) → Some x ≡ Some y → x ≡ y
 some-same x y e = cc
 
-module _ (names : NameMap) (fs : List Function) (hs : List Helper) (e : Expr) (ps : List PathIndex) (x : Targets) (h : IsInImage names e ps x) (typed : IsTyped e) (fits : (meaning e).misfits ≡ 0)
-    (made : AreMade names fs hs typed.indices ps)
-    (im : Images) (a : Around) (sc : Scope) (distinct : AreDistinct im) (in_vector : StandsOnVector names (leaves e)) (all : Each (LeafStands names fs im a sc) (leaves e)) (helps : EachHelps hs sc) where
+module _ (within : Within) (names : NameMap) (fs : List Function) (hs : List Helper) (e : Expr) (ps : List PathIndex) (x : Targets) (h : IsInImage names e ps x) (typed : IsTyped e) (fits : (meaning e).misfits ≡ 0)
+    (made : AreMade within names fs hs typed.indices ps)
+    (im : Images) (a : Around) (sc : Scope) (calls : CallsFrom within fs a.callee) (distinct : AreDistinct im) (in_vector : StandsOnVector names (leaves e)) (all : Each (LeafStands names fs im a sc) (leaves e)) (helps : EachHelps hs sc) where
   abbrev name : Name
   name = name_under names h.root.held
 
@@ -85,7 +87,7 @@ module _ (names : NameMap) (fs : List Function) (hs : List Helper) (e : Expr) (p
     typed = fits;
     width = sym on.bits;
     vector = record { vector = shown.vector; width = shown.width ∙ sym on.bits };
-    stand = made-stand names fs hs im a sc helps typed.number typed.of e typed.indices typed.part ps typed.path fits leaves-stand.1 made now v agree;
+    stand = made-stand within names fs hs im a sc helps typed.number typed.of e typed.indices typed.part ps typed.path fits leaves-stand.1 made calls now v agree;
   }
 
   spread : (now v : Valuation) → Agree im now v → Spread e ps x (named sc.names name) (record a { now = now }) sc v
@@ -117,7 +119,7 @@ module _ (names : NameMap) (fs : List Function) (hs : List Helper) (e : Expr) (p
         typed-changes image im typed.number typed.number typed.of e typed.indices typed.part (record a { now = now }) sc v (pieces x.writes) typed.path fits (shown-by now v) (written now v agree);
     names = images-like im.number (meaning e).index_names (all_names (givens_for ps) sc) (target_names x sc)
         (indices-named im.number sc typed.number typed.of e typed.indices typed.part ps typed.path
-        (made-named names fs hs im a sc helps typed.number typed.of e typed.indices typed.part ps typed.path fits leaves-stand.1 made))
+        (made-named within names fs hs im a sc helps typed.number typed.of e typed.indices typed.part ps typed.path fits leaves-stand.1 made))
         (spread zeros zeros zeros-agree).names;
     own = λ r root.
         (let it : typed.number ≡ r = some-same typed.number r (sym stands ∙ root) in
@@ -125,11 +127,19 @@ module _ (names : NameMap) (fs : List Function) (hs : List Helper) (e : Expr) (p
   }
 
 -- and so do those for the indices that are put together for it
-pub lowers-target : (names : NameMap) (fs : List Function) (hs : List Helper) (e : Expr) (ps : List PathIndex) (x : Targets) → IsInImage names e ps x → IsTyped e → (meaning e).misfits ≡ 0
-    → PutsIndices names fs hs e [] ps → LowersTarget names fs hs e x
-lowers-target names fs hs e ps x h typed fits puts im a sc distinct in_vector all helps =
-    stands-as-target names fs hs e ps x h typed fits (subst (AreMade names fs hs typed.indices) (sym puts.is) (puts.made typed.number typed.of typed.indices typed.part typed.path)) im a sc distinct in_vector all helps
+pub lowers-target : (within : Within) (names : NameMap) (fs : List Function) (hs : List Helper) (e : Expr) (ps : List PathIndex) (x : Targets) → IsInImage names e ps x → IsTyped e → (meaning e).misfits ≡ 0
+    → PutsIndices within names fs hs e [] ps → LowersTarget within names fs hs e x
+lowers-target within names fs hs e ps x h typed fits puts im a sc calls distinct in_vector all helps =
+    stands-as-target within names fs hs e ps x h typed fits (subst (AreMade within names fs hs typed.indices) (sym puts.is) (puts.made typed.number typed.of typed.indices typed.part typed.path)) im a sc calls distinct in_vector all helps
 
 -- they have their shape
-pub has-shape : (names : NameMap) (fs : List Function) (hs : List Helper) (e : Expr) (ps : List PathIndex) (x : Targets) → IsInImage names e ps x → PutsIndices names fs hs e [] ps → HasShape names fs hs e x
-has-shape names fs hs e ps x h puts = record { root = h.root; root_is = h.root_is; own = h.own; indices = ps; puts = puts; bare = h.bare }
+bare-if : (within : Within) (names : NameMap) (fs : List Function) (hs : List Helper) (e : Expr) (ps : List PathIndex) (x : Targets) (h : IsInImage names e ps x) → PutsIndices within names fs hs e [] ps
+    → BareIf within fs e (name_under names h.root.held) x
+bare-if Process names fs hs e ps x h puts =
+    λ number t xs part path constant. h.bare (made-fixed names fs hs xs ps (subst (AreMade Process names fs hs xs) (sym puts.is) (puts.made number t xs part path)) constant)
+bare-if Routine names fs hs e ps x h puts = tt
+
+pub has-shape : (within : Within) (names : NameMap) (fs : List Function) (hs : List Helper) (e : Expr) (ps : List PathIndex) (x : Targets) → IsInImage names e ps x → PutsIndices within names fs hs e [] ps
+    → HasShape within names fs hs e x
+has-shape within names fs hs e ps x h puts =
+    record { root = h.root; root_is = h.root_is; own = h.own; indices = ps; puts = puts; bare = h.bare; constant = bare-if within names fs hs e ps x h puts }

@@ -1,21 +1,16 @@
 -- Indices and roots of typed paths, step by step.
-use Rattle.std.proofs.Common.{◌≡◌, ℕ, ◌≤◌, ◌^◌, Bool, true, false, ℤ, List, [], ◌∷◌, ◌++◌, append-nil, append_assoc, Option, Some, None, IfSome, Result, Ok, Err, IfOk, OnOk, inl, inr, refl, ap, sym, ◌∙◌, subst}
-use Rattle.std.specs.Prelude.{unsigned_abs}
-use Rattle.std.specs.declared.alloc.AllocError.{AllocError}
+use Rattle.std.proofs.Common.{◌≡◌, ℕ, Bool, true, false, ℤ, List, [], ◌∷◌, ◌++◌, append-nil, append_assoc, Result, Ok, Err, IfOk, OnOk, inl, inr, refl, ap, sym, ◌∙◌, subst}
 use Rattle.sv_types.specs.declared.expression.Expr.{Expr}
 use Rattle.sv_types.specs.declared.expression.Form.{out-Form}
 use Rattle.sv_types.specs.declared.expression.Form.TheVariants as V
 use Rattle.sv_types.specs.declared.statement.Function.{Function}
 use Rattle.sv_types.specs.declared.types.SvType.{SvType}
 use Rattle.sv_types.specs.Layouts.{Layout, layout, width_of}
-use Rattle.sv_types.specs.Surroundings.{Around, local_number}
+use Rattle.sv_types.specs.Surroundings.{Around}
 use Rattle.v_meaning.specs.Scopes.{Scope}
 use Rattle.lowering_laws.specs.Agreeing.{Images}
-use Rattle.v_tree.specs.Names.{Name}
 use Rattle.v_tree.specs.declared.names.Helper.{Helper}
-use Rattle.v_tree.specs.declared.names.LocalName.{LocalName}
 use Rattle.v_tree.specs.declared.names.NameMap.{NameMap}
-use Rattle.v_tree.specs.declared.names.SignalName.{SignalName}
 use Rattle.eval_parts.specs.Steps.{is_path}
 use Rattle.path_flatten.specs.Helping.{Grows}
 use Rattle.typed_paths.specs.Tests.{EndsInPart}
@@ -23,56 +18,50 @@ use Rattle.typed_paths.specs.Typed.{Indexing, IsTypedPath}
 use Rattle.typed_paths.proofs.Opening.{IsOfIndex, of-Signal, of-Local, of-Member, of-Index, of-Part, of-Slide, no-path}
 use Rattle.case_targets.specs.declared.indices.PathIndex.{PathIndex}
 use Rattle.target_walk.specs.declared.given.Given.{Given}
-use Rattle.target_walk.specs.declared.given.Given.TheVariants as G
-use Rattle.target_walk.specs.Giving.{IsSmall}
 use Rattle.expr_lower.specs.Leaves.{Leaf, Signals, Elements, Inside, Locals, onto, indexed, leaves}
 use Rattle.expr_lower.specs.Lowering.{IsShown, ShowsElements, LeafStands}
-use Rattle.expr_lower.specs.Named.{signal_name, is_memory, local_name}
+use Rattle.expr_lower.specs.Named.{signal_name, local_name}
 use Rattle.expr_lower.proofs.AskedLeaves.{leaves-Signal, leaves-Local, leaves-Member, leaves-Index, leaves-Part, leaves-Slide}
 use Rattle.target_lower.specs.declared.roots.Held.{Held}
 use Rattle.target_lower.specs.declared.roots.Held.TheVariants as H
 use Rattle.target_lower.specs.declared.roots.Root.{Root}
+use Rattle.target_lower.specs.declared.within.Within.{Within}
 use Rattle.target_lower.specs.Made.{GivenFor, path_index, IsMade, AreMade, PutsIndex, PutsIndices}
 use Rattle.target_lower.specs.Roots.{IsUnder, IsRootLeaf, index_leaves, StandsOn, IsRootOf, name_under}
 use Rattle.target_lower.specs.Targets.{IsInVector}
 use Rattle.target_lower.proofs.Making.{made-more, index-made, index-short}
 
--- numbers
-pub small-known : (k : Option ℤ) → IfSome k (λ n. unsigned_abs n ≤ 2 ^ 64) → IsSmall (G.Known k)
-small-known None h = tt
-small-known (Some n) h = h
-
 -- indices
-module _ (names : NameMap) (fs : List Function) (hs : List Helper) where
-  puts-none : (e : Expr) (old : List PathIndex) → ((number : ℕ) (t : SvType) (xs : List Indexing) (part : Bool) → IsTypedPath number t e xs part → xs ≡ []) → PutsIndices names fs hs e old old
+module _ (within : Within) (names : NameMap) (fs : List Function) (hs : List Helper) where
+  puts-none : (e : Expr) (old : List PathIndex) → ((number : ℕ) (t : SvType) (xs : List Indexing) (part : Bool) → IsTypedPath number t e xs part → xs ≡ []) → PutsIndices within names fs hs e old old
   puts-none e old none = record {
     indices = [];
     is = sym (append-nil old);
-    made = λ number t xs part path. subst (λ l. AreMade names fs hs l []) (sym (none number t xs part path)) tt;
+    made = λ number t xs part path. subst (λ l. AreMade within names fs hs l []) (sym (none number t xs part path)) tt;
     short = tt;
   }
 
-  pub puts-plain : (e : Expr) (old : List PathIndex) → is_path (out-Form e.form) ≡ false → PutsIndices names fs hs e old old
+  pub puts-plain : (e : Expr) (old : List PathIndex) → is_path (out-Form e.form) ≡ false → PutsIndices within names fs hs e old old
   puts-plain e old plain = puts-none e old (λ number t xs part path. absurd (no-path number t e xs part plain path))
 
-  pub puts-Signal : (e : Expr) (n : ℕ) (old : List PathIndex) → e.form ≡ V.Signal n → PutsIndices names fs hs e old old
+  pub puts-Signal : (e : Expr) (n : ℕ) (old : List PathIndex) → e.form ≡ V.Signal n → PutsIndices within names fs hs e old old
   puts-Signal e n old is = puts-none e old (λ number t xs part path. (of-Signal number t e n xs part is path).none)
 
-  pub puts-Local : (e : Expr) (n : ℕ) (old : List PathIndex) → e.form ≡ V.Local n → PutsIndices names fs hs e old old
+  pub puts-Local : (e : Expr) (n : ℕ) (old : List PathIndex) → e.form ≡ V.Local n → PutsIndices within names fs hs e old old
   puts-Local e n old is = puts-none e old (λ number t xs part path. (of-Local number t e n xs part is path).none)
 
-  pub puts-Member : (e from : Expr) (k : ℕ) (old new : List PathIndex) → e.form ≡ V.Member from k → PutsIndices names fs hs from old new → PutsIndices names fs hs e old new
+  pub puts-Member : (e from : Expr) (k : ℕ) (old new : List PathIndex) → e.form ≡ V.Member from k → PutsIndices within names fs hs from old new → PutsIndices within names fs hs e old new
   puts-Member e from k old new is h =
       record { indices = h.indices; is = h.is; made = λ number t xs part path. h.made number t xs false (of-Member number t e from k xs part is path).path; short = h.short }
 
-  pub puts-Part : (e from : Expr) (left right : ℤ) (old new : List PathIndex) → e.form ≡ V.Part from left right → PutsIndices names fs hs from old new → PutsIndices names fs hs e old new
+  pub puts-Part : (e from : Expr) (left right : ℤ) (old new : List PathIndex) → e.form ≡ V.Part from left right → PutsIndices within names fs hs from old new → PutsIndices within names fs hs e old new
   puts-Part e from left right old new is h =
       record { indices = h.indices; is = h.is; made = λ number t xs part path. (let o = of-Part number t e from left right xs part is path in h.made number t xs o.inner o.path); short = h.short }
 
   -- one more, and then those of what it selects from
   module _ (mid : List Helper) (grows : Grows mid hs) (e from i : Expr) (in_part : Bool) (old between new : List PathIndex) (ends : EndsInPart in_part from)
-      (first : PutsIndex names fs mid i in_part old between) (rest : PutsIndices names fs hs from between new) where
-    both-put : ((number : ℕ) (t : SvType) (xs : List Indexing) (part : Bool) → IsTypedPath number t e xs part → (last : Bool) × IsOfIndex number t from i xs last part) → PutsIndices names fs hs e old new
+      (first : PutsIndex within names fs mid i in_part old between) (rest : PutsIndices within names fs hs from between new) where
+    both-put : ((number : ℕ) (t : SvType) (xs : List Indexing) (part : Bool) → IsTypedPath number t e xs part → (last : Bool) × IsOfIndex number t from i xs last part) → PutsIndices within names fs hs e old new
     both-put steps = record {
       indices = first.index ∷ rest.indices;
       is = rest.is ∙ ap (λ l. l ++ rest.indices) first.is ∙ append_assoc old (first.index ∷ []) rest.indices;
@@ -80,18 +69,18 @@ module _ (names : NameMap) (fs : List Function) (hs : List Helper) where
       short = (first.short, rest.short);
     }
       where
-        made : (number : ℕ) (t : SvType) (xs : List Indexing) (last part : Bool) → IsOfIndex number t from i xs last part → AreMade names fs hs xs (first.index ∷ rest.indices)
+        made : (number : ℕ) (t : SvType) (xs : List Indexing) (last part : Bool) → IsOfIndex number t from i xs last part → AreMade within names fs hs xs (first.index ∷ rest.indices)
         made number t xs last part o =
             let here = ends number t o.others o.inner o.path in
-            subst (λ l. AreMade names fs hs l (first.index ∷ rest.indices)) (sym o.all) (
-              made-more names fs mid hs (record { index = i; in_part = o.inner }) first.index grows (subst (λ b. IsMade names fs mid (record { index = i; in_part = b }) first.index) (sym here) first.made),
+            subst (λ l. AreMade within names fs hs l (first.index ∷ rest.indices)) (sym o.all) (
+              made-more within names fs mid hs (record { index = i; in_part = o.inner }) first.index grows (subst (λ b. IsMade within names fs mid (record { index = i; in_part = b }) first.index) (sym here) first.made),
               rest.made number t o.others o.inner o.path,
             )
 
-    pub puts-Index : e.form ≡ V.Index from i → PutsIndices names fs hs e old new
+    pub puts-Index : e.form ≡ V.Index from i → PutsIndices within names fs hs e old new
     puts-Index is = both-put (λ number t xs part path. (false, of-Index number t e from i xs part is path))
 
-    pub puts-Slide : (n : ℕ) (up : Bool) → e.form ≡ V.Slide from i n up → PutsIndices names fs hs e old new
+    pub puts-Slide : (n : ℕ) (up : Bool) → e.form ≡ V.Slide from i n up → PutsIndices within names fs hs e old new
     puts-Slide n up is = both-put (λ number t xs part path. (true, (of-Slide number t e from i n up xs part is path).step))
 
 -- the leaves of a step's path: the first one is what it stands on
@@ -210,6 +199,6 @@ on-grown G P Q (Ok x) g h f = f g h
 on-grown G P Q (Err e) g h f = tt
 
 -- an index more
-pub puts-one : (names : NameMap) (fs : List Function) (hs : List Helper) (i : Expr) (part : Bool) (g : Given) (old new : List PathIndex) → GivenFor names fs hs i g → new ≡ old ++ path_index part g ∷ []
-    → PutsIndex names fs hs i part old new
-puts-one names fs hs i part g old new h is = record { index = path_index part g; is = is; made = index-made names fs hs i part g h; short = index-short part g h.1 }
+pub puts-one : (within : Within) (names : NameMap) (fs : List Function) (hs : List Helper) (i : Expr) (part : Bool) (g : Given) (old new : List PathIndex) → GivenFor within names fs hs i g → new ≡ old ++ path_index part g ∷ []
+    → PutsIndex within names fs hs i part old new
+puts-one within names fs hs i part g old new h is = record { index = path_index part g; is = is; made = index-made within names fs hs i part g h; short = index-short part g h.1 }

@@ -5,7 +5,9 @@
 mod indices;
 mod roots;
 mod targets;
+mod within;
 
 pub use indices::{Indices, index_given, put_indices};
 pub use roots::signal_text;
 pub use targets::lower_target;
+pub use within::Within;

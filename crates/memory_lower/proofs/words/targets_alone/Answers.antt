@@ -1,4 +1,4 @@
-use Rattle.std.proofs.Common.{ℕ, ap, ◌∙◌, subst}
+use Rattle.std.proofs.Common.{ap, ◌∙◌, subst}
 use Rattle.v_tree.specs.Names.{Name}
 use Rattle.expr_lower.specs.Named.{signal_name}
 use Rattle.target_flatten.specs.Owning.{AllOwn}

@@ -62,20 +62,21 @@ put_indices-requires-in-Some-Slide t c =
     (omega (arith, c.decreases, from.fewer), (c.requires.functions, (from.built, from.fits)))
 
 pub returns-in-None-clause-puts : goal.returns-in-None-clause-puts
-returns-in-None-clause-puts t c = puts-plain c.args.names.now c.args.functions.now c.args.helpers.now c.args.e.now c.args.indices.now c.in-None.ensures.plain
+returns-in-None-clause-puts t c = puts-plain c.args.within c.args.names.now c.args.functions.now c.args.helpers.now c.args.e.now c.args.indices.now c.in-None.ensures.plain
 
 pub returns-in-Some-Signal-clause-puts : goal.returns-in-Some-Signal-clause-puts
 returns-in-Some-Signal-clause-puts t c =
     let h = rw c.in-Some-Signal.field-0-is at c.in-Some-Signal.ensures.step in
-    puts-Signal c.args.names.now c.args.functions.now c.args.helpers.now c.args.e.now _ c.args.indices.now h
+    puts-Signal c.args.within c.args.names.now c.args.functions.now c.args.helpers.now c.args.e.now _ c.args.indices.now h
 
 pub returns-in-Some-Local-clause-puts : goal.returns-in-Some-Local-clause-puts
 returns-in-Some-Local-clause-puts t c =
     let h = rw c.in-Some-Local.field-0-is at c.in-Some-Local.ensures.step in
-    puts-Local c.args.names.now c.args.functions.now c.args.helpers.now c.args.e.now _ c.args.indices.now h
+    puts-Local c.args.within c.args.names.now c.args.functions.now c.args.helpers.now c.args.e.now _ c.args.indices.now h
 
 pub returns-in-Some-Member-clause-puts : goal.returns-in-Some-Member-clause-puts
 returns-in-Some-Member-clause-puts t c =
+    let within = c.args.within in
     let names = c.args.names.now in
     let functions = c.args.functions.now in
     let e = c.args.e.now in
@@ -84,10 +85,11 @@ returns-in-Some-Member-clause-puts t c =
     let old = c.args.indices.now in
     let new = c.put_indices.new.indices in
     let is = subst (λ st. IsStep st c.args.e.now) c.in-Some-Member.field-0-is c.in-Some-Member.ensures.step in
-    on-one (PutsIndices names functions hs from old new) (PutsIndices names functions hs e old new) c.put_indices.result c.put_indices.ensures.puts (λ h. puts-Member names functions hs e from _ old new is h)
+    on-one (PutsIndices within names functions hs from old new) (PutsIndices within names functions hs e old new) c.put_indices.result c.put_indices.ensures.puts (λ h. puts-Member within names functions hs e from _ old new is h)
 
 pub returns-in-Some-Part-clause-puts : goal.returns-in-Some-Part-clause-puts
 returns-in-Some-Part-clause-puts t c =
+    let within = c.args.within in
     let names = c.args.names.now in
     let functions = c.args.functions.now in
     let e = c.args.e.now in
@@ -96,11 +98,12 @@ returns-in-Some-Part-clause-puts t c =
     let old = c.args.indices.now in
     let new = c.put_indices-in-Some-Part.new.indices in
     let is = subst (λ st. IsStep st c.args.e.now) c.in-Some-Part.field-0-is c.in-Some-Part.ensures.step in
-    on-one (PutsIndices names functions hs from old new) (PutsIndices names functions hs e old new) c.put_indices-in-Some-Part.result c.put_indices-in-Some-Part.ensures.puts
-    (λ h. puts-Part names functions hs e from _ _ old new is h)
+    on-one (PutsIndices within names functions hs from old new) (PutsIndices within names functions hs e old new) c.put_indices-in-Some-Part.result c.put_indices-in-Some-Part.ensures.puts
+    (λ h. puts-Part within names functions hs e from _ _ old new is h)
 
 pub returns-in_ok-put_index-in-Some-Index-clause-puts : goal.returns-in_ok-put_index-in-Some-Index-clause-puts
 returns-in_ok-put_index-in-Some-Index-clause-puts t c =
+    let within = c.args.within in
     let names = c.args.names.now in
     let functions = c.args.functions.now in
     let e = c.args.e.now in
@@ -113,12 +116,13 @@ returns-in_ok-put_index-in-Some-Index-clause-puts t c =
     let between = c.put_index.new.indices in
     let new = c.put_indices-in-Some-Index.new.indices in
     let is = subst (λ st. IsStep st c.args.e.now) c.in-Some-Index.field-0-is c.in-Some-Index.ensures.step in
-    on-grown (Grows mid hs) (PutsIndices names functions hs from between new) (PutsIndices names functions hs e old new) c.put_indices-in-Some-Index.result c.put_indices-in-Some-Index.ensures.grows
+    on-grown (Grows mid hs) (PutsIndices within names functions hs from between new) (PutsIndices within names functions hs e old new) c.put_indices-in-Some-Index.result c.put_indices-in-Some-Index.ensures.grows
     c.put_indices-in-Some-Index.ensures.puts
-    (λ grows rest. puts-Index names functions hs mid grows e from i b old between new c.ends_in_part-in_part.ensures c.in_ok-put_index-in-Some-Index.ensures.puts rest is)
+    (λ grows rest. puts-Index within names functions hs mid grows e from i b old between new c.ends_in_part-in_part.ensures c.in_ok-put_index-in-Some-Index.ensures.puts rest is)
 
 pub returns-in_ok-put_index-in-Some-Slide-clause-puts : goal.returns-in_ok-put_index-in-Some-Slide-clause-puts
 returns-in_ok-put_index-in-Some-Slide-clause-puts t c =
+    let within = c.args.within in
     let names = c.args.names.now in
     let functions = c.args.functions.now in
     let e = c.args.e.now in
@@ -131,6 +135,6 @@ returns-in_ok-put_index-in-Some-Slide-clause-puts t c =
     let between = c.put_index-in-Some-Slide.new.indices in
     let new = c.put_indices-in-Some-Slide.new.indices in
     let is = subst (λ st. IsStep st c.args.e.now) c.in-Some-Slide.field-0-is c.in-Some-Slide.ensures.step in
-    on-grown (Grows mid hs) (PutsIndices names functions hs from between new) (PutsIndices names functions hs e old new) c.put_indices-in-Some-Slide.result c.put_indices-in-Some-Slide.ensures.grows
+    on-grown (Grows mid hs) (PutsIndices within names functions hs from between new) (PutsIndices within names functions hs e old new) c.put_indices-in-Some-Slide.result c.put_indices-in-Some-Slide.ensures.grows
     c.put_indices-in-Some-Slide.ensures.puts
-    (λ grows rest. puts-Slide names functions hs mid grows e from i b old between new c.ends_in_part-in_part-in-Some-Slide.ensures c.in_ok-put_index-in-Some-Slide.ensures.puts rest _ _ is)
+    (λ grows rest. puts-Slide within names functions hs mid grows e from i b old between new c.ends_in_part-in_part-in-Some-Slide.ensures c.in_ok-put_index-in-Some-Slide.ensures.puts rest _ _ is)

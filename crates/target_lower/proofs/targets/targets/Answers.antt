@@ -2,7 +2,7 @@ use Rattle.std.proofs.Common.{subst}
 use Rattle.target_flatten.specs.Owning.{AllOwn}
 use Rattle.target_walk.specs.declared.never.Targets.{Targets}
 use Rattle.case_targets.specs.Naming.{SpreadsTo, BareOf}
-use Rattle.target_lower.specs.Roots.{IsInImage, name_under}
+use Rattle.target_lower.specs.Roots.{IsInImage}
 use Rattle.target_lower.proofs.Stepping.{ok-both}
 use Rattle.target_lower.proofs.targets.targets.Goals as goal
 
