@@ -1,0 +1,4 @@
+pub mod Surrounding
+pub mod Calling
+pub mod Framed
+pub mod Naming

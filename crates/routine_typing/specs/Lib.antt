@@ -1,0 +1,3 @@
+pub mod Paths
+pub mod Around
+pub mod Frames
