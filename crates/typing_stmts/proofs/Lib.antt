@@ -1,3 +1,7 @@
+pub mod Surrounding
+pub mod Calling
+pub mod Framed
+pub mod Naming
 pub mod Bodied
 pub mod Made
 pub mod Forms

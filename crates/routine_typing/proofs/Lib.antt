@@ -1,4 +1,0 @@
-pub mod Surrounding
-pub mod Calling
-pub mod Framed
-pub mod Naming

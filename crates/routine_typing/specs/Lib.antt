@@ -1,3 +1,0 @@
-pub mod Paths
-pub mod Around
-pub mod Frames
