@@ -1,5 +1,6 @@
 //! How the processes and functions of a design break the rules on loops (IEEE 1800-2017 clause 12.7.1): which loops can't be
-//! unrolled (E608), and which bodies have too many statements once they are (E703).
+//! unrolled (E608), and which bodies have too many statements once they are (E703). Where they can, what is known of the bodies
+//! before a run; and so the least break of all rules on processes.
 #![tactic(auto)]
 
 mod bodies;

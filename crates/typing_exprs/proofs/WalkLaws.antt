@@ -1,3 +1,3 @@
--- What crates above cite of walk_laws.
+-- What crates above cite of typing_operators.
 pub use Rattle.typing_operators.proofs.Premises.{call-fits}
 pub use Rattle.typing_operators.proofs.Written.{children-written}

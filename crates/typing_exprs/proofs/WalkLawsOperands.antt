@@ -1,2 +1,2 @@
--- What crates above cite of walk_laws.
+-- What crates above cite of typing_operators.
 pub use Rattle.typing_operators.proofs.OperandLaws.{plain-fine, plain-stops}

@@ -1,5 +1,5 @@
-//! Operators, concatenations, replications and streams as they are typed, and the lists of expressions in them, each over something
-//! that types an expression (IEEE 1800-2017 clause 11.4).
+//! Operators, `inside`, concatenations, replications and streams as they are typed, and the lists of expressions in them, each over
+//! something that types an expression (IEEE 1800-2017 clause 11.4). Its proofs have what a walk over expressions owes these forms.
 #![tactic(auto)]
 
 mod insides;

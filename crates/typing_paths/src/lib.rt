@@ -1,5 +1,6 @@
-//! Names and the paths of selects behind them, each over something that types an expression (IEEE 1800-2017 clauses 7.2.1, 7.4.5,
-//! 7.4.6, 11.5.1, 23.9 and 25.3).
+//! Names and the paths of selects behind them, as values and as targets, each over something that types an expression (IEEE
+//! 1800-2017 clauses 7.2.1, 7.4.5, 7.4.6, 10.3, 10.4, 11.5.1, 23.9, 25.3 and 25.5); dimensions and the types that they give (6.11
+//! and 7.4); and calls of system functions (11.7, 20.6.2 and 20.8.1).
 #![tactic(auto)]
 
 mod asked_types;

@@ -1,5 +1,5 @@
 //! Assignment patterns as they are typed (IEEE 1800-2017 clause 10.9), over something that types the expressions in them: their
-//! items, which are given to members and elements once the type is known.
+//! items, which are given to members and elements once the type is known. And casts to sizes, signs and types (clause 6.24.1).
 #![tactic(auto)]
 
 mod cast_insides;
