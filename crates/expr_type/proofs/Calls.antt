@@ -10,8 +10,8 @@ use Rattle.sv_types.specs.declared.statement.Formal.{Formal}
 use Rattle.sv_types.specs.declared.statement.Function.{Function}
 use Rattle.sv_types.specs.declared.types.SvType.{SvType}
 use Rattle.sv_types.specs.Layouts.{width_of}
-use Rattle.expr_type.specs.Breaks.{Breaks, At, Within}
-use Rattle.expr_type.specs.Typings.{Checked, joined, applied, broken, all, all_of, at_all, lesser, rule, unless, where_whole, whole}
+use Rattle.expr_type.specs.Breaks.{Breaks, Within}
+use Rattle.expr_type.specs.Typings.{Checked, joined, applied, all, all_of, at_all, lesser, rule, unless, where_whole, whole}
 use Rattle.expr_type.specs.Shapes.{is_assignable, is_plain_to_enum}
 use Rattle.expr_type.specs.Names.{Called, Context, Source, position}
 use Rattle.expr_type.specs.declared.operand.Valued.{Valued}
