@@ -53,5 +53,8 @@ actuals_of k es = all (map (unstreamed_of k) es)
 abbrev pub counted_call_of : Context → QualifiedName → List E.Expr → Typing Valued
 counted_call_of k of es = counted_call k of (actuals k (map meaning es))
 
+abbrev pub other_call_of : Context → QualifiedName → List E.Expr → Typing Valued
+other_call_of k of es = other_count_of k of (actuals_of k es)
+
 abbrev pub call_of_name : Context → QualifiedName → List E.Expr → Typing Valued
 call_of_name k of es = call k of (actuals k (map meaning es))
