@@ -1,6 +1,5 @@
 -- Calls with another number of actuals than their functions have formals.
-use Rattle.std.proofs.Common.{◌≡◌, ◌≤◌, ℕ, List, length, min, take, Option, Some, None, arith, sym, ap, ◌∙◌, subst}
-use Rattle.std.proofs.lemmas.List.{length-take}
+use Rattle.std.proofs.Common.{◌≡◌, ℕ, List, Option, Some, None, sym, ap, ◌∙◌, subst}
 use Rattle.std.specs.Prelude.{Result, Ok, Err}
 use Rattle.sv_tree.specs.declared.names.QualifiedName.{QualifiedName}
 use Rattle.sv_types.specs.declared.statement.Function.{Function}
@@ -11,9 +10,6 @@ use Rattle.expr_type.specs.Breaks.{Breaks, Position}
 use Rattle.expr_type.specs.Forms.{miscounted}
 use Rattle.expr_type.specs.Names.{Called, Context, position}
 use Rattle.expr_type.specs.Typings.{Checked, Typed, Typing}
-use Rattle.routine_fits.specs.Sound.{AllSoundFunctions}
-use Rattle.typing_fits.specs.Sound.{Extends}
-use Rattle.known_functions.proofs.Laws.{cut-back}
 use Rattle.typing_steps.specs.Steps.{StopsBy}
 use Rattle.typing_parts.specs.Typists.{CalledTo}
 use Rattle.typing_calls.specs.Calls.{first_halt, needed_of, other_count_of}
@@ -63,17 +59,5 @@ count-stops {B = B} k of y fs gs hs r h g c s e = subst (λ z. StopsBy {A = B} z
     by (Err H.Memory) H.Quiet c s = tt
     by (Err H.Quiet) H.Quiet c s = record { quiet = behind-quiet p (needed_of k of fs).result (y fs).result None c.quiet s.quiet; functions = c.functions }
     by (Err (H.Breaks a n)) H.Quiet c s = before-actuals p (needed_of k of fs).result (y fs).result (record { at = a; rule = n }) None c s.quiet
-
--- the functions that were known before are the first ones
-pub before-is : (gs hs : List Function) (n : ℕ) → n ≡ length gs → Extends gs hs → take n hs ≡ gs
-before-is gs hs n is e = ap (λ m. take m hs) is ∙ cut-back gs hs e
-
-pub within-longer : (gs hs : List Function) (n : ℕ) → n ≡ length gs → Extends gs hs → n ≤ length hs
-within-longer gs hs n is e =
-    let long : min n (length hs) ≡ n = sym (length-take n hs) ∙ ap length (before-is gs hs n is e) ∙ sym is in
-    omega arith
-
-pub sound-before : (gs hs : List Function) (n : ℕ) → n ≡ length gs → Extends gs hs → AllSoundFunctions gs → AllSoundFunctions (take n hs)
-sound-before gs hs n is e s = subst (λ (ls : List Function). AllSoundFunctions ls) (sym (before-is gs hs n is e)) s
 
 pub ruleset counting = (count-stops)

@@ -14,7 +14,7 @@ use Rattle.expr_type.specs.Names.{Context}
 use Rattle.expr_type.specs.Statements as D
 use Rattle.expr_type.specs.Typings.{Checked, Typed, Typing, known_behind, tried}
 use Rattle.known_functions.proofs.Laws.{cut-back}
-use Rattle.typing_calls.proofs.Counting.{before-is}
+use Rattle.function_cuts.proofs.Before.{before-is}
 use Rattle.stmt_types.specs.Cases.{Found, Stops}
 use Rattle.stmt_types.specs.Lists.{listed}
 use Rattle.stmt_types.specs.declared.cases.CaseFound.{CaseFound}

@@ -14,7 +14,7 @@ use Rattle.expr_type.specs.Types.{typed_text}
 use Rattle.routine_fits.specs.Sound.{AllSoundFunctions}
 use Rattle.stmt_laws.specs.Written.{case_written, item_written, items_written, stmt_written}
 use Rattle.stmt_laws.proofs.Declared.{parameters-keep, selected-keeps, text-keeps, variables-keep}
-use Rattle.typing_calls.proofs.Counting.{sound-before, within-longer}
+use Rattle.function_cuts.proofs.Before.{sound-before, within-longer}
 use Rattle.typing_calls.specs.Lists.{as_meant}
 use Rattle.typing_declarations.specs.Loops.{control_of, variable_of}
 use Rattle.typing_parts.proofs.Keeping.{extends-same, extends-then}
