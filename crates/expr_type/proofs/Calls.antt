@@ -151,6 +151,6 @@ call of opening arguments closing h m n q k rs =
         (needed-placed k of.name (k.finds of) rs fs) (arguments-stand k arguments (suc opening) closing rs q fs)
 
     by : (b : Bool) → StandsTyping k.source.instance (qualified_first of) (suc closing)
-      (cond b (F.counted_call k of (actuals k arguments)) (F.with_other_count (position k.source of.name) (F.needed k of.name (k.finds of)) (all (actuals k arguments))))
+        (cond b (F.counted_call k of (actuals k arguments)) (F.with_other_count (position k.source of.name) (F.needed k of.name (k.finds of)) (all (actuals k arguments))))
     by true = counted
     by false = other

@@ -208,9 +208,5 @@ pub(crate) fn with_dimensions<S: Names, C: Fn(u32, &mut Known) -> Result<u32, Ha
     }
     let dims = dims(alloc, names, needs, ds, known)?;
     let under = type_or_bit(alloc, t)?;
-    Ok(WrittenType::OfType(unpacked(
-        alloc,
-        dims.as_slice(),
-        under,
-    )?))
+    Ok(WrittenType::OfType(unpacked(alloc, dims.as_slice(), under)?))
 }

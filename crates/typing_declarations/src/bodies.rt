@@ -128,7 +128,15 @@ fn declared_parameter<B: Base, C: Fn(u32, &mut Known) -> Result<u32, Halt>>(
             if is_unwritten(of) {
                 type_parameter(alloc, names, needs, d.name, &d.initial, known)
             } else {
-                value_parameter(alloc, names, needs, WrittenType::OfValue(None), of, d, known)
+                value_parameter(
+                    alloc,
+                    names,
+                    needs,
+                    WrittenType::OfValue(None),
+                    of,
+                    d,
+                    known,
+                )
             }
         }
     }

@@ -12,8 +12,8 @@ ghost use Rattle.typing_paths.specs.TypingValuesParts as part;
 ghost use Rattle.typing_paths.specs.Paths.{member_of, member_path_of, value_path_of};
 
 use crate::members::member_signal;
-use crate::paths::path;
 use crate::named;
+use crate::paths::path;
 use expr_type::{Halt, Valued};
 use pattern_types::Operand;
 use std::alloc::Global;
