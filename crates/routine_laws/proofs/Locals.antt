@@ -423,15 +423,15 @@ module _ (Q : List Function → Type 0) (s : Signals) where
       let ws = map way_of c.of.formals in
       replaced Q (λ as' hs. AllHold SoundActual as' hs) (LocalForCalled c) gs (all (actuals k ws es)) (K.all-keeps Q SoundActual (actuals k ws es) Z.actual-lasts (Z.each-actual Q k ws es r.text.around m) gs q) (all-local k s ws es r.names l gs)
 
-  counted-keeps : (k : Context) (of : QualifiedName) (es : List E.Meaning) → Within Q s k → AllMean Q es → AllLocalActuals s es → Keeps Q WritesLocals (counted_call k of es)
-  counted-keeps k of es r m l =
+  counted-call-keeps : (k : Context) (of : QualifiedName) (es : List E.Meaning) → Within Q s k → AllMean Q es → AllLocalActuals s es → Keeps Q WritesLocals (counted_call k of es)
+  counted-call-keeps k of es r m l =
       N.with-keeps Q KnownCall LocalForCalled WritesLocals (needed k of.name (k.finds of)) (λ o. all (actuals k (ways o) es)) (λ c as'. rule (call_stmt_of k of.name c as')) call-lasts
       (C.needed-keeps Q k of.name (k.finds of) r.text.around) (λ o gs q x. actuals-known k es o gs r m l q)
       (λ c as' js q x y. K.rule-kept Q WritesLocals (call_stmt_of k of.name c as') js q (λ t h. call-writes k of.name c as' t js h x y))
 
   call-by : (k : Context) (of : QualifiedName) (es : List E.Meaning) (b : Bool) → Within Q s k → AllMean Q es → AllLocalActuals s es
       → Keeps Q WritesLocals (cond b (counted_call k of es) (with_other_count (position k.source of.name) (needed k of.name (k.finds of)) (all (actuals k [] es))))
-  call-by k of es true r m l = counted-keeps k of es r m l
+  call-by k of es true r m l = counted-call-keeps k of es r m l
   call-by k of es false r m l = C.other-keeps Q WritesLocals (position k.source of.name) (needed k of.name (k.finds of)) (all (actuals k [] es)) (C.needed-keeps Q k of.name (k.finds of) r.text.around)
 
   pub call-keeps : (k : Context) (of : QualifiedName) (es : List E.Meaning) → Within Q s k → AllMean Q es → AllLocalActuals s es → Keeps Q WritesLocals (call_stmt k of es)
