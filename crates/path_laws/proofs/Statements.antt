@@ -382,8 +382,8 @@ call-typed k at c as' s h =
     let w = whole-part (all_of (all_actuals k c.of.formals as')) (λ es. a_stmt (made es)) s (refused-then (not (length c.of.formals == length as')) (position k.source at) 405 inner s h) in
     as-stmt (made w.part) s w.made (as-assigned (made w.part) [] (assigned-Call c.place w.part (spot k.source at)) tt)
 
-counted-gives : (k : Context) (of : QualifiedName) (es : List E.Meaning) → Gives AssignsTyped (counted_call k of es)
-counted-gives k of es =
+counted-call-gives : (k : Context) (of : QualifiedName) (es : List E.Meaning) → Gives AssignsTyped (counted_call k of es)
+counted-call-gives k of es =
     by-gives Anything Anything AssignsTyped (needed k of.name (k.finds of)) (λ o. all (actuals k (ways o) es)) (λ c as'. rule (call_stmt_of k of.name c as')) (anything (needed k of.name (k.finds of)))
     (λ o q. anything (all (actuals k (ways o) es))) (λ c as' q r. rule-gives AssignsTyped (call_stmt_of k of.name c as') (λ s h. call-typed k of.name c as' s h))
 
@@ -395,7 +395,7 @@ never-whole p (Err d) (Err e) b h = cc
 
 call-by : (k : Context) (of : QualifiedName) (es : List E.Meaning) (b : Bool)
     → Gives AssignsTyped (cond b (counted_call k of es) (with_other_count (position k.source of.name) (needed k of.name (k.finds of)) (all (actuals k [] es))))
-call-by k of es true = counted-gives k of es
+call-by k of es true = counted-call-gives k of es
 call-by k of es false fs s h = absurd (never-whole (position k.source of.name) (needed k of.name (k.finds of) fs).result (all (actuals k [] es) fs).result s h)
 
 call-gives : (k : Context) (of : QualifiedName) (es : List E.Meaning) → Gives AssignsTyped (call_stmt k of es)
@@ -464,8 +464,8 @@ stmt-case (Stmt-F.Continue keyword semicolon) k p = whole-gives AssignsTyped V.C
 stmt-case (Stmt-F.Return keyword e semicolon) k p = returned-gives k keyword e
 stmt-case (Stmt-F.Call of opening arguments closing semicolon) k p = call-gives k of (map E.meaning arguments)
 stmt-case (Stmt-F.Assign to op at e semicolon) k p = assign-gives k true to op at e p.names
-stmt-case (Stmt-F.Postfix name ss op at semicolon) k p = counted-gives k name op at ss p.names
-stmt-case (Stmt-F.Prefix op at name ss semicolon) k p = counted-gives k name op at ss p.names
+stmt-case (Stmt-F.Postfix name ss op at semicolon) k p = counted-call-gives k name op at ss p.names
+stmt-case (Stmt-F.Prefix op at name ss semicolon) k p = counted-call-gives k name op at ss p.names
 stmt-case (Stmt-F.Empty semicolon) k p = whole-gives AssignsTyped empty empty-typed
 
 item-level : (y : BlockItem-F AnItem ACase AStmt AnElse) → OfPart (item_meaning (roll-BlockItem (item_in y)))
