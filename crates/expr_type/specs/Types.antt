@@ -192,7 +192,7 @@ member_step m k inside =
   where
     field_of : Option TypeFound → DimensionedName → Typing Field
     field_of None n = checked (dims k n.unpacked) (λ ds. broken Quiet)
-    field_of (Some f) n = field k inside f.of n
+    field_of (Some f) n = field (with_values f.names k) inside f.of n
 
 abbrev pub type_step : TypeText-F TypeMeaning FieldsMeaning → TypeMeaning
 type_step (TypeText-F.Keyword of ds) k = checked (dims k ds) (λ d. whole (only (keyword_type of d)))

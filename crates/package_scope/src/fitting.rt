@@ -110,10 +110,13 @@ fn is_function(how: Declared) -> bool
     }
 }
 
-/// Whether a use stands in the body of a function, whose result its name stands for there.
+/// Whether a use stands in the body of a function, formals included, whose result its name stands for there.
 fn in_own_body(table: &Table, found_by: Use, declaration: &Declaration) -> bool
     ensures { result ≡ means.in_own_body table.now found_by declaration.now }
 {
+    if found_by.at <= declaration.last {
+        return false;
+    }
     match routine_around(table, found_by.scope) {
         Some(routine) => routine == declaration.inner,
         None => false,
@@ -340,7 +343,7 @@ impl<'t> NamedText<'t> {
             Role::Interface => is_interface_kind(declaration.what),
             Role::Instantiated => is_instantiated(declaration.what),
             Role::Edge => self.is_signal_or_member(found_by, declaration),
-            Role::LoopGenvar => is_genvar(how),
+            Role::LoopGenvar => is_genvar(how) && !self.has_value(found_by, declaration),
             Role::Step => true,
             Role::ModportPort => self.is_signal(how),
             Role::Key => true,

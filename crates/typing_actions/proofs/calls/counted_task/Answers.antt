@@ -3,7 +3,7 @@ use Rattle.sv_types.specs.declared.statement.Way.{Way}
 use Rattle.typing_parts.proofs.Keeping.{extends-then}
 use Rattle.typing_actions.specs.TaskActuals.{AreWays}
 use Rattle.typing_actions.proofs.Tasks.{call-types}
-use Rattle.typing_actions.proofs.calls.task_called.Goals as goal
+use Rattle.typing_actions.proofs.calls.counted_task.Goals as goal
 
 pub returns-clause-value : goal.returns-clause-value
 returns-clause-value g c =
