@@ -82,13 +82,20 @@ abbrev pub next_value : Option ℤ → ℤ
 next_value None = pos 0
 next_value (Some n) = n +ℤ pos 1
 
+-- The value that is written for a name is given to the base, which takes no unpacked one (E501). Other rules on constants count first.
+abbrev pub is_packed_value : Source → Valued → Checked Valued
+is_packed_value k v = refused (is_unpacked v.expr.of && not (names_any v.expr)) (position k v.first) 501 (Ok v)
+
+abbrev pub is_name_number : Source → ℤ → ℤ → Valued → List Function → Checked Number
+is_name_number k low high v fs = where_whole (is_packed_value k v) (λ u. is_number_in k low high u fs)
+
 abbrev pub written_value : Context → SvType → ℕ → Option ℤ → Option Initializer → Typing ℤ
 written_value k base at before None =
     let n = next_value before in
     rule (refused (not (int_le (least_value base) n && int_le n (most_value base))) (position k.source at) 411 (Ok n))
 written_value k base at before (Some i) =
     checked (constant_in k.source (operand k i.value))
-    (λ v. checked (by_functions (is_number_in k.source (least_value base) (most_value base) v)) (λ n. whole n.number))
+    (λ v. checked (by_functions (is_name_number k.source (least_value base) (most_value base) v)) (λ n. whole n.number))
 
 abbrev pub is_taken : List NameValue → ℤ → Bool
 is_taken vs n = list_any (λ (v : NameValue). int_eq v.number n) vs
