@@ -1,2 +1,9 @@
 pub mod Tokens
-pub mod Holding
+pub mod Typings
+pub mod Parts
+pub mod Targets
+pub mod Given
+pub mod Meant
+pub mod Operands
+pub mod Casts
+pub mod Patterns

@@ -12,22 +12,6 @@ use Rattle.expr_type.specs.Names.{Context}
 use Rattle.expr_type.specs.Placed.{InOrder, PlacedTyping, RoutinesInOrder, StandsTyping}
 use Rattle.expr_type.specs.Typings.{Checked, Typing}
 
--- what is whole has a property, or the breaks stand from one token up to, but not including, another one
-abbrev pub Holds : {A : Type 0} → ℕ → ℕ → ℕ → (A → Type 0) → Checked A → Type 0
-Holds i low high P (Ok a) = P a
-Holds i low high P (Err b) = Within b i low high
-
-abbrev pub Holding : {A : Type 0} → ℕ → ℕ → ℕ → (A → Type 0) → Typing A → Type 0
-Holding i low high P x = (fs : List Function) → Holds i low high P (x fs).result
-
-abbrev pub Anything : {A : Type 0} → A → Type 0
-Anything a = Unit {0}
-
--- things that stand behind one another
-abbrev pub Row : {A : Type 0} → (ℕ → ℕ → A → Type 0) → ℕ → ℕ → List A → Type 0
-Row P low high [] = low ≤ high
-Row P low high (a ∷ as') = (between : ℕ) × (low ≤ between) × (between ≤ high) × P low between a × Row P between high as'
-
 -- as a type or as a target, if it is one
 abbrev pub TypeIf : ℕ → ℕ → ℕ → Option (Typing SvType) → Type 0
 TypeIf i low high None = Unit {0}
@@ -54,5 +38,9 @@ abbrev pub DimsStand : ℕ → ℕ → List Dim → Type 0
 DimsStand low high [] = Unit {0}
 DimsStand low high (d ∷ ds) = (low ≤ d.opening) × (d.opening < high)
 
+abbrev pub DimsIf : ℕ → ℕ → ℕ → Checked (List Dim) → Type 0
+DimsIf i low high (Ok ds) = DimsStand low high ds
+DimsIf i low high (Err b) = Within b i low high
+
 abbrev pub DimsTyping : ℕ → ℕ → ℕ → Typing (List Dim) → Type 0
-DimsTyping i low high x = Holding i low high (DimsStand low high) x
+DimsTyping i low high x = (fs : List Function) → DimsIf i low high (x fs).result
