@@ -7,3 +7,5 @@ pub mod Meant
 pub mod Operands
 pub mod Casts
 pub mod Patterns
+pub mod Selects
+pub mod Forms
