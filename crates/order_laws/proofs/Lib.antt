@@ -9,3 +9,7 @@ pub mod Casts
 pub mod Patterns
 pub mod Selects
 pub mod Forms
+pub mod Items
+pub mod Names
+pub mod Plain
+pub mod Expressions
