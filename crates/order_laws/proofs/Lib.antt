@@ -1,1 +1,10 @@
 pub mod Tokens
+pub mod Typings
+pub mod Parts
+pub mod Targets
+pub mod Given
+pub mod Declared
+pub mod Assignments
+pub mod Statements
+pub mod Loops
+pub mod TaskCalls
