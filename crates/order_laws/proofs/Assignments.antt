@@ -1,5 +1,5 @@
 -- Assignments keep the order of the text: `=`, `op=`, `++` and `--`.
-use Rattle.std.proofs.Common.{◌≡◌, ℕ, suc, ◌≤◌, ◌<◌, ◌++◌, Bool, true, List, [], ◌∷◌, map, Option, Some, None, sym, subst, arith}
+use Rattle.std.proofs.Common.{ℕ, suc, ◌≤◌, ◌<◌, ◌++◌, Bool, true, List, [], ◌∷◌, map, Option, Some, None, sym, subst, arith}
 use Rattle.std.specs.Prelude.{nat_lt, Ok, Err}
 use Rattle.sv_tree.specs.declared.expressions.Expr as X
 use Rattle.sv_tree.specs.declared.expressions.Select.{Select}
@@ -13,8 +13,7 @@ use Rattle.sv_types.specs.declared.expression.Expr.{Expr}
 use Rattle.sv_types.specs.declared.expression.Form.{Form}
 use Rattle.sv_types.specs.declared.expression.Form.TheVariants as F
 use Rattle.sv_types.specs.declared.types.SvType.{SvType}
-use Rattle.expr_type.specs.Breaks.{At}
-use Rattle.expr_type.specs.Typings.{Checked, Typing, both, checked, lesser, refused, rule, where_whole, whole}
+use Rattle.expr_type.specs.Typings.{Checked, both, lesser, refused, rule, where_whole}
 use Rattle.expr_type.specs.Shapes.{is_unpacked}
 use Rattle.expr_type.specs.Names.{Context, position}
 use Rattle.expr_type.specs.declared.operand.Valued.{Valued}
@@ -26,13 +25,13 @@ use Rattle.expr_type.specs.Targets.{Target, ToPath, ToParts, ToStream, assigned,
 use Rattle.expr_type.specs.Statements.{operator_of, is_later, as_operand, combined, assign, assignment, one, step_operator, counted}
 use Rattle.expr_type.specs.Placed.{Ascend, OperandStands, RoutinesInOrder, SelectsInOrder, Stands, StandsIf}
 use Rattle.expr_type.proofs.Ordering.{binary-stands, in-context, place}
-use Rattle.order_laws.specs.Ordered.{expr_tokens, lvalue_tokens, selects_tokens}
+use Rattle.order_laws.specs.Ordered.{expr_tokens, lvalue_tokens}
 use Rattle.order_laws.proofs.Tokens.{split}
-use Rattle.order_laws.proofs.Typings.{PlacedAs, TypedAs, as-both, as-checked, as-lesser, as-refused, as-then, as-wider, any-placed}
+use Rattle.order_laws.proofs.Typings.{PlacedAs, as-both, as-checked, as-lesser, as-refused, as-then, as-wider, any-placed}
 use Rattle.order_laws.proofs.Parts.{PartsInOrder}
-use Rattle.order_laws.proofs.Targets.{IsPath, TargetStands, leaf-path, named-stands, path-wider, target-in-order}
+use Rattle.order_laws.proofs.Targets.{IsPath, TargetStands, named-stands, path-wider, target-in-order}
 use Rattle.order_laws.proofs.Given.{given-stands, operand-wider, value-stands}
-use Rattle.order_laws.proofs.Declared.{InText, KeepsOrder, operand-in}
+use Rattle.order_laws.proofs.Declared.{InText, operand-in}
 
 pub as-standing : (i : ℕ) (x : Checked Valued) (low high : ℕ) → StandsIf i low high x → PlacedAs (Stands low high) i low high x
 as-standing i (Ok v) low high s = s

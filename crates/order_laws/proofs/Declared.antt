@@ -1,5 +1,5 @@
 -- Declarations of blocks keep the order of the text: variables, types that are names with selects, and parameters.
-use Rattle.std.proofs.Common.{ℕ, suc, ◌≤◌, ◌<◌, ◌++◌, Bool, true, false, List, [], ◌∷◌, map, Option, Some, None, cond, arith}
+use Rattle.std.proofs.Common.{ℕ, suc, ◌≤◌, ◌<◌, Bool, true, false, List, [], ◌∷◌, map, Option, Some, None, cond, arith}
 use Rattle.std.specs.Prelude.{nat_lt, Ok, Err}
 use Rattle.std.specs.Option.{option_map}
 use Rattle.sv_tree.specs.declared.declarations.Declarator.{Declarator}
@@ -11,7 +11,6 @@ use Rattle.sv_tree.specs.declared.expressions.Expr as X
 use Rattle.sv_tree.specs.declared.expressions.Select.{Select}
 use Rattle.sv_tree.specs.declared.names.Signing.{Signing}
 use Rattle.sv_tree.specs.declared.types.TypeText.{TypeText}
-use Rattle.sv_types.specs.declared.expression.Expr.{Expr}
 use Rattle.sv_types.specs.declared.statement.Function.{Function}
 use Rattle.sv_types.specs.declared.types.SvType.{SvType}
 use Rattle.sv_types.specs.Layouts.{width_of}
@@ -26,11 +25,11 @@ use Rattle.expr_type.specs.Expressions.{meaning, operand, select_meaning, type_o
 use Rattle.expr_type.specs.KeywordTypes.{Dim, unpacked}
 use Rattle.expr_type.specs.Types.{TypeFound, dims, typed_text, declared_type}
 use Rattle.expr_type.specs.Targets.{simple_name}
-use Rattle.expr_type.specs.Statements.{Declared, nothing, behind, behind_if, and_then, in_turn, local_of, local_type, with_type, variable, type_names, names_if, variables_of, selected_type, param_value, constant_value, WrittenType, OfValue, OfType, ranged_value, written_value, constant, is_unwritten, sign_alone, sign_or_type, written_type, type_or_bit, with_dimensions, Kind, IsType, IsValue, Parameter, type_parameter, by_dimensions, value_parameter, parameter, kind_if, declared_if, parameters}
+use Rattle.expr_type.specs.Statements.{Declared, nothing, behind, behind_if, and_then, in_turn, local_of, local_type, with_type, variable, type_names, names_if, variables_of, selected_type, param_value, constant_value, WrittenType, OfValue, OfType, written_value, constant, is_unwritten, sign_alone, sign_or_type, written_type, type_or_bit, with_dimensions, Kind, IsType, IsValue, Parameter, type_parameter, by_dimensions, value_parameter, parameter, kind_if, declared_if, parameters}
 use Rattle.expr_type.specs.Placed.{Ascend, OperandStands, RoutinesInOrder, Stands}
 use Rattle.expr_type.proofs.Ordering.{place}
 use Rattle.order_laws.specs.Meanings.{DimsIf, TypeIf}
-use Rattle.order_laws.specs.Ordered.{in_row, expr_tokens, selects_tokens, dims_tokens, initial_tokens, type_tokens, declarator_tokens, declarators_tokens, parameter_tokens, parameters_tokens}
+use Rattle.order_laws.specs.Ordered.{expr_tokens, selects_tokens, dims_tokens, initial_tokens, type_tokens, declarator_tokens, declarators_tokens, parameter_tokens, parameters_tokens}
 use Rattle.order_laws.proofs.Tokens.{split}
 use Rattle.order_laws.proofs.Typings.{PlacedAs, TypedAs, Each, any-from, any-typing, as-both-any, as-both-by, as-checked, as-refused, as-then, as-wider}
 use Rattle.order_laws.proofs.Parts.{Ordered, PartsInOrder, each-in-row, each-of}

@@ -1,21 +1,21 @@
 -- What operands are given to, and constants: breaks stand where the operand does.
-use Rattle.std.proofs.Common.{ℕ, ◌≤◌, ◌<◌, ◌&&◌, Bool, true, false, ℤ, List, [], ◌∷◌, max, Option, Some, None, cond, arith}
+use Rattle.std.proofs.Common.{ℕ, ◌≤◌, ◌<◌, List, max, Option, Some, None, arith}
 use Rattle.std.specs.Prelude.{nat_lt, not, Ok, Err}
 use Rattle.sv_types.specs.declared.expression.Expr.{Expr}
 use Rattle.sv_types.specs.declared.statement.Function.{Function}
 use Rattle.sv_types.specs.declared.types.SvType.{SvType}
 use Rattle.sv_types.specs.Layouts.{width_of}
 use Rattle.expr_type.specs.Breaks.{At, Breaks}
-use Rattle.expr_type.specs.Typings.{Checked, Typing, at_all, checked, lesser, refused, rule, unless, where_whole}
+use Rattle.expr_type.specs.Typings.{Checked, Typing, at_all, lesser, refused, rule, unless}
 use Rattle.expr_type.specs.Shapes.{most_bits, is_assignable, is_plain_to_enum, is_unpacked}
 use Rattle.expr_type.specs.Uses.{holds_stream, names_any}
 use Rattle.expr_type.specs.Names.{Source, position}
 use Rattle.expr_type.specs.declared.operand.Valued.{Valued}
-use Rattle.expr_type.specs.Operands.{Operand, Plain, Pattern, Stream, bits_in, calls_no_stream, constant_alone, constant_given, constant_of, constant_pattern, constant_stream, first_of, given, has_bits, is_constant, is_constant_value, is_given, is_plain, is_streamed, is_value, no_stream, passed, sized, stops, too_wide, unstreamed, value, width}
+use Rattle.expr_type.specs.Operands.{Operand, Plain, Pattern, Stream, bits_in, calls_no_stream, constant_alone, constant_of, constant_stream, first_of, given, has_bits, is_constant, is_constant_value, is_given, is_plain, is_streamed, is_value, no_stream, passed, sized, stops, too_wide, unstreamed, value, width}
 use Rattle.expr_type.specs.Placed.{Ascend, OperandIf, OperandStands, OperandTyping, Placed, Stands}
 use Rattle.expr_type.proofs.Placing.{wider}
 use Rattle.expr_type.proofs.Ordering.{WithinIf, all-within, ascend-wide, place}
-use Rattle.order_laws.proofs.Typings.{PlacedAs, TypedAs, any-placed, as-checked, as-lesser, as-refused, as-then, as-wider}
+use Rattle.order_laws.proofs.Typings.{PlacedAs, TypedAs, any-placed, as-checked, as-lesser, as-refused, as-then}
 use Rattle.order_laws.proofs.Targets.{stands-wider}
 
 pub operand-wider : (i : ℕ) (o : Operand) (low high low' high' : ℕ) → low' ≤ low → high ≤ high' → OperandStands i low high o → OperandStands i low' high' o

@@ -8,3 +8,5 @@ pub mod Assignments
 pub mod Statements
 pub mod Loops
 pub mod TaskCalls
+pub mod Walk
+pub mod Routines

@@ -1,5 +1,5 @@
 -- Loops keep the order of the text.
-use Rattle.std.proofs.Common.{ℕ, suc, ◌≤◌, ◌<◌, ◌++◌, [], ◌∷◌, Option, Some, None, arith}
+use Rattle.std.proofs.Common.{ℕ, suc, ◌≤◌, ◌<◌, [], ◌∷◌, Option, Some, None, arith}
 use Rattle.std.specs.Prelude.{Ok}
 use Rattle.sv_tree.specs.declared.expressions.Expr as X
 use Rattle.sv_tree.specs.declared.operators.AssignmentOperator.{AssignmentOperator}
@@ -26,9 +26,9 @@ use Rattle.order_laws.proofs.Tokens.{split}
 use Rattle.order_laws.proofs.Typings.{PlacedAs, TypedAs, any-from, any-placed, as-both, as-both-any, as-checked, as-then, as-wider}
 use Rattle.order_laws.proofs.Parts.{PartsInOrder}
 use Rattle.order_laws.proofs.Targets.{TargetStands, leaf-path}
-use Rattle.order_laws.proofs.Given.{operand-wider, passed-stands, without-stream}
+use Rattle.order_laws.proofs.Given.{passed-stands, without-stream}
 use Rattle.order_laws.proofs.Assignments.{assigned-stands, combined-stands, one-stands, target-wider}
-use Rattle.order_laws.proofs.Declared.{InText, KeepsOrder, long-in, operand-from, operand-in, text-in}
+use Rattle.order_laws.proofs.Declared.{InText, KeepsOrder, long-in, operand-in, text-in}
 use Rattle.order_laws.proofs.Statements.{condition-in}
 
 -- the first value
@@ -116,10 +116,10 @@ module _ (parts : PartsInOrder) where
   pub loop-in : (at : ℕ) (first : LoopStart) (test : X.Expr) (step : LoopStep) (body : StmtMeaning) (low tested stepped inside high : ℕ) → low ≤ tested → tested ≤ stepped → stepped ≤ inside → inside ≤ high
       → Ascend low tested (start_tokens first) → Ascend tested stepped (expr_tokens test) → Ascend stepped inside (loop_step_tokens step) → KeepsOrder inside high body
       → KeepsOrder low high (λ k.
-        both_by (loop_variable k first)
-        (λ o. let inner = in_loop k o in
-        both (both (condition inner test) (loop_step inner (id_of o) step) control) (body inner) turns)
-        (λ v t. whole (loop_stmt k at v t)))
+      both_by (loop_variable k first)
+      (λ o. let inner = in_loop k o in
+      both (both (condition inner test) (loop_step inner (id_of o) step) control) (body inner) turns)
+      (λ v t. whole (loop_stmt k at v t)))
   loop-in at first test step body low tested stepped inside high h m n l a b c p k rs =
       as-both-any k.source.instance (λ v. Unit {0}) (λ t. Unit {0}) (λ s. Unit {0}) (loop_variable k first)
       (λ o. both (both (condition (in_loop k o) test) (loop_step (in_loop k o) (id_of o) step) control) (body (in_loop k o)) turns) (λ v t. whole (loop_stmt k at v t))

@@ -1,10 +1,9 @@
 -- Trees whose tokens ascend in a part of a text, and what stands behind one another in it.
-use Rattle.std.proofs.Common.{ℕ, ◌≤◌, List, [], ◌∷◌, map, Option, Some, None}
+use Rattle.std.proofs.Common.{ℕ, ◌≤◌, List, [], ◌∷◌, map}
 use Rattle.sv_tree.specs.declared.expressions.Dimension.{Dimension}
 use Rattle.sv_tree.specs.declared.expressions.Expr.{Expr}
 use Rattle.sv_tree.specs.declared.expressions.Select.{Select}
 use Rattle.sv_tree.specs.declared.expressions.SliceSize.{SliceSize}
-use Rattle.sv_tree.specs.declared.names.QualifiedName.{QualifiedName}
 use Rattle.sv_tree.specs.declared.types.TypeText.{TypeText}
 use Rattle.expr_type.specs.Names.{Context}
 use Rattle.expr_type.specs.Expressions.{meaning, select_meaning, slice_meaning, type_of_name}

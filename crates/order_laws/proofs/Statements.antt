@@ -1,39 +1,24 @@
 -- Statements keep the order of the text, form by form.
-use Rattle.std.proofs.Common.{ℕ, suc, ◌≤◌, ◌<◌, ◌++◌, Bool, List, [], ◌∷◌, map, Option, Some, None, arith}
-use Rattle.std.specs.Prelude.{nat_lt, flat_map, Ok, Err}
+use Rattle.std.proofs.Common.{ℕ, ◌≤◌, true, false, List, [], ◌∷◌, map, Option, Some, None, arith}
+use Rattle.std.specs.Prelude.{Ok}
 use Rattle.std.specs.Option.{option_map}
 use Rattle.sv_tree.specs.declared.expressions.Expr as X
-use Rattle.sv_tree.specs.declared.statements.LoopStart.{LoopStart}
-use Rattle.sv_tree.specs.declared.statements.LoopStep.{LoopStep}
-use Rattle.sv_tree.specs.declared.statements.LoopStep.TheVariants as L
-use Rattle.sv_types.specs.declared.expression.Expr.{Expr}
-use Rattle.sv_types.specs.declared.expression.Form.TheVariants as F
 use Rattle.sv_types.specs.declared.statement.CaseKind.{CaseKind}
-use Rattle.sv_types.specs.declared.statement.Stmt as R
 use Rattle.sv_types.specs.declared.statement.Stmt.TheVariants as S
 use Rattle.sv_types.specs.declared.types.SvType.{SvType}
-use Rattle.sv_types.specs.Layouts.{width_of}
-use Rattle.expr_type.specs.Breaks.{Quiet}
-use Rattle.expr_type.specs.Typings.{Checked, Typing, all, all_of, at_all, both, both_by, broken, checked, joined, looked_at, rule, tried, unless, where_whole, whole}
-use Rattle.expr_type.specs.Names.{Context, LocalId, local_id, with_locals}
+use Rattle.expr_type.specs.Typings.{Checked, Typing, all, all_of, at_all, both, checked, joined, looked_at, rule, tried, unless, whole}
+use Rattle.expr_type.specs.Names.{Context}
 use Rattle.expr_type.specs.declared.operand.Valued.{Valued}
-use Rattle.expr_type.specs.Operands.{Operand, Plain, Pattern, Stream, given, no_stream, passed, sized, too_wide}
-use Rattle.expr_type.specs.Operators.{by_itself, not_too_long}
-use Rattle.expr_type.specs.Forms.{cast_expr}
+use Rattle.expr_type.specs.Operands.{Operand, given, sized, too_wide}
 use Rattle.expr_type.specs.Expressions.{operand}
-use Rattle.expr_type.specs.Types.{TypeFound, typed_text}
-use Rattle.expr_type.specs.Targets.{Target, ToPath, assigned}
-use Rattle.expr_type.specs.Statements.{operator_of, combined, one, step_operator, Declared, behind, BlockPart, IsStatement, IsDeclared, PartMeaning, StmtMeaning, CaseMeaning, behind_part, block_parts, built, block, return_value, returned, condition, Branches, branches, else_if, CaseFound, CaseItem, whole_item, case_items, default_body, widest, selector_at, wide_in, values_at, item_at, case_stmt, loop_first, LoopVariable, first_by, loop_type, loop_variable, id_of, in_loop, loop_target, step_value, loop_step, Control, control, Turns, turns, loop_stmt, widened}
+use Rattle.expr_type.specs.Statements.{Declared, behind, BlockPart, IsStatement, IsDeclared, PartMeaning, StmtMeaning, CaseMeaning, behind_part, block_parts, built, block, return_value, returned, condition, branches, else_if, CaseFound, whole_item, case_items, default_body, widest, selector_at, wide_in, values_at, item_at, case_stmt}
 use Rattle.expr_type.specs.Placed.{Ascend, OperandStands, RoutinesInOrder, Stands}
-use Rattle.expr_type.proofs.Ordering.{ascend-append, ascend-wide, place}
+use Rattle.expr_type.proofs.Ordering.{ascend-append, ascend-wide}
 use Rattle.order_laws.specs.Ordered.{if_there, expr_tokens, exprs_tokens}
-use Rattle.order_laws.proofs.Tokens.{split}
-use Rattle.order_laws.proofs.Typings.{PlacedAs, TypedAs, Each, any-from, any-placed, as-all, as-all-of, as-both, as-both-any, as-checked, as-joined, as-then, as-wider}
+use Rattle.order_laws.proofs.Typings.{PlacedAs, TypedAs, Each, any-from, as-all, as-all-of, as-both, as-both-any, as-checked, as-joined, as-then, as-wider}
 use Rattle.order_laws.proofs.Parts.{PartsInOrder, each-in-row, each-of}
-use Rattle.order_laws.proofs.Targets.{TargetStands, leaf-path}
-use Rattle.order_laws.proofs.Given.{bits-stand, given-stands, passed-stands, wide-ours, without-stream}
-use Rattle.order_laws.proofs.Assignments.{assigned-stands, combined-stands, one-stands, target-wider}
-use Rattle.order_laws.proofs.Declared.{InText, KeepsOrder, long-in, operand-in, text-in}
+use Rattle.order_laws.proofs.Given.{bits-stand, given-stands, wide-ours}
+use Rattle.order_laws.proofs.Declared.{InText, KeepsOrder, operand-in}
 
 -- blocks
 parts-behind : (k : Context) (ps : List PartMeaning) (low high : ℕ) → RoutinesInOrder k → ((j : Context) → RoutinesInOrder j → InText j low high (block_parts j ps))

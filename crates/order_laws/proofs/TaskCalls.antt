@@ -1,25 +1,23 @@
 -- Calls of tasks and void functions keep the order of the text: what the routine breaks stands behind its name.
-use Rattle.std.proofs.Common.{ℕ, suc, ◌≤◌, ◌<◌, ◌&&◌, ◌||◌, Bool, true, false, List, [], ◌∷◌, length, map, Option, Some, None, cond, arith}
+use Rattle.std.proofs.Common.{ℕ, suc, ◌≤◌, ◌<◌, ◌&&◌, ◌||◌, Bool, true, false, List, [], ◌∷◌, length, Option, Some, None, cond, arith}
 use Rattle.std.specs.Prelude.{not, ◌==◌, Ok, Err}
-use Rattle.sv_tree.specs.Extents.{qualified_first}
 use Rattle.sv_tree.specs.declared.names.QualifiedName.{QualifiedName}
 use Rattle.sv_types.specs.declared.expression.Expr.{Expr}
 use Rattle.sv_types.specs.declared.statement.Formal.{Formal}
-use Rattle.sv_types.specs.declared.statement.Function.{Function}
 use Rattle.sv_types.specs.declared.statement.Stmt as R
 use Rattle.sv_types.specs.declared.statement.Way.{Way}
 use Rattle.sv_types.specs.declared.statement.Way.TheVariants as W
 use Rattle.sv_types.specs.declared.types.SvType.{SvType}
 use Rattle.expr_type.specs.Breaks.{At}
-use Rattle.expr_type.specs.Typings.{Checked, Typing, all, all_of, broken, checked, refused, rule, where_whole, whole}
+use Rattle.expr_type.specs.Typings.{Checked, Typing, all, all_of, broken, checked, rule, whole}
 use Rattle.expr_type.specs.Shapes.{is_assignable, is_plain_to_enum}
 use Rattle.expr_type.specs.Names.{Called, Context, position}
 use Rattle.expr_type.specs.declared.operand.Valued.{Valued}
-use Rattle.expr_type.specs.Operands.{Operand, first_of, passed, unstreamed}
+use Rattle.expr_type.specs.Operands.{Operand, first_of, unstreamed}
 use Rattle.expr_type.specs.Forms.{finds_count, miscounted, needed, with_other_count}
 use Rattle.expr_type.specs.Expressions.{Meaning}
 use Rattle.expr_type.specs.Statements.{Actual, as_value, as_target, actual_by, ways, actuals, is_other_enum, takes_result, is_inout, value_passed, actual_expr, all_actuals, call_stmt_of, counted_call, call_stmt}
-use Rattle.expr_type.specs.Placed.{OperandStands, RoutinesInOrder, Stands, StandsTyping}
+use Rattle.expr_type.specs.Placed.{OperandStands, RoutinesInOrder, Stands}
 use Rattle.expr_type.proofs.Placing.{wider, placed-from}
 use Rattle.expr_type.proofs.Ordering.{place}
 use Rattle.order_laws.specs.Meanings.{ExprInOrder, TargetIf}
@@ -124,9 +122,9 @@ counted-in k of es low high rs h m p =
     (λ c as'. rule (call_stmt_of k of.name c as')) low (suc of.name) high (omega arith) (omega arith) (needed-in k of.name (k.finds of) low rs h)
     (λ o u. actuals-in k (ways o) es (suc of.name) high rs p) (λ c as' u s fs. call-stands k of.name c as' low high h m s)
 
-miscounted-in : {A B : Type 0} (P : A → Type 0) (k : Context) (at : ℕ) (x : Checked Called) (y : Checked A) (low high : ℕ) → low ≤ at → at < high
+miscounted-in : {A : Type 0} (P : A → Type 0) (k : Context) (at : ℕ) (x : Checked Called) (y : Checked A) (low high : ℕ) → low ≤ at → at < high
     → PlacedAs (λ c. Unit {0}) k.source.instance low (suc at) x → PlacedAs P k.source.instance (suc at) high y
-    → PlacedAs (λ (b : B). Unit {0}) k.source.instance low high (miscounted (position k.source at) x y)
+    → PlacedAs (λ (s : R.Stmt). Unit {0}) k.source.instance low high (miscounted (position k.source at) x y)
 miscounted-in P k at x (Ok as') low high h m p q = place k.source at low high h m
 miscounted-in P k at (Ok c) (Err b) low high h m p q = wider b k.source.instance (suc at) high low high (omega arith) (omega arith) q
 miscounted-in P k at (Err a) (Err b) low high h m p q = (suc at, omega arith, omega arith, p, q)
