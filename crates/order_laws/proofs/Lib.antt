@@ -3,6 +3,10 @@ pub mod Typings
 pub mod Parts
 pub mod Targets
 pub mod Given
+pub mod Meant
+pub mod Operands
+pub mod Casts
+pub mod Patterns
 pub mod Declared
 pub mod Assignments
 pub mod Statements
