@@ -14,3 +14,4 @@ pub mod Loops
 pub mod TaskCalls
 pub mod Walk
 pub mod Routines
+pub mod TypeTexts

@@ -17,7 +17,7 @@ use Rattle.order_laws.specs.Ordered as O
 use Rattle.order_laws.specs.Ordered.{Tokens, in_row, scope_tokens, name_tokens, expr_tokens, exprs_tokens, selects_tokens, type_tokens, declarators_tokens, start_tokens, loop_step_tokens, stmt_tokens, block_item_tokens, case_item_tokens, else_tokens, items_tokens}
 use Rattle.order_laws.proofs.Tokens.{split}
 use Rattle.order_laws.proofs.Typings.{Each, any-from}
-use Rattle.order_laws.proofs.Parts.{Ordered, PartsInOrder, each-in-row, each-known, each-of}
+use Rattle.order_laws.proofs.Parts.{Ordered, PartsInOrder, each-in-row, each-known, each-of, named}
 use Rattle.order_laws.proofs.Assignments.{assign-in, counted-in}
 use Rattle.order_laws.proofs.Declared.{KeepsOrder, parameters-in, selected-in, text-in, variables-in}
 use Rattle.order_laws.proofs.Loops.{loop-in}
@@ -29,19 +29,6 @@ case_meaning = fold-CaseItem PartMeaning CaseMeaning StmtMeaning StmtMeaning T.i
 
 abbrev pub else_meaning : Else → StmtMeaning
 else_meaning = fold-Else PartMeaning CaseMeaning StmtMeaning StmtMeaning T.item_step T.case_step T.stmt_step T.else_step
-
--- a name, and what stands behind it
-record Named (low high : ℕ) (of : QualifiedName) (ts : List ℕ) : Type 0 where
-  from : low ≤ of.name
-  before : of.name < high
-  behind : Ascend (suc of.name) high ts
-
-named : (of : QualifiedName) (ts : List ℕ) (low high : ℕ) → Ascend low high (name_tokens of ++ ts) → Named low high of ts
-named of ts low high a = by of.scope a
-  where
-    by : (o : Option PackageScope) → Ascend low high ((scope_tokens o ++ (of.name ∷ [])) ++ ts) → Named low high of ts
-    by None b = record { from = b.0; before = b.1; behind = b.2 }
-    by (Some s) b = record { from = let c = b.0 in let d = b.2.0 in omega arith; before = b.2.1; behind = b.2.2 }
 
 module _ (parts : PartsInOrder) where
   each-expr : (es : List Expr) (low high : ℕ) → low ≤ high → Ascend low high (exprs_tokens es) → Each ExprInOrder low high (map meaning es)
