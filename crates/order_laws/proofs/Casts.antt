@@ -41,10 +41,10 @@ module _ (k : Source) where
   size-stands first n p low high h m l t =
       too-long k low high (Stands low high) p.0 n (Ok (by_itself k first (vector n (is_signed p.1)) (F.Cast p.1.expr))) l t (leaf k first low high (vector n (is_signed p.1)) (F.Cast p.1.expr) h m)
 
-  pub size-holds : (first : ℕ) (x : Typing Operand) (j : Typing Inside) (low between high : ℕ) → low ≤ first → first < high → low ≤ between → between ≤ high
+  pub size-typing : (first : ℕ) (x : Typing Operand) (j : Typing Inside) (low between high : ℕ) → low ≤ first → first < high → low ≤ between → between ≤ high
       → OperandTyping k.instance low between x → TypedAs (InsideStands k.instance between high) k.instance between high j
       → TypedAs (Stands low high) k.instance low high (by_size k first x j)
-  size-holds first x j low between high h m l t p q =
+  size-typing first x j low between high h m l t p q =
       as-both k.instance (NumberStands low between) (BitsStand between high) (Stands low high) (number_within k (pos 1) most_of_size x) (bits_inside k j)
       (λ n b. rule (size_cast k first (unsigned_abs n.number) b)) low between high l t
       (number-typing k low between (pos 1) most_of_size x p) (inside-bits j between high q)
@@ -55,16 +55,16 @@ module _ (k : Source) where
       let n = D.decimal (word k at) in
       as-refused k.instance Anything (n == 0 || nat_le (2 ^ 32) n) (position k at) 411 (Ok n) at (suc at) (place k at at (suc at) (omega arith) (omega arith)) tt
 
-  pub written-holds : (at : ℕ) (j : Typing Inside) (high : ℕ) → at < high → TypedAs (InsideStands k.instance (suc at) high) k.instance (suc at) high j
+  pub written-typing : (at : ℕ) (j : Typing Inside) (high : ℕ) → at < high → TypedAs (InsideStands k.instance (suc at) high) k.instance (suc at) high j
       → TypedAs (Stands at high) k.instance at high (by_written_size k at j)
-  written-holds at j high h q =
+  written-typing at j high h q =
       as-both k.instance Anything (BitsStand (suc at) high) (Stands at high) (rule (written_size k at)) (bits_inside k j) (λ n b. rule (size_cast k at n b)) at (suc at) high
       (omega arith) (omega arith) (λ fs. written-stands at) (inside-bits j (suc at) high q)
       (λ n b s r fs. size-stands at n b at high (omega arith) h (let a = r.0 in omega arith) r.1)
 
-  pub sign-holds : (first : ℕ) (signed : Bool) (j : Typing Inside) (low high : ℕ) → low ≤ first → first < high → TypedAs (InsideStands k.instance low high) k.instance low high j
+  pub sign-typing : (first : ℕ) (signed : Bool) (j : Typing Inside) (low high : ℕ) → low ≤ first → first < high → TypedAs (InsideStands k.instance low high) k.instance low high j
       → TypedAs (Stands low high) k.instance low high (by_sign k first signed j)
-  sign-holds first signed j low high h m q =
+  sign-typing first signed j low high h m q =
       as-checked k.instance (BitsStand low high) (Stands low high) (bits_inside k j) (λ p. whole (with_sign k first signed p.1)) low high (inside-bits j low high q)
       (λ p s fs. leaf k first low high (vector (width p.1) signed) (F.Cast p.1.expr) h m)
 
@@ -98,9 +98,9 @@ module _ (k : Source) where
         by true = pattern-stands t j.of s.2
         by false = converted-stands j.tick t j.of s.0 s.1 s.2
 
-  pub type-holds : (first : ℕ) (t : Typing SvType) (j : Typing Inside) (low between high : ℕ) → low ≤ first → first < high → low ≤ between → between ≤ high
+  pub type-typing : (first : ℕ) (t : Typing SvType) (j : Typing Inside) (low between high : ℕ) → low ≤ first → first < high → low ≤ between → between ≤ high
       → TypedAs Anything k.instance low between t → TypedAs (InsideStands k.instance between high) k.instance between high j
       → TypedAs (Stands low high) k.instance low high (by_type k first t j)
-  type-holds first t j low between high h m l n p q =
+  type-typing first t j low between high h m l n p q =
       as-both k.instance Anything (InsideStands k.instance between high) (Stands low high) t j (λ u i. rule (type_cast k first u i)) low between high l n p q
       (λ u i s r fs. type-stands first low high h m u i (let a = r.0 in omega arith, r.1, operand-wider k.instance i.of between high low high l (omega arith) r.2))

@@ -7,11 +7,13 @@ pub mod Meant
 pub mod Operands
 pub mod Casts
 pub mod Patterns
+pub mod Selects
+pub mod Forms
 pub mod Declared
 pub mod Assignments
 pub mod Statements
 pub mod Loops
 pub mod TaskCalls
+pub mod TypeTexts
 pub mod Walk
 pub mod Routines
-pub mod TypeTexts

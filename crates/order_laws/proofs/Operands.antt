@@ -52,13 +52,16 @@ module _ (i low high : ℕ) where
   operands x p fs = operand-as (x fs).result (p fs)
 
 -- wider parts
+pub typed-wider : {A : Type 0} (i : ℕ) (P : A → Type 0) (x : Typing A) (low high low' high' : ℕ) → low' ≤ low → high ≤ high' → TypedAs P i low high x → TypedAs P i low' high' x
+typed-wider i P x low high low' high' h m p fs = as-wider i P P (x fs).result low high low' high' h m (λ a s. s) (p fs)
+
 operand-if-wider : (i : ℕ) (x : Checked Operand) (low high low' high' : ℕ) → low' ≤ low → high ≤ high' → OperandIf i low high x → OperandIf i low' high' x
 operand-if-wider i x low high low' high' h m p =
-    operand-as i low' high' x (as-wider i (OperandStands i low high) (OperandStands i low' high') x low high low' high' h m (λ o s. operand-wider i o low high low' high' h m s) (as x p))
+    operand-as i low' high' x (as-wider i (OperandStands i low high) (OperandStands i low' high') x low high low' high' h m (λ o s. operand-wider i o low high low' high' h m s) (held x p))
   where
-    as : (y : Checked Operand) → OperandIf i low high y → PlacedAs (OperandStands i low high) i low high y
-    as (Ok o) s = s
-    as (Err b) s = s
+    held : (y : Checked Operand) → OperandIf i low high y → PlacedAs (OperandStands i low high) i low high y
+    held (Ok o) s = s
+    held (Err b) s = s
 
 pub in-order-wider : (e : Meaning) (low high low' high' : ℕ) → low' ≤ low → high ≤ high' → InOrder low high e → InOrder low' high' e
 in-order-wider e low high low' high' h m p k rs fs = operand-if-wider k.source.instance (e.typed k fs).result low high low' high' h m (p k rs fs)

@@ -84,16 +84,15 @@ key-placed k t (Numbered n) low high s = tt
 abbrev keys-of : Context → SvType → List Item → List (Checked (Option Key))
 keys-of k t items = map (λ (i : Item). key_in k t i.key) (keyed items)
 
+keys-more : (k : Context) (t : SvType) (x : Item) (xs : List Item) (b : Bool) (low between high : ℕ) → low ≤ between → between ≤ high → Placed k.source.instance low between (key_in k t x.key)
+    → Placed k.source.instance between high (all_of (keys-of k t xs)) → Placed k.source.instance low high (all_of (map (λ (i : Item). key_in k t i.key) (cond b (x ∷ keyed xs) (keyed xs))))
+keys-more k t x xs true low between high h m p q = placed-more k.source.instance (key_in k t x.key) (keys-of k t xs) low between high h m p q
+keys-more k t x xs false low between high h m p q = placed-wider k.source.instance (all_of (keys-of k t xs)) between high low high h (omega arith) q
+
 keys-placed : (k : Context) (t : SvType) (items : List Item) (low high : ℕ) → Each (ItemStands k.source.instance) low high items → Placed k.source.instance low high (all_of (keys-of k t items))
 keys-placed k t [] low high p = tt
-keys-placed k t (x ∷ xs) low high p = by (not (is_default x.key))
-  where
-    rest : Placed k.source.instance p.0 high (all_of (keys-of k t xs))
-    rest = keys-placed k t xs p.0 high p.4
-
-    by : (b : Bool) → Placed k.source.instance low high (all_of (map (λ (i : Item). key_in k t i.key) (cond b (x ∷ keyed xs) (keyed xs))))
-    by true = placed-more k.source.instance (key_in k t x.key) (keys-of k t xs) low p.0 high p.1 p.2 (key-placed k t x.key low p.0 p.3.0) rest
-    by false = placed-wider k.source.instance (all_of (keys-of k t xs)) p.0 high low high p.1 (omega arith) rest
+keys-placed k t (x ∷ xs) low high p =
+    keys-more k t x xs (not (is_default x.key)) low p.0 high p.1 p.2 (key-placed k t x.key low p.0 p.3.0) (keys-placed k t xs p.0 high p.4)
 
 -- values, each given to the types that take it
 tried-placed : (k : Source) (v : Operand) (ts : List SvType) (low high : ℕ) → OperandStands k.instance low high v → Placed k.instance low high (tried k v ts)
@@ -101,20 +100,18 @@ tried-placed k v [] low high s =
     placed-then k.instance (is_value k v) (λ u. Ok []) low high (placed-in k.instance low high (Stands low high) (is_value k v) (value-stands k low high v s)) (λ u. tt)
 tried-placed k v (t ∷ ts) low high s = least-placed k.instance (λ u. passed k u v) (t ∷ ts) low high (λ u. placed-in k.instance low high Anything (passed k u v) (passed-stands k low high u v s))
 
+tries-more : (k : Source) (x : Item) (ts us : List SvType) (ys zs : List (Checked (List Expr))) (b : Bool) (low between high : ℕ) → low ≤ between → between ≤ high
+    → OperandStands k.instance low between x.value → Placed k.instance between high (all_of ys) → Placed k.instance between high (all_of zs)
+    → Placed k.instance low high (all_of (cond b (tried k x.value ts ∷ ys) (tried k x.value us ∷ zs)))
+tries-more k x ts us ys zs true low between high h m s p q = placed-more k.instance (tried k x.value ts) ys low between high h m (tried-placed k x.value ts low between s) p
+tries-more k x ts us ys zs false low between high h m s p q = placed-more k.instance (tried k x.value us) zs low between high h m (tried-placed k x.value us low between s) q
+
 tries-placed : (k : Source) (count : ℕ) (rest : Rest) (ps : List Taken) (n : ℕ) (items : List Item) (low high : ℕ) → Each (ItemStands k.instance) low high items
     → Placed k.instance low high (all_of (tries k count rest ps n items))
 tries-placed k count rest ps n [] low high p = tt
-tries-placed k count rest ps n (x ∷ xs) low high p = by (is_default x.key)
-  where
-    more : (ts : List SvType) (m : ℕ) → Placed k.instance low high (all_of (tried k x.value ts ∷ tries k count rest ps m xs))
-    more ts m =
-        placed-more k.instance (tried k x.value ts) (tries k count rest ps m xs) low p.0 high p.1 p.2 (tried-placed k x.value ts low p.0 p.3.1)
-        (tries-placed k count rest ps m xs p.0 high p.4)
-
-    by : (b : Bool) → Placed k.instance low high (all_of (cond b (tried k x.value (flat_map (default_types rest) ps) ∷ tries k count rest ps n xs)
-        (tried k x.value (by_item count n ps) ∷ tries k count rest ps (suc n) xs)))
-    by true = more (flat_map (default_types rest) ps) n
-    by false = more (by_item count n ps) (suc n)
+tries-placed k count rest ps n (x ∷ xs) low high p =
+    tries-more k x (flat_map (default_types rest) ps) (by_item count n ps) (tries k count rest ps n xs) (tries k count rest ps (suc n) xs) (is_default x.key) low p.0 high p.1 p.2 p.3.1
+    (tries-placed k count rest ps n xs p.0 high p.4) (tries-placed k count rest ps (suc n) xs p.0 high p.4)
 
 -- how much is taken
 length-over : {A : Type 0} (n : ℕ) (xs : List A) → length (times_over n xs) ≡ n * length xs
