@@ -102,14 +102,18 @@ module _ (k : Source) (low high : ℕ) where
   passed-stands t (Stream v) s = place k v.first low high s.from s.before
 
   -- constants
-  pub constant-ours : {A : Type 0} (first : ℕ) (fs : List Function) (e : Expr) (other : Checked A) → low ≤ first → first < high → Ours other → Ours (is_constant k first fs e other)
-  constant-ours first fs e other h m p =
+  pub constant-as : {A : Type 0} (P : A → Type 0) (first : ℕ) (fs : List Function) (e : Expr) (other : Checked A) → low ≤ first → first < high → PlacedAs P k.instance low high other
+      → PlacedAs P k.instance low high (is_constant k first fs e other)
+  constant-as P first fs e other h m p =
       let at = place k first low high h m in
-      as-refused k.instance (λ a. Unit {0}) (names_any e) (position k first) 406 _ low high at
-      (as-then k.instance (λ p. Unit {0} × Unit {0}) (λ a. Unit {0}) (lesser other (calls_no_stream k first fs e)) (λ q. refused (stops fs e) (position k first) 608 (Ok q.0)) low high
-      (as-lesser k.instance (λ a. Unit {0}) (λ e. Unit {0}) other (calls_no_stream k first fs e) low high p
+      as-refused k.instance P (names_any e) (position k first) 406 _ low high at
+      (as-then k.instance (λ q. P q.0 × Unit {0}) P (lesser other (calls_no_stream k first fs e)) (λ q. refused (stops fs e) (position k first) 608 (Ok q.0)) low high
+      (as-lesser k.instance P (λ e. Unit {0}) other (calls_no_stream k first fs e) low high p
       (as-refused k.instance (λ e. Unit {0}) (holds_stream fs e) (position k first) 512 (Ok e) low high at tt))
-      (λ q u. as-refused k.instance (λ a. Unit {0}) (stops fs e) (position k first) 608 (Ok q.0) low high at tt))
+      (λ q u. as-refused k.instance P (stops fs e) (position k first) 608 (Ok q.0) low high at u.0))
+
+  pub constant-ours : {A : Type 0} (first : ℕ) (fs : List Function) (e : Expr) (other : Checked A) → low ≤ first → first < high → Ours other → Ours (is_constant k first fs e other)
+  constant-ours first fs e other h m p = constant-as (λ a. Unit {0}) first fs e other h m p
 
   stream-ours : {A : Type 0} (P : A → Type 0) (v : Valued) → Stands low high v → PlacedAs P k.instance low high (constant_stream {A = A} k v)
   stream-ours P v s =

@@ -13,3 +13,12 @@ pub mod Items
 pub mod Names
 pub mod Plain
 pub mod Expressions
+pub mod TypeTexts
+pub mod Together
+pub mod Declared
+pub mod Assignments
+pub mod Statements
+pub mod Loops
+pub mod TaskCalls
+pub mod Walk
+pub mod Routines

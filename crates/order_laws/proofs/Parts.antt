@@ -1,9 +1,11 @@
 -- Trees whose tokens ascend in a part of a text, and what stands behind one another in it.
-use Rattle.std.proofs.Common.{ℕ, ◌≤◌, List, [], ◌∷◌, map, Option, Some, None}
+use Rattle.std.proofs.Common.{ℕ, suc, ◌≤◌, ◌<◌, ◌++◌, List, [], ◌∷◌, map, Option, Some, None, arith}
+use Rattle.sv_tree.specs.Extents.{qualified_first, scoped_first}
 use Rattle.sv_tree.specs.declared.expressions.Dimension.{Dimension}
 use Rattle.sv_tree.specs.declared.expressions.Expr.{Expr}
 use Rattle.sv_tree.specs.declared.expressions.Select.{Select}
 use Rattle.sv_tree.specs.declared.expressions.SliceSize.{SliceSize}
+use Rattle.sv_tree.specs.declared.names.PackageScope.{PackageScope}
 use Rattle.sv_tree.specs.declared.names.QualifiedName.{QualifiedName}
 use Rattle.sv_tree.specs.declared.types.TypeText.{TypeText}
 use Rattle.expr_type.specs.Names.{Context}
@@ -12,7 +14,7 @@ use Rattle.expr_type.specs.Types.{dims, typed_text}
 use Rattle.expr_type.specs.Targets.{simple_name}
 use Rattle.expr_type.specs.Placed.{Ascend, PlacedTyping, RoutinesInOrder, SelectsInOrder}
 use Rattle.order_laws.specs.Meanings.{ExprInOrder, DimsTyping, TypeIf}
-use Rattle.order_laws.specs.Ordered.{Tokens, in_row, expr_tokens, selects_tokens, slice_tokens, dims_tokens, type_tokens}
+use Rattle.order_laws.specs.Ordered.{Tokens, in_row, scope_tokens, name_tokens, expr_tokens, selects_tokens, slice_tokens, dims_tokens, type_tokens}
 use Rattle.order_laws.proofs.Tokens.{split}
 use Rattle.order_laws.proofs.Typings.{Each}
 
@@ -51,3 +53,21 @@ each-known tokens P [] low high h a = h
 each-known tokens P (y ∷ ys) low high h a =
     let s = split (tokens y.0) (in_row (map tokens (map (λ z. z.0) ys))) low high h a in
     (s.between, s.from, s.to, y.1 low s.between s.from s.before, each-known tokens P ys s.between high s.to s.behind)
+
+-- a name, and what stands behind it
+pub record Named (low high : ℕ) (of : QualifiedName) (ts : List ℕ) : Type 0 where
+  pub begins : low ≤ qualified_first of
+  pub ends : qualified_first of < high
+  pub from : low ≤ of.name
+  pub before : of.name < high
+  pub behind : Ascend (suc of.name) high ts
+
+pub named : (of : QualifiedName) (ts : List ℕ) (low high : ℕ) → Ascend low high (name_tokens of ++ ts) → Named low high of ts
+named of ts low high a =
+    let n = by of.scope a in
+    record { begins = n.0; ends = n.1; from = n.2; before = n.3; behind = n.4 }
+  where
+    by : (o : Option PackageScope) → Ascend low high ((scope_tokens o ++ (of.name ∷ [])) ++ ts)
+        → (low ≤ scoped_first o of.name) × (scoped_first o of.name < high) × (low ≤ of.name) × (of.name < high) × Ascend (suc of.name) high ts
+    by None b = (b.0, b.1, b.0, b.1, b.2)
+    by (Some s) b = let c = b.0 in let d = b.2.0 in (c, b.1, omega arith, b.2.1, b.2.2)

@@ -12,12 +12,10 @@ use Rattle.sv_tree.specs.declared.statements.Lvalue.{Lvalue, Lvalue-F, roll-Lval
 use Rattle.sv_types.specs.declared.expression.Form.{Form}
 use Rattle.sv_types.specs.declared.expression.Form.TheVariants as T
 use Rattle.sv_types.specs.declared.frame.SignalId.{SignalId}
-use Rattle.sv_types.specs.declared.statement.Function.{Function}
 use Rattle.sv_types.specs.declared.types.SvType.{SvType}
 use Rattle.sv_types.specs.Layouts.{width_of}
-use Rattle.expr_type.specs.Breaks.{At, Quiet, Position}
-use Rattle.expr_type.specs.Breaks as B
-use Rattle.expr_type.specs.Typings.{Checked, Typing, broken, both, checked, all, refused, rule, where_whole, whole}
+use Rattle.expr_type.specs.Breaks.{Quiet}
+use Rattle.expr_type.specs.Typings.{Checked, Typing, broken, both, checked, all, refused, rule, whole}
 use Rattle.expr_type.specs.Shapes.{most_bits, is_enum, is_indexed, is_unpacked, element_of, members_of, vector}
 use Rattle.expr_type.specs.Names as N
 use Rattle.expr_type.specs.Names.{Context, Source, Thing, position, thing, word, member_in}
@@ -33,7 +31,7 @@ use Rattle.expr_type.specs.Expressions.{select_meaning, slice_meaning}
 use Rattle.expr_type.specs.TargetNames as R
 use Rattle.expr_type.specs.TargetNames.{named_target}
 use Rattle.expr_type.specs.Targets.{Target, ToPath, ToParts, ToStream, TargetMeaning, TargetPart, whole_of, is_target_part, joined_target, stream_target, slice_or_one, simple_name, target, target_step}
-use Rattle.expr_type.specs.Placed.{Ascend, Stands, StepStands, StepIf, MemberStands, SelectInOrder, SelectsInOrder, RoutinesInOrder}
+use Rattle.expr_type.specs.Placed.{Ascend, Stands, StepStands, StepIf, MemberStands, SelectsInOrder, RoutinesInOrder}
 use Rattle.expr_type.proofs.Ordering.{ascend-wider, place}
 use Rattle.order_laws.specs.Ordered.{Tokens, in_row, if_there, slice_tokens, lvalue_step, lvalue_tokens}
 use Rattle.order_laws.proofs.Tokens.{split}
