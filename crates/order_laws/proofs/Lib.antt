@@ -8,6 +8,8 @@ pub mod Operands
 pub mod Casts
 pub mod Patterns
 pub mod Selects
+pub mod Names
+pub mod Items
 pub mod Forms
 pub mod Declared
 pub mod Assignments
@@ -17,3 +19,4 @@ pub mod TaskCalls
 pub mod TypeTexts
 pub mod Walk
 pub mod Routines
+pub mod Laws
