@@ -57,6 +57,22 @@ standing-wider i x low high low' high' h m p =
     standing i low' high' x
     (λ fs. as-wider i (Stands low high) (Stands low' high') (x fs).result low high low' high' h m (λ v s. stands-wider v low high low' high' h m s) (as-stands i low high (x fs).result (p fs)))
 
+target-wider : (i : ℕ) (o : Option (Typing Valued)) (low high low' high' : ℕ) → low' ≤ low → high ≤ high' → TargetIf i low high o → TargetIf i low' high' o
+target-wider i None low high low' high' h m p = tt
+target-wider i (Some t) low high low' high' h m p = standing-wider i t low high low' high' h m p
+
+alone-wider : (o : Option QualifiedName) (low high low' high' : ℕ) → low' ≤ low → high ≤ high' → AloneIf low high o → AloneIf low' high' o
+alone-wider None low high low' high' h m p = tt
+alone-wider (Some q) low high low' high' h m p = (omega arith, let a = p.1 in omega arith)
+
+pub expr-wider : (e : Meaning) (low high low' high' : ℕ) → low' ≤ low → high ≤ high' → ExprInOrder low high e → ExprInOrder low' high' e
+expr-wider e low high low' high' h m p = record {
+  typed = in-order-wider e low high low' high' h m p.typed;
+  as_type = λ k rs. type-wider k.source.instance (e.as_type k) low high low' high' h m (p.as_type k rs);
+  as_target = λ k rs. target-wider k.source.instance (e.as_target k) low high low' high' h m (p.as_target k rs);
+  alone = alone-wider e.alone low high low' high' h m p.alone;
+}
+
 -- a name as a target
 actual-target : (k : Context) (of : QualifiedName) (ss : List SelectMeaning) (low high : ℕ) → RoutinesInOrder k → low ≤ qualified_first of → qualified_first of ≤ of.name → of.name < high
     → Each SelectStands (suc of.name) high ss → StandsTyping k.source.instance low high (actual_target k of ss)
@@ -111,7 +127,7 @@ packed-typing k low high x p =
 joined-typing : (k : Source) (opening : ℕ) (xs : List (Typing Valued)) (low high : ℕ) → low ≤ opening → opening < high → AllTargets k.instance (suc opening) high xs
     → StandsTyping k.instance low high (checked (all (map (packed_target k) xs)) (λ vs. rule (concat_of k opening (exprs vs))))
 joined-typing k opening xs low high h m p =
-    standing k.instance low high _
+    standing k.instance low high (checked (all (map (packed_target k) xs)) (λ vs. rule (concat_of k opening (exprs vs))))
     (as-checked k.instance Anything (Stands low high) (all (map (packed_target k) xs)) (λ vs. rule (concat_of k opening (exprs vs))) low high
     (any-from k.instance (Each (λ l h x. Anything x) (suc opening) high) (all (map (packed_target k) xs)) (suc opening) high low high (omega arith) (omega arith)
     (as-all k.instance (λ l h x. Anything x) (map (packed_target k) xs) (suc opening) high
@@ -130,4 +146,4 @@ concatenation-form opening es closing low high h m n p = record {
     by : (k : Context) (o : Option (List (Typing Valued))) → IfThere (AllTargets k.source.instance (suc opening) closing) o
         → TargetIf k.source.instance low high (option_map (λ xs. checked (all (map (packed_target k.source) xs)) (λ vs. rule (concat_of k.source opening (exprs vs)))) o)
     by k None q = tt
-    by k (Some xs) q = standing-wider k.source.instance _ low closing low high (omega arith) (omega arith) (joined-typing k.source opening xs low closing h m q)
+    by k (Some xs) q = standing-wider k.source.instance (checked (all (map (packed_target k.source) xs)) (λ vs. rule (concat_of k.source opening (exprs vs)))) low closing low high (omega arith) (omega arith) (joined-typing k.source opening xs low closing h m q)
