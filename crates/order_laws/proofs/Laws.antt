@@ -2,6 +2,7 @@
 use Rattle.std.proofs.Common.{ℕ, ◌≤◌, ◌++◌, List, ◌∷◌, Option, Some, None, false}
 use Rattle.std.specs.Prelude.{Ok, Err}
 use Rattle.sv_tree.specs.declared.expressions.Expr.{Expr}
+use Rattle.sv_tree.specs.declared.operators.AssignmentOperator.TheVariants as A
 use Rattle.sv_types.specs.declared.types.SvType.{SvType}
 use Rattle.expr_type.specs.Typings.{Checked, Typing, rule}
 use Rattle.expr_type.specs.Names.{Context}
@@ -37,7 +38,7 @@ module _ (parts : PartsInOrder) where
     expr = λ e want low high h a k rs. placed-any k.source.instance (typed_expr k e want) low high (expr-in-order e want low high h a k rs);
     text = λ t low high h a k rs. parts.text t low high h a k rs;
     parameters = λ before bs low high h a k rs. placed-any k.source.instance (parameters k before bs) low high (parameters-in parts k before bs low high rs h a);
-    assignment = λ to at e low high h a k rs. placed-any k.source.instance (continuous k to at e) low high (assign-in parts k to false at _ e low high rs h a);
+    assignment = λ to at e low high h a k rs. placed-any k.source.instance (continuous k to at e) low high (assign-in parts k to false at A.Assign e low high rs h a);
     stmt = λ s low high h a k rs. placed-any k.source.instance (typed_stmt k s) low high (stmt-in-order parts s low high h a k rs);
     routines = λ depth k texts. routines-in-order parts depth k texts;
   }

@@ -11,8 +11,6 @@ pub mod Selects
 pub mod Names
 pub mod Items
 pub mod Forms
-pub mod Items
-pub mod Names
 pub mod Plain
 pub mod Expressions
 pub mod TypeTexts
