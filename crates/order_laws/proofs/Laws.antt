@@ -1,16 +1,15 @@
 -- All trees together.
-use Rattle.std.proofs.Common.{ℕ, ◌≤◌, ◌++◌, List, ◌∷◌, Option, Some, None, false}
-use Rattle.std.specs.Prelude.{Ok, Err}
+use Rattle.std.proofs.Common.{ℕ, ◌≤◌, Option, Some, None, false}
+use Rattle.std.specs.Prelude.{Ok}
 use Rattle.sv_tree.specs.declared.expressions.Expr.{Expr}
 use Rattle.sv_tree.specs.declared.operators.AssignmentOperator.TheVariants as A
 use Rattle.sv_types.specs.declared.types.SvType.{SvType}
-use Rattle.expr_type.specs.Typings.{Checked, Typing, rule}
+use Rattle.expr_type.specs.Typings.{rule}
 use Rattle.expr_type.specs.Names.{Context}
 use Rattle.expr_type.specs.Operands.{Operand, is_value}
 use Rattle.expr_type.specs.Expressions.{given_if, operand, typed_expr}
-use Rattle.expr_type.specs.Types.{typed_text}
 use Rattle.expr_type.specs.Statements.{continuous, parameters, typed_stmt}
-use Rattle.expr_type.specs.Placed.{Ascend, OperandStands, PlacedTyping, RoutinesInOrder, Stands}
+use Rattle.expr_type.specs.Placed.{Ascend, OperandStands, RoutinesInOrder, Stands}
 use Rattle.order_laws.specs.Laws.{TreesKeepOrder}
 use Rattle.order_laws.specs.Ordered.{expr_tokens}
 use Rattle.order_laws.proofs.Typings.{PlacedAs, TypedAs, as-checked, as-then, placed-any}

@@ -1,6 +1,5 @@
 -- Functions and tasks keep the order of their own texts, and so do those that they call, at any depth of calls.
 use Rattle.std.proofs.Common.{ℕ, zero, suc, ◌≤◌, ◌<◌, ◌++◌, Bool, true, false, List, [], ◌∷◌, map, Option, Some, None, cond, arith}
-use Rattle.std.specs.Prelude.{Ok, Err}
 use Rattle.sv_tree.specs.declared.expressions.Dimension.{Dimension}
 use Rattle.sv_tree.specs.declared.functions.Formal as G
 use Rattle.sv_tree.specs.declared.functions.FormalDirection.{FormalDirection}
@@ -14,7 +13,7 @@ use Rattle.sv_types.specs.declared.statement.FunctionKind.TheVariants as K
 use Rattle.sv_types.specs.declared.statement.Way.{Way}
 use Rattle.sv_types.specs.Layouts.{width_of}
 use Rattle.expr_type.specs.Breaks.{Quiet}
-use Rattle.expr_type.specs.Typings.{Checked, Typing, broken, checked, rule, whole}
+use Rattle.expr_type.specs.Typings.{Typing, broken, checked, rule, whole}
 use Rattle.expr_type.specs.Shapes.{one_bit}
 use Rattle.expr_type.specs.Names.{Called, Context, Home, RoutineText, OfFunction, OfTask, word}
 use Rattle.expr_type.specs.Types.{TypeFound, typed_text, declared_type}
@@ -145,7 +144,7 @@ module _ (parts : PartsInOrder) where
         p.0,
         p.1,
         placed-any k.source.instance (checked (by_text k n t) appended) p.0 p.1
-        (as-checked k.source.instance (λ f. Unit {0}) (λ c. Unit {0}) (by_text k n t) appended p.0 p.1 (text-in-order k n t p.0 p.1 p.2 p.3 rs) (λ f u gs. tt)) fs,
+            (as-checked k.source.instance (λ f. Unit {0}) (λ c. Unit {0}) (by_text k n t) appended p.0 p.1 (text-in-order k n t p.0 p.1 p.2 p.3 rs) (λ f u gs. tt)) fs,
       )
 
   pub routines-in-order : (depth : ℕ) (k : Context) → TextsAscend k → RoutinesInOrder (record k { routine = routine depth k })
