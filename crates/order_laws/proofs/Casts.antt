@@ -1,5 +1,5 @@
 -- Casts keep the order of the text.
-use Rattle.std.proofs.Common.{ℕ, suc, ◌≤◌, ◌<◌, ◌||◌, ◌==◌, Bool, true, false, ℤ, not, cond, [], arith}
+use Rattle.std.proofs.Common.{ℕ, suc, ◌≤◌, ◌<◌, ◌||◌, ◌==◌, Bool, true, false, not, cond, [], arith}
 use Rattle.std.specs.Prelude.{◌^◌, Ok, nat_le, nat_lt, pos, unsigned_abs}
 use Rattle.sv_types.specs.declared.expression.Expr.{Expr}
 use Rattle.sv_types.specs.declared.expression.Form.TheVariants as F
@@ -13,7 +13,7 @@ use Rattle.expr_type.specs.Operands.{Operand, Plain, Pattern, Stream, bits_in, n
 use Rattle.expr_type.specs.Operators.{by_itself, is_signed, not_too_long}
 use Rattle.expr_type.specs.Placed.{OperandStands, OperandTyping, Stands}
 use Rattle.expr_type.specs.Shapes.{is_assignable, most_bits, vector}
-use Rattle.expr_type.specs.Typings.{Typing, broken, checked, refused, rule, where_whole, whole}
+use Rattle.expr_type.specs.Typings.{Typing, broken, checked, refused, rule, whole}
 use Rattle.expr_type.specs.declared.operand.Valued.{Valued}
 use Rattle.expr_type.proofs.Forms.{leaf}
 use Rattle.expr_type.proofs.Ordering.{place}

@@ -1,5 +1,5 @@
 -- Expressions whose tokens ascend in a part of a text stand in its order.
-use Rattle.std.proofs.Common.{ℕ, suc, ◌≤◌, ◌<◌, ◌++◌, List, [], ◌∷◌, map, Some, None, sym, subst, arith}
+use Rattle.std.proofs.Common.{ℕ, suc, ◌≤◌, ◌++◌, List, [], ◌∷◌, map, Some, None, sym, subst, arith}
 use Rattle.sv_tree.specs.declared.expressions.Cast.{Cast, Cast-F, fold-Cast, roll-Cast, map-Cast, fold-roll-Cast}
 use Rattle.sv_tree.specs.declared.expressions.Dimension.{Dimension, Dimension-F, roll-Dimension, map-Dimension, ind-Dimension, fold-roll-Dimension}
 use Rattle.sv_tree.specs.declared.expressions.Expr.{Expr, Expr-F, roll-Expr, map-Expr, ind-Expr, fold-roll-Expr}
@@ -13,11 +13,9 @@ use Rattle.expr_type.specs.Forms.{SelectMeaning}
 use Rattle.expr_type.specs.Expressions as E
 use Rattle.expr_type.specs.Expressions.{CastMeaning, DimensionMeaning, ItemMeaning, Meaning, PatternMeaning, RangeMeaning, SliceMeaning, dimension_meaning, meaning, select_meaning, slice_meaning}
 use Rattle.expr_type.specs.Placed.{Ascend}
-
 use Rattle.order_laws.specs.Meanings.{ExprInOrder}
 use Rattle.order_laws.specs.Ordered as O
 use Rattle.order_laws.specs.Ordered.{Tokens, cast_tokens, dimension_tokens, expr_tokens, if_there, in_row, name_tokens, pattern_item_tokens, pattern_tokens, range_tokens, select_tokens, slice_tokens}
-
 use Rattle.order_laws.proofs.Forms as F
 use Rattle.order_laws.proofs.Items as I
 use Rattle.order_laws.proofs.Meant.{CastInOrder, DimensionInOrder, ItemInOrder, PatternInOrder, RangeInOrder, SelectStands, SliceInOrder}

@@ -1,8 +1,7 @@
 -- Expressions whose parts stand in the order of the text stand in it: `inside`, streams, patterns, types, casts and system functions.
-use Rattle.std.proofs.Common.{ℕ, suc, ◌≤◌, ◌<◌, ◌++◌, Bool, true, false, cond, List, [], ◌∷◌, map, Option, Some, None, is_none, arith}
-use Rattle.std.specs.Prelude.{Ok, Err, codes, flat_map, nat_lt, pos, unsigned_abs, ◌==◌}
+use Rattle.std.proofs.Common.{ℕ, suc, ◌≤◌, ◌<◌, ◌++◌, Bool, true, false, cond, List, [], ◌∷◌, map, Option, Some, None, arith}
+use Rattle.std.specs.Prelude.{Ok, codes, flat_map, nat_lt}
 use Rattle.std.specs.List.{list_any}
-use Rattle.std.specs.Option.{option_map}
 use Rattle.sv_tree.specs.Extents.{qualified_first, signing_token}
 use Rattle.sv_tree.specs.declared.expressions.Cast.{Cast-F}
 use Rattle.sv_tree.specs.declared.expressions.Expr.{Expr-F}
@@ -19,14 +18,14 @@ use Rattle.expr_type.specs.Breaks.{Breaks}
 use Rattle.expr_type.specs.Expressions.{CastMeaning, DimensionMeaning, Meaning, PatternMeaning, RangeMeaning, SliceMeaning, actuals, cast_step, cast_to_name, expr_step, keyword_dimensions, of_operand, of_value, pattern_operand, slice_or_one, stream, type_of_name, value_range_step}
 use Rattle.expr_type.specs.Forms as F
 use Rattle.expr_type.specs.Forms.{Inside, SelectMeaning, bits_number, bits_of, by_sign, by_size, by_type, by_written_size, is_word, is_signed_by, is_streamed_part, reverses, stream_of, streamed_part, system_call, with_sign}
-use Rattle.expr_type.specs.KeywordTypes.{Dim, keyword_type}
+use Rattle.expr_type.specs.KeywordTypes.{keyword_type}
 use Rattle.expr_type.specs.Names.{Context, Source, position}
 use Rattle.expr_type.specs.Operands.{Operand, Plain, Pattern, Stream, bits_in, too_wide, value, width}
 use Rattle.expr_type.specs.Operators.{Alternative, From, Only, all_bits, both_wide, by_itself, compared, exprs, in_alternative, inside_of, ordered, over, wide_in}
 use Rattle.expr_type.specs.Patterns.{Parts}
 use Rattle.expr_type.specs.Placed.{AllInOrder, Ascend, OperandStands, OperandTyping, RoutinesInOrder, Stands}
-use Rattle.expr_type.specs.Shapes.{integer, is_unpacked, most_arithmetic, one_bit, vector}
-use Rattle.expr_type.specs.Typings.{Checked, Typing, all, at_all, both, broken, checked, refused, rule, unless, whole}
+use Rattle.expr_type.specs.Shapes.{integer, is_unpacked, most_arithmetic, one_bit}
+use Rattle.expr_type.specs.Typings.{Typing, all, at_all, both, checked, rule, unless, whole}
 use Rattle.expr_type.specs.declared.operand.Valued.{Valued}
 use Rattle.expr_type.proofs.Calls as C
 use Rattle.expr_type.proofs.Forms as E
@@ -36,7 +35,7 @@ use Rattle.order_laws.specs.Meanings.{DimsStand, ExprInOrder, TypeIf}
 use Rattle.order_laws.proofs.Casts.{sign-typing, size-typing, type-typing, written-typing}
 use Rattle.order_laws.proofs.Given.{bits-stand, operand-typing}
 use Rattle.order_laws.proofs.Meant.{AlternativeStands, Anything, CastInOrder, DimensionInOrder, InsideStands, PatternInOrder, PartsStand, RangeInOrder, SelectStands, SliceInOrder}
-use Rattle.order_laws.proofs.Operands.{in-order-wider, operands, placed-from, plain-typing, too-long, typed-wider, value-typing}
+use Rattle.order_laws.proofs.Operands.{operands, placed-from, plain-typing, too-long, typed-wider, value-typing}
 use Rattle.order_laws.proofs.Parts.{each-of}
 use Rattle.order_laws.proofs.Patterns.{fitted-placed}
 use Rattle.order_laws.proofs.Selects.{dims-typing, selects-in-order, type-named}

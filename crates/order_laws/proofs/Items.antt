@@ -1,5 +1,5 @@
 -- Patterns and their items keep the order of the text.
-use Rattle.std.proofs.Common.{ℕ, suc, ◌≤◌, ◌<◌, ℤ, List, [], ◌∷◌, map, Option, Some, None, arith}
+use Rattle.std.proofs.Common.{ℕ, ◌≤◌, List, [], ◌∷◌, map, Option, Some, None, arith}
 use Rattle.std.specs.Prelude.{Ok, nat_lt, pos, unsigned_abs, ◌==◌}
 use Rattle.sv_tree.specs.declared.expressions.Pattern.{Pattern-F}
 use Rattle.sv_tree.specs.declared.expressions.PatternItem.{PatternItem-F}
@@ -9,11 +9,11 @@ use Rattle.expr_type.specs.Expressions.{ItemMeaning, Meaning, count, is_count, i
 use Rattle.expr_type.specs.Forms as F
 use Rattle.expr_type.specs.Names.{Context, Source, position}
 use Rattle.expr_type.specs.Operands.{Operand, constant_in, has_bits, is_constant, is_constant_value, number_of, number_within, unstreamed, width}
-use Rattle.expr_type.specs.Patterns.{ByDefault, InPlace, Item, Named, Numbered, Parts}
+use Rattle.expr_type.specs.Patterns.{ByDefault, InPlace, Named, Numbered}
 use Rattle.expr_type.specs.Placed.{OperandStands, RoutinesInOrder, Stands}
 use Rattle.expr_type.specs.Selects.{is_index, most_of_index}
 use Rattle.expr_type.specs.Shapes.{is_unpacked}
-use Rattle.expr_type.specs.Typings.{Typing, all, both, by_functions, checked, rule, where_whole, whole}
+use Rattle.expr_type.specs.Typings.{all, both, by_functions, checked, rule, where_whole, whole}
 use Rattle.expr_type.specs.declared.operand.Valued.{Valued}
 use Rattle.expr_type.proofs.Ordering.{place}
 use Rattle.order_laws.specs.Meanings.{AloneIf, ExprInOrder}

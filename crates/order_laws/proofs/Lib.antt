@@ -8,9 +8,9 @@ pub mod Operands
 pub mod Casts
 pub mod Patterns
 pub mod Selects
-pub mod Forms
-pub mod Items
 pub mod Names
+pub mod Items
+pub mod Forms
 pub mod Plain
 pub mod Expressions
 pub mod TypeTexts
@@ -22,3 +22,4 @@ pub mod Loops
 pub mod TaskCalls
 pub mod Walk
 pub mod Routines
+pub mod Laws

@@ -6,15 +6,14 @@ use Rattle.sv_tree.specs.Extents.{qualified_first, scoped_first}
 use Rattle.sv_tree.specs.declared.expressions.Expr.{Expr-F}
 use Rattle.sv_tree.specs.declared.names.PackageScope.{PackageScope}
 use Rattle.sv_tree.specs.declared.names.QualifiedName.{QualifiedName}
-use Rattle.sv_types.specs.declared.expression.Form.TheVariants as T
 use Rattle.sv_types.specs.declared.types.SvType.{SvType}
 use Rattle.expr_type.specs.Breaks.{At}
-use Rattle.expr_type.specs.Expressions.{Meaning, expr_step, if_all, joined_targets, name_alone, type_of_name}
+use Rattle.expr_type.specs.Expressions.{Meaning, expr_step, if_all, name_alone, type_of_name}
 use Rattle.expr_type.specs.Forms.{SelectMeaning}
 use Rattle.expr_type.specs.Names.{Context, Source, position, thing}
-use Rattle.expr_type.specs.Operators.{all_bits, by_itself, concat_of, exprs}
+use Rattle.expr_type.specs.Operators.{all_bits, concat_of, exprs}
 use Rattle.expr_type.specs.Placed.{Ascend, RoutinesInOrder, Stands, StandsTyping}
-use Rattle.expr_type.specs.Shapes.{is_unpacked, vector}
+use Rattle.expr_type.specs.Shapes.{is_unpacked}
 use Rattle.expr_type.specs.TargetNames.{actual_target, is_net_thing, is_packed_target, named_target, packed_target}
 use Rattle.expr_type.specs.Typings.{Typing, all, broken, checked, rule}
 use Rattle.expr_type.specs.declared.operand.Valued.{Valued}
@@ -29,7 +28,7 @@ use Rattle.order_laws.proofs.Operands.{as-stands, in-order-wider, placed-from, s
 use Rattle.order_laws.proofs.Parts.{each-of}
 use Rattle.order_laws.proofs.Selects.{selects-in-order, type-named}
 use Rattle.order_laws.proofs.Targets.{IsPath, named-stands, stands-wider}
-use Rattle.order_laws.proofs.Typings.{Each, IfThere, PlacedAs, TypedAs, any-from, any-typing, as-all, as-checked, as-refused, as-wider}
+use Rattle.order_laws.proofs.Typings.{Each, IfThere, TypedAs, any-from, any-typing, as-all, as-checked, as-refused, as-wider}
 
 -- where a name stands, and what stands behind it
 pub record NameStands (low high : ℕ) (o : Option PackageScope) (name : ℕ) (rest : List ℕ) : Type 0 where

@@ -1,5 +1,5 @@
 -- Operands, numbers and values of a part of a text, as typings that give them.
-use Rattle.std.proofs.Common.{ℕ, ◌≤◌, ◌<◌, ℤ, arith}
+use Rattle.std.proofs.Common.{ℕ, ◌≤◌, ◌<◌, ℤ}
 use Rattle.std.specs.Prelude.{Ok, Err, nat_lt}
 use Rattle.expr_type.specs.Expressions.{Meaning}
 use Rattle.expr_type.specs.Forms as F
@@ -17,7 +17,6 @@ use Rattle.expr_type.proofs.Forms.{NumberIf, number-stands-in, plain-stands}
 use Rattle.expr_type.proofs.Ordering.{place}
 use Rattle.order_laws.proofs.Given.{bits-stand, operand-typing, operand-wider, value-stands}
 use Rattle.order_laws.proofs.Meant.{NumberStands}
-use Rattle.order_laws.proofs.Targets.{stands-wider}
 use Rattle.order_laws.proofs.Typings.{PlacedAs, TypedAs, as-checked, as-refused, as-wider}
 
 -- other ways to say it

@@ -1,6 +1,5 @@
 -- Functions and tasks keep the order of their own texts, and so do those that they call, at any depth of calls.
 use Rattle.std.proofs.Common.{ℕ, zero, suc, ◌≤◌, ◌<◌, ◌++◌, Bool, true, false, List, [], ◌∷◌, map, Option, Some, None, cond, arith}
-use Rattle.std.specs.Prelude.{Ok, Err}
 use Rattle.sv_tree.specs.declared.expressions.Dimension.{Dimension}
 use Rattle.sv_tree.specs.declared.functions.Formal as G
 use Rattle.sv_tree.specs.declared.functions.FormalDirection.{FormalDirection}
@@ -14,16 +13,17 @@ use Rattle.sv_types.specs.declared.statement.FunctionKind.TheVariants as K
 use Rattle.sv_types.specs.declared.statement.Way.{Way}
 use Rattle.sv_types.specs.Layouts.{width_of}
 use Rattle.expr_type.specs.Breaks.{Quiet}
-use Rattle.expr_type.specs.Typings.{Checked, Typing, broken, checked, rule, whole}
+use Rattle.expr_type.specs.Typings.{Typing, broken, checked, rule, whole}
 use Rattle.expr_type.specs.Shapes.{one_bit}
 use Rattle.expr_type.specs.Names.{Called, Context, Home, RoutineText, OfFunction, OfTask, word}
 use Rattle.expr_type.specs.Types.{TypeFound, typed_text, declared_type}
 use Rattle.expr_type.specs.Statements.{block, item_meaning}
 use Rattle.expr_type.specs.Functions.{way_by, Before, at_first, FormalFound, formal_found, type_if, names_if, typed_formal, type_before, formal_text, before_if, behind_formal, formals, formals_of, behind_formals, ResultFound, function_result, in_body, Head, output_bits, head_of, head, behind_head, function_path, function_of, typed_routine, outside, by_text, known_from, name_of, appended, known_or, routine_text, routine}
 use Rattle.expr_type.specs.Placed.{Ascend, Placed, RoutinesInOrder}
+use Rattle.order_laws.specs.Laws.{AscendsIf, TextsAscend}
 use Rattle.order_laws.specs.Ordered.{dims_tokens, type_tokens, port_tokens, formal_tokens, formals_tokens, result_tokens, items_tokens, routine_tokens}
 use Rattle.order_laws.proofs.Tokens.{split}
-use Rattle.order_laws.proofs.Typings.{PlacedAs, IfThere, any-from, as-both-any, as-checked}
+use Rattle.order_laws.proofs.Typings.{any-from, as-both-any, as-checked, placed-any}
 use Rattle.order_laws.proofs.Parts.{PartsInOrder}
 use Rattle.order_laws.proofs.Declared.{InText, KeepsOrder, declared-in, long-in, text-in}
 use Rattle.order_laws.proofs.Walk.{items-in-order}
@@ -47,17 +47,6 @@ formals-behind : (k : Context) (way : Way) (d : Option FormalDirection) (gs : Li
     → InText k low high (formals (behind_formal k o) (before_if way d o) gs)
 formals-behind k way d gs low high rs rest None = rest k (record { way = way_by way d; of = None }) rs
 formals-behind k way d gs low high rs rest (Some f) = rest (behind_formal k (Some f)) f.before rs
-
--- the routine of a text that stands in order
-abbrev pub Ascends : RoutineText → Type 0
-Ascends t = (low : ℕ) × (high : ℕ) × (low ≤ high) × Ascend low high (routine_tokens t)
-
-abbrev pub TextsAscend : Context → Type 0
-TextsAscend k = (n : ℕ) → IfThere Ascends (k.text n)
-
-placed : {A : Type 0} (i : ℕ) (x : Checked A) (low high : ℕ) → PlacedAs (λ a. Unit {0}) i low high x → Placed i low high x
-placed i (Ok a) low high p = tt
-placed i (Err b) low high p = p
 
 module _ (parts : PartsInOrder) where
   -- a type, with dimensions behind the name
@@ -143,7 +132,7 @@ module _ (parts : PartsInOrder) where
       routine-in (outside k n) (k.home n) t.name (whole (record { kind = K.Routine; of = one_bit; names = [] })) (formals_of t.formals) t.items low (suc t.name) high rs up (omega arith) (omega arith)
       (λ fs. tt) a.2
 
-  one-routine : (k : Context) (n : ℕ) (o : Option RoutineText) → IfThere Ascends o → RoutinesInOrder k → (fs : List Function)
+  one-routine : (k : Context) (n : ℕ) (o : Option RoutineText) → AscendsIf o → RoutinesInOrder k → (fs : List Function)
       → ((i : ℕ) × (low : ℕ) × (high : ℕ) × Placed i low high (routine_text o k n fs).result)
   one-routine k n None p rs fs = (0, 0, 0, tt)
   one-routine k n (Some t) p rs fs = by (known_from 0 (k.home n).instance (name_of t) (function_path (k.home n) (word k.source (name_of t))) fs)
@@ -154,8 +143,8 @@ module _ (parts : PartsInOrder) where
         k.source.instance,
         p.0,
         p.1,
-        placed k.source.instance (checked (by_text k n t) appended fs).result p.0 p.1
-            (as-checked k.source.instance (λ f. Unit {0}) (λ c. Unit {0}) (by_text k n t) appended p.0 p.1 (text-in-order k n t p.0 p.1 p.2 p.3 rs) (λ f u gs. tt) fs),
+        placed-any k.source.instance (checked (by_text k n t) appended) p.0 p.1
+            (as-checked k.source.instance (λ f. Unit {0}) (λ c. Unit {0}) (by_text k n t) appended p.0 p.1 (text-in-order k n t p.0 p.1 p.2 p.3 rs) (λ f u gs. tt)) fs,
       )
 
   pub routines-in-order : (depth : ℕ) (k : Context) → TextsAscend k → RoutinesInOrder (record k { routine = routine depth k })

@@ -19,10 +19,10 @@ use Rattle.expr_type.specs.KeywordTypes.{Dim, keyword_type, named_type}
 use Rattle.expr_type.specs.Literals as L
 use Rattle.expr_type.specs.Names.{Context, Source, position, thing, word}
 use Rattle.expr_type.specs.Operands.{Operand, number_within}
-use Rattle.expr_type.specs.Placed.{MemberStands, OperandTyping, PlacedTyping, RoutinesInOrder, SelectInOrder, SelectsInOrder, Stands, StepIf, StepStands}
+use Rattle.expr_type.specs.Placed.{OperandTyping, RoutinesInOrder, SelectsInOrder, Stands, StepIf, StepStands}
 use Rattle.expr_type.specs.Selects.{bound_in, index_in, width_in}
 use Rattle.expr_type.specs.Shapes.{is_unpacked, most_bits}
-use Rattle.expr_type.specs.Typings.{Checked, Typing, all, broken, checked, rule, whole}
+use Rattle.expr_type.specs.Typings.{Checked, Typing, all, rule, whole}
 use Rattle.expr_type.specs.declared.step.Step.{Step}
 use Rattle.expr_type.specs.declared.step.Step.TheVariants as S
 use Rattle.expr_type.proofs.Forms.{name}

@@ -17,16 +17,14 @@ use Rattle.sv_tree.specs.declared.types.Packing.{Packing}
 use Rattle.sv_tree.specs.declared.types.TypeText.{TypeText, TypeText-F, roll-TypeText, map-TypeText, ind-TypeText, fold-roll-TypeText}
 use Rattle.sv_types.specs.declared.statement.Function.{Function}
 use Rattle.sv_types.specs.declared.types.SvType.{SvType}
-use Rattle.sv_types.specs.declared.types.SvType.TheVariants as V
 use Rattle.sv_types.specs.Layouts.{width_of}
-use Rattle.expr_type.specs.declared.operand.Number.{Number}
 use Rattle.expr_type.specs.declared.operand.Valued.{Valued}
 use Rattle.expr_type.specs.Breaks.{Quiet}
-use Rattle.expr_type.specs.Typings.{Checked, Typing, all, both, both_by, broken, by_functions, checked, refused, rule, where_whole, whole}
+use Rattle.expr_type.specs.Typings.{Checked, Typing, all, both_by, broken, by_functions, checked, refused, rule, whole}
 use Rattle.expr_type.specs.Shapes.{is_unpacked}
 use Rattle.expr_type.specs.Uses.{names_any}
 use Rattle.expr_type.specs.Names.{Context, Source, position, thing, with_values}
-use Rattle.expr_type.specs.Operands.{Operand, constant_in, has_bits, in_range, is_constant, is_constant_value, is_number_in, number_of, number_or}
+use Rattle.expr_type.specs.Operands.{constant_in, has_bits, in_range, is_constant, is_constant_value, is_number_in, number_of, number_or}
 use Rattle.expr_type.specs.Operators.{not_too_long}
 use Rattle.expr_type.specs.KeywordTypes.{Dim, implicit_type, keyword_type, unpacked}
 use Rattle.expr_type.specs.Forms.{dimensioned, type_of_thing, under}
@@ -142,8 +140,8 @@ values-behind k base before ns low high rs rest None = rest k true before None r
 values-behind k base before ns low high rs rest (Some v) = rest (name_behind k base (Some v)) false (before ++ v ∷ []) (Some v.number) rs
 
 module _
-  (exprs : (e : Expr) → Ordered expr_tokens (λ low high e. ExprInOrder low high (meaning e)) e)
-  (dimensions : (ds : List Dimension) → Ordered dims_tokens (λ low high ds. (k : Context) → RoutinesInOrder k → DimsTyping k.source.instance low high (dims k ds)) ds) where
+    (exprs : (e : Expr) → Ordered expr_tokens (λ low high e. ExprInOrder low high (meaning e)) e)
+    (dimensions : (ds : List Dimension) → Ordered dims_tokens (λ low high ds. (k : Context) → RoutinesInOrder k → DimsTyping k.source.instance low high (dims k ds)) ds) where
   dims-stand : (k : Context) (ds : List Dimension) (low high : ℕ) → RoutinesInOrder k → low ≤ high → Ascend low high (dims_tokens ds)
       → TypedAs (DimsStand low high) k.source.instance low high (dims k ds)
   dims-stand k ds low high rs h a fs = by (dims k ds fs).result (dimensions ds low high h a k rs fs)

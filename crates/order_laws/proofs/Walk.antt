@@ -1,8 +1,6 @@
 -- Each statement whose tokens ascend keeps the order of the text.
-use Rattle.std.proofs.Common.{ℕ, suc, ◌≤◌, ◌<◌, ◌++◌, true, List, [], ◌∷◌, map, Option, Some, None, sym, subst, arith}
+use Rattle.std.proofs.Common.{ℕ, suc, ◌≤◌, ◌++◌, true, List, [], ◌∷◌, map, Some, None, sym, subst, arith}
 use Rattle.sv_tree.specs.declared.expressions.Expr.{Expr}
-use Rattle.sv_tree.specs.declared.names.PackageScope.{PackageScope}
-use Rattle.sv_tree.specs.declared.names.QualifiedName.{QualifiedName}
 use Rattle.sv_tree.specs.declared.statements.BlockItem.{BlockItem, BlockItem-F, roll-BlockItem, map-BlockItem, ind-BlockItem, fold-roll-BlockItem}
 use Rattle.sv_tree.specs.declared.statements.CaseItem.{CaseItem, CaseItem-F, fold-CaseItem, roll-CaseItem, map-CaseItem, fold-roll-CaseItem}
 use Rattle.sv_tree.specs.declared.statements.Else.{Else, Else-F, fold-Else, roll-Else, map-Else, fold-roll-Else}
