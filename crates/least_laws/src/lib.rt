@@ -1,0 +1,2 @@
+//! Where breaks stand in a text that is read.
+#![tactic(auto)]
