@@ -1,3 +1,11 @@
 pub mod Tests
 pub mod Spans
 pub mod Rows
+pub mod Grammar
+pub mod TypeRows
+pub mod DeclarationRows
+pub mod StatementRows
+pub mod Levels
+pub mod Lists
+pub mod Expressions
+pub mod Types

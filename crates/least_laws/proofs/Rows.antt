@@ -34,14 +34,14 @@ deep_in None = false
 deep_in (Some row) = row.deep
 
 module _ {h n at to : ℕ} {t : Tree} (r : ℕ) (ss : List Shape) (f : fits_in ss (slice_get table r) ≡ true) (s : Spans h n at t to) (e : row_of t ≡ r) where
-  there : slice_get table r ≡ Some s.row
-  there = ap (slice_get table) (sym e) ∙ s.is_row.is_there
+  has-row : slice_get table r ≡ Some s.row
+  has-row = ap (slice_get table) (sym e) ∙ s.is_row.is_there
 
   pub of-row : Facts ss 0 n t at to
-  of-row = shaped s ss (sym (ap (fits_in ss) there) ∙ f)
+  of-row = shaped s ss (sym (ap (fits_in ss) has-row) ∙ f)
 
   pub of-deep-row : deep_in (slice_get table r) ≡ true → Facts ss 0 (suc n) t at to
-  of-deep-row d = shaped-deep s ss (sym (ap deep_in there) ∙ d) (sym (ap (fits_in ss) there) ∙ f)
+  of-deep-row d = shaped-deep s ss (sym (ap deep_in has-row) ∙ d) (sym (ap (fits_in ss) has-row) ∙ f)
 
 -- what holds of each row of a head
 abbrev pub each_row : (ℕ → Row → Bool) → ℕ → List Row → Bool
@@ -178,15 +178,19 @@ pub fill-span : {h n at to : ℕ} {t : Tree} → is_in h filled ≡ true → Spa
 fill-span {h} {t = t} f s = fill (row-starts h (row_of t) s.row s.is_row f) s.fits
 
 -- nesting is within the limit where there is a token
+by-kind : {P : Type 0} {a b : ℕ} (c : Bool) → nat_lt a b ≡ c → (a < b → P) → (b ≤ a → P) → P
+by-kind true e f g = f (grind (arith, nat_tests, e))
+by-kind false e f g = g (grind (arith, nat_tests, e))
+
 in-limit : {n at to : ℕ} {ps : List Part} {ts : List Tree} → Conforms n ps at ts to → at < to → n ≤ nesting_limit
 in-limit (Conforms.ended e) h = absurd (omega (arith, e))
 in-limit (Conforms.symbol e l is c) h = l
-in-limit (Conforms.node {n = n} {at = at} {mid = mid} {row = row} e there is c d) h = by (nat_lt at mid) refl
-  where
-    by : (b : Bool) → nat_lt at mid ≡ b → n ≤ nesting_limit
-    by true f = let a : at < mid = grind (arith, nat_tests, f) in let i = in-limit c a in let k = inside-from row.deep n in omega arith
-    by false f = let a : mid ≤ at = grind (arith, nat_tests, f) in in-limit d (omega arith)
+in-limit (Conforms.node {n = n} {at = at} {mid = mid} {row = row} e there is c d) h =
+    by-kind (nat_lt at mid) refl (λ a. let i = in-limit c a in let k = inside-from row.deep n in omega arith) (λ a. in-limit d (omega arith))
 in-limit (Conforms.left_out o c) h = in-limit c h
 
 pub deep-limit : {h n at to : ℕ} {t : Tree} → is_in h filled ≡ true → head_has h deep_row ≡ true → Spans h n at t to → suc n ≤ nesting_limit
 deep-limit {n = n} f d s = subst (λ (b : Bool). (if b then suc n else n) ≤ nesting_limit) (of-head deep_row s d) (in-limit s.fits (fill-span f s))
+
+pub span-limit : {h n at to : ℕ} {t : Tree} → is_in h filled ≡ true → Spans h n at t to → n ≤ nesting_limit
+span-limit {n = n} f s = let a = inside-from s.row.deep n in let b = in-limit s.fits (fill-span f s) in omega arith

@@ -233,24 +233,26 @@ list-span (Chain g) h n at to ts f c = subst (λ q. AllSpan q n at ts to) (eqb-t
 
 -- parts by their places
 get-drop : (i : ℕ) (ks : List Tree) (x : Tree) (xs : List Tree) → drop i ks ≡ x ∷ xs → slice_get ks i ≡ Some x
-get-drop i [] x xs e = absurd (cc)
+get-drop zero [] x xs e = absurd (cc)
+get-drop (suc i) [] x xs e = absurd (cc)
 get-drop zero (k ∷ ks) x xs e = ap (λ ys. slice_get ys 0) e
 get-drop (suc i) (k ∷ ks) x xs e = get-drop i ks x xs e
 
 drop-next : (i : ℕ) (ks : List Tree) (x : Tree) (xs : List Tree) → drop i ks ≡ x ∷ xs → drop (suc i) ks ≡ xs
-drop-next i [] x xs e = absurd (cc)
+drop-next zero [] x xs e = absurd (cc)
+drop-next (suc i) [] x xs e = absurd (cc)
 drop-next zero (k ∷ ks) x xs e = cc
 drop-next (suc i) (k ∷ ks) x xs e = drop-next i ks x xs e
 
 kid-is : (i : ℕ) (t x : Tree) (xs : List Tree) → drop i (kids_of t) ≡ x ∷ xs → kid i t ≡ x
 kid-is i t x xs e = ap (tree_or t) (get-drop i (kids_of t) x xs e)
 
+no-part : {n at to : ℕ} {ts : List Tree} → Conforms n [] at ts to → at ≡ to
+no-part (Conforms.ended e) = e
+
 module _ (t : Tree) (n to : ℕ) where
   pub facts : (ss : List Shape) (ps : List Part) (i at : ℕ) (ts : List Tree) → fits ss ps ≡ true → drop i (kids_of t) ≡ ts → Conforms n ps at ts to → Facts ss i n t at to
-  facts [] [] i at ts f e c = none c
-    where
-      none : Conforms n [] at ts to → at ≡ to
-      none (Conforms.ended k) = k
+  facts [] [] i at ts f e c = no-part c
   facts [] (p ∷ ps) i at ts f e c = absurd (cc)
   facts (s ∷ ss) [] i at ts f e c = absurd (cc)
   facts (T ∷ ss) (Term a ∷ ps) i at ts f e c =

@@ -1,7 +1,6 @@
 -- Tests of lists and choices.
-use Rattle.std.proofs.Common.{◌≡◌, ℕ, ◌<◌, ◌≤◌, Bool, true, false, ◌&&◌, refl, sym, subst, arith}
-use Rattle.std.specs.Prelude.{if◌then◌else◌, nat_lt, nat_le}
-use Rattle.std.proofs.lemmas.Bool.Decides.{nat_tests}
+use Rattle.std.proofs.Common.{◌≡◌, Bool, true, false, ◌&&◌, refl, sym, subst}
+use Rattle.std.specs.Prelude.{if◌then◌else◌}
 
 pub both : {a b : Bool} → a ≡ true → b ≡ true → (a && b) ≡ true
 both {a} {b} e f = subst (λ (x : Bool). (x && b) ≡ true) (sym e) f
@@ -15,12 +14,10 @@ right-of true b e = e
 right-of false b e = absurd (cc)
 
 -- what holds of both choices, where the test says which one it is
-pub by-test : {A : Type 0} (w : A → Bool) (b : Bool) (x y : A) → (b ≡ true → w x ≡ true) → (b ≡ false → w y ≡ true) → w (if b then x else y) ≡ true
-by-test w true x y f g = f refl
-by-test w false x y f g = g refl
+pub by-test : {A : Type 0} (P : A → Type 0) (b : Bool) (x y : A) → (b ≡ true → P x) → (b ≡ false → P y) → P (if b then x else y)
+by-test P true x y f g = f refl
+by-test P false x y f g = g refl
 
-pub is-less : (a b : ℕ) → a < b → nat_lt a b ≡ true
-is-less a b h = grind (arith, nat_tests, h)
-
-pub is-most : (a b : ℕ) → a ≤ b → nat_le a b ≡ true
-is-most a b h = grind (arith, nat_tests, h)
+pub decide : {P : Type 0} (b : Bool) → (b ≡ true → P) → (b ≡ false → P) → P
+decide true f g = f refl
+decide false f g = g refl
