@@ -55,7 +55,7 @@ module _ (n : ℕ) where
       (λ e. let f = G.parameter-declarator s e in value-parameter _ (kid 0 t) at f.0 lo hi (bare-ordered n first lo at a c) f.2 (omega arith) (omega arith))
       (λ e. let f = G.untyped-parameter s (e1, (e2, (e, tt))) in untyped-parameter first (kid 0 t) at f.0 lo hi f.2 a c (omega arith))))
 
-  parameter-body : Ordered head.parameter_body n parameter_tokens D.parameter_body_of
+  pub parameter-body : Ordered head.parameter_body n parameter_tokens D.parameter_body_of
   parameter-body t at to lo hi s a b =
       by-test (λ (p : ParameterBody). Ascend lo hi (parameter_tokens p)) (row_of t == R.TYPE_PARAMETER) _ _
       (λ e. let f = G.type-parameter s e in (omega arith, omega arith, initial-ordered n (kid 2 t) (suc (suc at)) f.2.2.0 (suc (token 1 t)) hi f.2.2.2 (omega arith) (omega arith)))
@@ -112,13 +112,13 @@ module _ (n : ℕ) where
       let k = L.all-rise head.next_declarator n (drop 3 (kids_of t)) i.0 to i.3 in
       by-test (λ (v : VariableText). Ascend lo hi (variables_tokens v)) (is_blank (kid 1 t)) _ _
       (λ e.
-      append _ _ lo (omega arith) (omega arith) (no-type-ordered n lo lo)
-      (append _ _ i.0 (omega arith) (omega arith) (declared-ordered first (kid 0 t) (kid 2 t) at f.0 m.0 i.0 lo i.0 f.2 i.2 (omega arith) a c (omega arith))
+      append {lo = lo} {hi = hi} _ _ lo (omega arith) (omega arith) (no-type-ordered n lo lo)
+      (append {lo = lo} {hi = hi} _ _ i.0 (omega arith) (omega arith) (declared-ordered first (kid 0 t) (kid 2 t) at f.0 m.0 i.0 lo i.0 f.2 i.2 (omega arith) a c (omega arith))
       (behind-ordered n (drop 3 (kids_of t)) i.0 to i.0 hi i.3 (omega arith) b)))
       (λ e.
       let g = G.some-name m.2 e tt in
-      append _ _ f.0 (omega arith) (omega arith) (named-ordered n (alone first) (kid 0 t) at f.0 lo f.0 (a, c, tt) f.2 (omega arith) (omega arith))
-      (append _ _ i.0 (omega arith) (omega arith)
+      append {lo = lo} {hi = hi} _ _ f.0 (omega arith) (omega arith) (named-ordered n (alone first) (kid 0 t) at f.0 lo f.0 (a, c, tt) f.2 (omega arith) (omega arith))
+      (append {lo = f.0} {hi = hi} _ _ i.0 (omega arith) (omega arith)
       (declared-ordered (token 0 (kid 1 t)) (kid 1 (kid 1 t)) (kid 2 t) (suc f.0) g.2.0 m.0 i.0 f.0 i.0 g.2.2 i.2 (omega arith) (omega arith) (omega arith) (omega arith))
       (behind-ordered n (drop 3 (kids_of t)) i.0 to i.0 hi i.3 (omega arith) b)))
 

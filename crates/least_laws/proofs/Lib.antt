@@ -5,7 +5,13 @@ pub mod Grammar
 pub mod TypeRows
 pub mod DeclarationRows
 pub mod StatementRows
+pub mod ItemRows
 pub mod Levels
 pub mod Lists
 pub mod Expressions
 pub mod Types
+pub mod Declarations
+pub mod Statements
+pub mod Functions
+pub mod Headers
+pub mod Items

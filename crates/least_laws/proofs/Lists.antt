@@ -1,5 +1,5 @@
 -- Lists and optional parts that are read from the parts of a node.
-use Rattle.std.proofs.Common.{◌≡◌, ℕ, suc, ◌≤◌, Bool, true, false, List, [], ◌∷◌, ◌++◌, map, drop, Option, Some, None, refl, sym, subst, arith}
+use Rattle.std.proofs.Common.{◌≡◌, ℕ, suc, ◌≤◌, Bool, true, false, List, [], ◌∷◌, ◌++◌, map, drop, Option, Some, None, refl, sym, ap, ◌∙◌, subst, append_assoc, arith}
 use Rattle.std.specs.Prelude.{slice_get}
 use Rattle.std.specs.Option.{option_map}
 use Rattle.ll_engine.specs.declared.tree.Tree.{Tree}
@@ -25,6 +25,10 @@ append {lo} {hi} ts us between h k a b = ascend-append ts us lo between hi h k a
 pub all-rise : (h n : ℕ) (ts : List Tree) (at to : ℕ) → AllSpan h n at ts to → at ≤ to
 all-rise h n [] at to s = omega (arith, s)
 all-rise h n (t ∷ ts) at to s = let k = all-rise h n ts s.0 to s.3 in omega arith
+
+-- a node that ends where the text does
+pub end-at : {h n at mid to : ℕ} {t : Tree} → mid ≡ to → Spans h n at t mid → Spans h n at t to
+end-at {h} {n} {at} {t = t} e s = subst (λ m. Spans h n at t m) e s
 
 -- a first node, and those behind it, if there are any
 abbrev pub Behind : ℕ → ℕ → ℕ → ℕ → Tree → List Tree → ℕ → Type 0
@@ -71,3 +75,9 @@ module _ {A : Type 0} (h n : ℕ) (w : A → Tokens) (read : Tree → A) (ok : O
 module _ {A : Type 0} (h n : ℕ) (w : A → Tokens) (read : Tree → A) (ok : OrderedIf h n w read) where
   pub if-read : (t : Tree) (at to lo hi : ℕ) → Spans h n at t to → lo ≤ at → to ≤ hi → Ascend lo hi (if_there (option_map w (optional read t)))
   if-read t at to lo hi s a b = by-test (λ (o : Option A). Ascend lo hi (if_there (option_map w o))) (is_blank t) None (Some (read t)) (λ e. tt) (λ e. ok t at to lo hi s e a b)
+
+-- two lists, one behind the other
+module _ {A : Type 0} (w : A → Tokens) where
+  pub joined-row : (xs ys : List A) → in_row (map w (xs ++ ys)) ≡ in_row (map w xs) ++ in_row (map w ys)
+  joined-row [] ys = refl
+  joined-row (x ∷ xs) ys = ap (λ (ts : Tokens). w x ++ ts) (joined-row xs ys) ∙ sym (append_assoc (w x) (in_row (map w xs)) (in_row (map w ys)))
