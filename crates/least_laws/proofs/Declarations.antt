@@ -113,12 +113,12 @@ module _ (n : ℕ) where
       by-test (λ (v : VariableText). Ascend lo hi (variables_tokens v)) (is_blank (kid 1 t)) _ _
       (λ e.
       append {lo = lo} {hi = hi} _ _ lo (omega arith) (omega arith) (no-type-ordered n lo lo)
-      (append {lo = lo} {hi = hi} _ _ i.0 (omega arith) (omega arith) (declared-ordered first (kid 0 t) (kid 2 t) at f.0 m.0 i.0 lo i.0 f.2 i.2 (omega arith) a c (omega arith))
+      (append {lo = lo} {hi = hi} (declarator_tokens (D.declared first (kid 0 t) (kid 2 t))) _ i.0 (omega arith) (omega arith) (declared-ordered first (kid 0 t) (kid 2 t) at f.0 m.0 i.0 lo i.0 f.2 i.2 (omega arith) a c (omega arith))
       (behind-ordered n (drop 3 (kids_of t)) i.0 to i.0 hi i.3 (omega arith) b)))
       (λ e.
       let g = G.some-name m.2 e tt in
       append {lo = lo} {hi = hi} _ _ f.0 (omega arith) (omega arith) (named-ordered n (alone first) (kid 0 t) at f.0 lo f.0 (a, c, tt) f.2 (omega arith) (omega arith))
-      (append {lo = f.0} {hi = hi} _ _ i.0 (omega arith) (omega arith)
+      (append {lo = f.0} {hi = hi} (declarator_tokens (D.declared (token 0 (kid 1 t)) (kid 1 (kid 1 t)) (kid 2 t))) _ i.0 (omega arith) (omega arith)
       (declared-ordered (token 0 (kid 1 t)) (kid 1 (kid 1 t)) (kid 2 t) (suc f.0) g.2.0 m.0 i.0 f.0 i.0 g.2.2 i.2 (omega arith) (omega arith) (omega arith) (omega arith))
       (behind-ordered n (drop 3 (kids_of t)) i.0 to i.0 hi i.3 (omega arith) b)))
 

@@ -20,6 +20,7 @@ use Rattle.expr_build.specs.Nodes.{kids_of, kid, token, row_of, is_none, behind_
 use Rattle.expr_build.specs.Expressions.{expr_of, nesting_limit}
 use Rattle.expr_build.specs.Types.{alone, scoped}
 use Rattle.sv_build.specs.declared.rows.TheConstants as R
+use Rattle.sv_build.specs.Declarations.{declared}
 use Rattle.sv_build.specs.Items as X
 use Rattle.expr_type.specs.Placed.{Ascend}
 use Rattle.order_laws.specs.Ordered.{Tokens, in_row, if_there, expr_tokens, type_tokens, declarator_tokens}
@@ -76,7 +77,7 @@ module _ (n : ℕ) where
       let v = f.2 in
       let w = v.3.2 in
       instances-with of None _ (token 4 t) lo lo hi (omega arith) (omega arith) tt
-      (append {lo = lo} {hi = hi} _ _ v.0 (omega arith) (omega arith)
+      (append {lo = lo} {hi = hi} (instance_tokens (X.first_instance name t)) _ v.0 (omega arith) (omega arith)
       (omega arith, omega arith, connections-ordered n (kid 1 t) (suc at) v.0 (suc name) v.0 v.2 (omega arith) (omega arith))
       (behind-instances (kids_of (kid 3 t)) (suc v.0) w.0 v.0 hi (G.next-instances w.2) (omega arith) (omega arith))))
       (λ e.
@@ -85,7 +86,7 @@ module _ (n : ℕ) where
       let v = i.3 in
       item-is lo hi _ (I.rolls-Data _)
       (append {lo = lo} {hi = hi} _ _ name (omega arith) (omega arith) (bare-ordered n of lo name a c)
-      (append {lo = name} {hi = hi} _ _ i.0 (omega arith) (omega arith)
+      (append {lo = name} {hi = hi} (declarator_tokens (declared name (kid 0 t) (kid 1 t))) _ i.0 (omega arith) (omega arith)
       (declared-ordered n name (kid 0 t) (kid 1 t) at f.0 f.0 i.0 name i.0 f.2 i.2 (omega arith) (omega arith) d (omega arith))
       (behind-ordered n (kids_of (kid 2 t)) i.0 v.0 i.0 hi (G.next-declarators v.2) (omega arith) (omega arith)))))
 
@@ -157,7 +158,7 @@ module _ (n : ℕ) (inner : Tree → Item) (ok : Ordered head.module_item n item
       let z = y.3.2 in
       let w = z.3.2 in
       item-is lo hi _ (I.rolls-LoopGenerate _ _ _ _ _)
-      (append {lo = lo} {hi = hi} _ _ z.0 (omega arith) (omega arith)
+      (append {lo = lo} {hi = hi} (generate_loop_tokens (X.generate_loop_of t)) _ z.0 (omega arith) (omega arith)
       (omega arith, omega arith,
       append {lo = suc (token 3 t)} {hi = z.0} _ _ x.0 (omega arith) (omega arith) (expr-ordered n (kid 5 t) (suc (suc g.0)) x.0 (suc (token 3 t)) x.0 x.2 (omega arith) (omega arith))
       (append {lo = x.0} {hi = z.0} _ _ y.0 (omega arith) (omega arith) (expr-ordered n (kid 7 t) (suc x.0) y.0 x.0 y.0 y.2 (omega arith) (omega arith))

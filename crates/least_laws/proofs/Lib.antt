@@ -15,3 +15,5 @@ pub mod Statements
 pub mod Functions
 pub mod Headers
 pub mod Items
+pub mod Routines
+pub mod Texts

@@ -288,3 +288,9 @@ blank-ends (Conforms.left_out o c) f = blank-ends c f
 
 pub blank-span : {h n at to : ℕ} {x : Tree} → is_blank x ≡ true → Spans h n at x to → at ≡ to
 blank-span f s = blank-ends s.fits f
+
+-- a node that is read alone
+pub whole-span : {h n at to : ℕ} {x : Tree} → Conforms n (Non h ∷ []) at (x ∷ []) to → Spans h n at x to
+whole-span (Conforms.symbol e l is c) = absurd (cc)
+whole-span {h} {n} {at} {x = x} (Conforms.node e there is c d) = subst (λ m. Spans h n at x m) (no-part d) (of-named e there is c)
+whole-span (Conforms.left_out o c) = absurd (cc)

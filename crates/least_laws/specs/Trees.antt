@@ -1,6 +1,6 @@
 -- The tokens of source trees in the order of the text: those of each expression, type, declared name, target, statement, function and task in
 -- them, wherever they stand.
-use Rattle.std.specs.Prelude.{ℕ, List, [], ◌∷◌, ◌++◌, Option, Some, None, map}
+use Rattle.std.specs.Prelude.{ℕ, ◌≤◌, List, [], ◌∷◌, ◌++◌, Option, Some, None, map}
 use Rattle.std.specs.Option.{option_map}
 use Rattle.sv_tree.specs.declared.instances.Bind.{Bind}
 use Rattle.sv_tree.specs.declared.instances.Bind.TheVariants as B
@@ -32,7 +32,12 @@ use Rattle.sv_tree.specs.declared.units.SourceTree.{SourceTree}
 use Rattle.sv_tree.specs.declared.units.Unit.{Unit as Description}
 use Rattle.sv_tree.specs.declared.units.Unit.TheVariants as U
 use Rattle.expr_type.specs.Names.{OfFunction, OfTask}
+use Rattle.expr_type.specs.Placed.{Ascend}
 use Rattle.order_laws.specs.Ordered.{Tokens, in_row, if_there, dims_tokens, expr_tokens, exprs_tokens, type_tokens, declarators_tokens, parameter_tokens, parameters_tokens, lvalue_tokens, loop_step_tokens, stmt_tokens, port_tokens, routine_tokens}
+
+-- tokens that ascend in some part of a text
+abbrev pub Somewhere : Tokens → Type 0
+Somewhere ts = (low : ℕ) × (high : ℕ) × (low ≤ high) × Ascend low high ts
 
 -- declarations
 abbrev pub typedef_tokens : TypeDeclaration → Tokens
