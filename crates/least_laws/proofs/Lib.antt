@@ -17,3 +17,4 @@ pub mod Headers
 pub mod Items
 pub mod Routines
 pub mod Texts
+pub mod Frames

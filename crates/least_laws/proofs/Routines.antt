@@ -52,7 +52,7 @@ behind-gives ts us rs g lo hi h a = let s = split ts us lo hi h a in g s.between
 module _ {A : Type 0} (w : A → Tokens) (f : A → Routines) (step : (x : A) → Gives (w x) (f x)) where
   flat-gives : (xs : List A) → Gives (in_row (map w xs)) (flat_map f xs)
   flat-gives [] lo hi h a = tt
-  flat-gives (x ∷ xs) = both-give (w x) (in_row (map w xs)) (f x) (flat_map f xs) (step x) (flat-gives xs)
+  flat-gives (x ∷ xs) lo hi h a = both-give (w x) (in_row (map w xs)) (f x) (flat_map f xs) (step x) (flat-gives xs) lo hi h a
 
 -- items of modules, and generate constructs
 abbrev choice_routines : CaseGenerateItem → Routines
@@ -108,11 +108,11 @@ choices_of ys = map (λ e. e.0) ys
 
 each-item : (ys : List AnItem) → Gives (in_row (map item_tokens (items_of ys))) (T.joined (map item_routines (items_of ys)))
 each-item [] lo hi h a = tt
-each-item (y ∷ ys) = both-give (item_tokens y.0) (in_row (map item_tokens (items_of ys))) (item_routines y.0) (T.joined (map item_routines (items_of ys))) y.1 (each-item ys)
+each-item (y ∷ ys) lo hi h a = both-give (item_tokens y.0) (in_row (map item_tokens (items_of ys))) (item_routines y.0) (T.joined (map item_routines (items_of ys))) y.1 (each-item ys) lo hi h a
 
 each-choice : (ys : List AChoice) → Gives (in_row (map choice_tokens (choices_of ys))) (T.joined (map choice_routines (choices_of ys)))
 each-choice [] lo hi h a = tt
-each-choice (y ∷ ys) = both-give (choice_tokens y.0) (in_row (map choice_tokens (choices_of ys))) (choice_routines y.0) (T.joined (map choice_routines (choices_of ys))) y.1 (each-choice ys)
+each-choice (y ∷ ys) lo hi h a = both-give (choice_tokens y.0) (in_row (map choice_tokens (choices_of ys))) (choice_routines y.0) (T.joined (map choice_routines (choices_of ys))) y.1 (each-choice ys) lo hi h a
 
 -- a level of an item
 abbrev choice_of : CaseGenerateItem-F CaseGenerateItem GenerateBlock Item GenerateElse → Tokens
