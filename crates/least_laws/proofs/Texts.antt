@@ -17,7 +17,7 @@ use Rattle.expr_type.specs.Placed.{Ascend}
 use Rattle.expr_type.specs.Routines.{named_at, routines}
 use Rattle.order_laws.specs.Ordered.{Tokens, in_row, routine_tokens}
 use Rattle.order_laws.proofs.Tokens.{split}
-use Rattle.least_laws.specs.Trees.{Somewhere, unit_tokens, tree_tokens}
+use Rattle.least_laws.specs.Trees.{IsPart, Somewhere, unit_tokens, tree_tokens}
 use Rattle.least_laws.proofs.Spans.{Spans, Conforms, conforms, whole-span}
 use Rattle.least_laws.proofs.Items.{units-ordered}
 use Rattle.least_laws.proofs.Routines.{routines-ascend, named-ascend}
@@ -45,12 +45,12 @@ tree-ascends tokens tree r =
     subst (λ (us : List Description). Ascend 0 r.is_reading.is_text.to (in_row (map unit_tokens us))) (sym r.means)
     (units-ordered 0 r.derivation 0 r.is_reading.is_text.to 0 r.is_reading.is_text.to s (omega arith) (omega arith)))
 
--- tokens in one piece of those of the tree
-pub piece-ascends : (tokens : List Token) (tree : SourceTree) (before ts behind : Tokens) → Reads tokens tree → tree_tokens tree ≡ before ++ (ts ++ behind) → Somewhere ts
-piece-ascends tokens tree before ts behind r e =
+-- what stands in the tree in one piece
+pub part-ascends : (tokens : List Token) (tree : SourceTree) (ts : Tokens) → Reads tokens tree → IsPart ts tree → Somewhere ts
+part-ascends tokens tree ts r p =
     let w = tree-ascends tokens tree r in
-    let a = split before (ts ++ behind) w.0 w.1 w.2 (subst (λ (us : Tokens). Ascend w.0 w.1 us) e w.3) in
-    let b = split ts behind a.between w.1 a.to a.behind in
+    let a = split p.0 (ts ++ p.1) w.0 w.1 w.2 (subst (λ (us : Tokens). Ascend w.0 w.1 us) p.2 w.3) in
+    let b = split ts p.1 a.between w.1 a.to a.behind in
     (a.between, b.between, b.from, b.before)
 
 -- each function and task

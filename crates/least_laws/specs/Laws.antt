@@ -1,5 +1,5 @@
 -- The laws: tokens ascend in a tree that is read, and the first break of a text of a frame, in the order of the text, is the least.
-use Rattle.std.specs.Prelude.{◌≡◌, ℕ, ◌++◌, List, Option, Some, Ok, Err}
+use Rattle.std.specs.Prelude.{◌≡◌, ℕ, List, Option, Some, Ok, Err}
 use Rattle.sv_source.specs.declared.token.Token.{Token}
 use Rattle.sv_tree.specs.declared.expressions.Expr.{Expr}
 use Rattle.sv_tree.specs.declared.statements.Stmt.{Stmt}
@@ -14,12 +14,12 @@ use Rattle.expr_type.specs.Routines.{named_at, routines}
 use Rattle.expr_type.specs.Typings.{Checked}
 use Rattle.frame_texts.specs.Frames.{type_expr, type_function, type_stmt}
 use Rattle.order_laws.specs.Ordered.{Tokens, expr_tokens, routine_tokens, stmt_tokens}
-use Rattle.least_laws.specs.Trees.{Somewhere, tree_tokens}
+use Rattle.least_laws.specs.Trees.{IsPart, Somewhere, tree_tokens}
 
 pub record TreesAscend : Type 0 where
   -- the whole tree, and what stands in it in one piece
   pub tree : (tokens : List Token) (tree : SourceTree) → Reads tokens tree → Somewhere (tree_tokens tree)
-  pub piece : (tokens : List Token) (tree : SourceTree) (before ts behind : Tokens) → Reads tokens tree → tree_tokens tree ≡ before ++ (ts ++ behind) → Somewhere ts
+  pub part : (tokens : List Token) (tree : SourceTree) (ts : Tokens) → Reads tokens tree → IsPart ts tree → Somewhere ts
   -- the function or task whose name stands at a token
   pub routine : (tokens : List Token) (tree : SourceTree) (at : ℕ) (t : RoutineText) → Reads tokens tree → named_at at (routines tree) ≡ Some t → Somewhere (routine_tokens t)
 
@@ -30,7 +30,12 @@ FirstIsLeast (Err b) = IsLeast b (first b)
 
 -- of a source that is read, whatever the table of its names and the frame
 pub record FirstBreaksAreLeast : Type 0 where
-  pub expr : (tokens : List Token) (tree : SourceTree) (t : Table) (f : Frame) (at : ℕ) (e : Expr) (want : Option SvType) → Reads tokens tree → Somewhere (expr_tokens e)
+  -- what stands in the tree
+  pub expr : (tokens : List Token) (tree : SourceTree) (t : Table) (f : Frame) (at : ℕ) (e : Expr) (want : Option SvType) → Reads tokens tree → IsPart (expr_tokens e) tree
       → FirstIsLeast (type_expr tree t f at e want).result
-  pub stmt : (tokens : List Token) (tree : SourceTree) (t : Table) (f : Frame) (at : ℕ) (s : Stmt) → Reads tokens tree → Somewhere (stmt_tokens s) → FirstIsLeast (type_stmt tree t f at s).result
+  pub stmt : (tokens : List Token) (tree : SourceTree) (t : Table) (f : Frame) (at : ℕ) (s : Stmt) → Reads tokens tree → IsPart (stmt_tokens s) tree → FirstIsLeast (type_stmt tree t f at s).result
   pub function : (tokens : List Token) (tree : SourceTree) (t : Table) (f : Frame) (n : ℕ) → Reads tokens tree → FirstIsLeast (type_function tree t f n).result
+  -- whatever has tokens that ascend
+  pub any_expr : (tokens : List Token) (tree : SourceTree) (t : Table) (f : Frame) (at : ℕ) (e : Expr) (want : Option SvType) → Reads tokens tree → Somewhere (expr_tokens e)
+      → FirstIsLeast (type_expr tree t f at e want).result
+  pub any_stmt : (tokens : List Token) (tree : SourceTree) (t : Table) (f : Frame) (at : ℕ) (s : Stmt) → Reads tokens tree → Somewhere (stmt_tokens s) → FirstIsLeast (type_stmt tree t f at s).result

@@ -1,6 +1,6 @@
 -- The tokens of source trees in the order of the text: those of each expression, type, declared name, target, statement, function and task in
 -- them, wherever they stand.
-use Rattle.std.specs.Prelude.{ℕ, ◌≤◌, List, [], ◌∷◌, ◌++◌, Option, Some, None, map}
+use Rattle.std.specs.Prelude.{◌≡◌, ℕ, ◌≤◌, List, [], ◌∷◌, ◌++◌, Option, Some, None, map}
 use Rattle.std.specs.Option.{option_map}
 use Rattle.sv_tree.specs.declared.instances.Bind.{Bind}
 use Rattle.sv_tree.specs.declared.instances.Bind.TheVariants as B
@@ -166,3 +166,7 @@ unit_tokens (U.Empty semicolon) = []
 -- the tree of a source text
 abbrev pub tree_tokens : SourceTree → Tokens
 tree_tokens tree = in_row (map unit_tokens tree.units)
+
+-- tokens that stand in those of a tree in one piece
+abbrev pub IsPart : Tokens → SourceTree → Type 0
+IsPart ts tree = (before : Tokens) × (behind : Tokens) × (tree_tokens tree ≡ before ++ (ts ++ behind))
