@@ -34,9 +34,9 @@ use Rattle.expr_type.proofs.Ordering.{ascend-wider}
 use Rattle.order_laws.specs.Ordered.{Tokens, in_row, if_there, name_tokens, cast_tokens, dimension_tokens, expr_tokens, pattern_tokens, pattern_item_tokens, select_tokens, slice_tokens, range_tokens, dims_tokens, selects_tokens, exprs_tokens}
 use Rattle.least_laws.proofs.Tests.{by-test, decide}
 use Rattle.least_laws.proofs.Spans.{Spans, AllSpan, Shape, Facts, spans-lower, blank-span, mark-node}
-use Rattle.least_laws.proofs.Spans.Shape.{T, N, L}
+use Rattle.least_laws.proofs.Spans.Shape.{Token, One, Each}
 use Rattle.least_laws.proofs.Rows.{span-limit}
-use Rattle.least_laws.proofs.Grammar as G
+use Rattle.least_laws.proofs.ExpressionRows as G
 use Rattle.least_laws.proofs.Levels.{cast-is, dimension-is, expr-is, pattern-is, pattern-item-is, select-is, slice-is, range-is}
 use Rattle.least_laws.proofs.Lists as L
 use Rattle.least_laws.proofs.Lists.{Ordered, OrderedIf, append}
@@ -104,7 +104,7 @@ module _ (n : ℕ) (inner : Tree → Expr) (ok : Ordered head.expression n expr_
   pub dimensions-ordered : Ordered head.dimensions n dims_tokens (X.dimensions_of inner)
   dimensions-ordered t at to lo hi s a b = L.each head.dimension n dimension_tokens (X.dimension_of inner) dimension-ordered (kids_of t) at to lo hi (G.dimensions s) a b
 
-  bracketed-ordered : (t : Tree) (at to lo hi : ℕ) → Facts (T ∷ N head.expression ∷ N head.optional_part_select_rest ∷ T ∷ []) 0 n t at to → lo ≤ at → to ≤ hi
+  bracketed-ordered : (t : Tree) (at to lo hi : ℕ) → Facts (Token ∷ One head.expression ∷ One head.optional_part_select_rest ∷ Token ∷ []) 0 n t at to → lo ≤ at → to ≤ hi
       → Ascend lo hi (select_tokens (X.bracketed_of inner t))
   bracketed-ordered t at to lo hi f a b =
       let e = f.2 in
@@ -114,9 +114,12 @@ module _ (n : ℕ) (inner : Tree → Expr) (ok : Ordered head.expression n expr_
       (λ q.
       let g = G.part-select r.2 q tt in
       let o = G.part-operator g.2 in
-      select-is _ _ _ (S.rolls-Part _ _ _ _ _ _)
-      (omega arith, omega arith, append _ _ e.0 (omega arith) (omega arith) (in-kid e.2 (omega arith) (omega arith))
-      (omega arith, omega arith, in-kid g.3.2 (omega arith) (omega arith))))
+      select-is _ _ _ (S.rolls-Part _ _ _ _ _ _) (
+        omega arith,
+        omega arith,
+        append _ _ e.0 (omega arith) (omega arith) (in-kid e.2 (omega arith) (omega arith))
+            (omega arith, omega arith, in-kid g.3.2 (omega arith) (omega arith)),
+      ))
 
   pub select-ordered : Ordered head.select n select_tokens (X.select_of inner)
   select-ordered t at to lo hi s a b =
@@ -232,7 +235,7 @@ module _ (n : ℕ) (inner : Tree → Expr) (ok : Ordered head.expression n expr_
       range-is _ _ _ (V.rolls-Range _ _ _ _ _) (append _ _ f.2.0 (omega arith) (omega arith) (in-kid f.2.2 (omega arith) (omega arith)) (in-kid g.2 (omega arith) (omega arith))))
 
   -- primaries
-  decimal-ordered : (t : Tree) (at to lo hi : ℕ) → Facts (T ∷ N head.optional_size_rest ∷ []) 0 n t at to → lo ≤ at → to ≤ hi → Ascend lo hi (expr_tokens (X.decimal_of inner t))
+  decimal-ordered : (t : Tree) (at to lo hi : ℕ) → Facts (Token ∷ One head.optional_size_rest ∷ []) 0 n t at to → lo ≤ at → to ≤ hi → Ascend lo hi (expr_tokens (X.decimal_of inner t))
   decimal-ordered t at to lo hi f a b =
       by-test (λ (x : Expr). Ascend lo hi (expr_tokens x)) (is_blank (kid 1 t)) _ _
       (λ e. expr-is _ _ _ (E.rolls-Decimal _) (omega arith, omega arith, tt))
@@ -250,9 +253,12 @@ module _ (n : ℕ) (inner : Tree → Expr) (ok : Ordered head.expression n expr_
       let f = G.stream s e in
       let z = f.3 in
       let v = z.3.2 in
-      stream-form _ _ _ _ _ _ _ _ _ _
-      (a, omega arith, append _ _ z.0 (omega arith) (omega arith) (slice-size-ordered (kid 1 t) f.0 z.0 (suc opening) z.0 z.2 (omega arith) (omega arith))
-      (exprs-ordered (kid 3 t) (suc z.0) v.0 z.0 hi v.2 (omega arith) (omega arith)))
+      stream-form _ _ _ _ _ _ _ _ _ _ (
+        a,
+        omega arith,
+        append _ _ z.0 (omega arith) (omega arith) (slice-size-ordered (kid 1 t) f.0 z.0 (suc opening) z.0 z.2 (omega arith) (omega arith))
+            (exprs-ordered (kid 3 t) (suc z.0) v.0 z.0 hi v.2 (omega arith) (omega arith)),
+      )
 
   replication-ordered : (opening : ℕ) (first rest : Tree) (at mid to lo hi : ℕ) → Spans head.expression n at first mid → Spans head.concatenation_rest n mid rest to
       → (row_of rest == R.REPLICATION) ≡ true → lo ≤ opening → opening < at → to ≤ hi → Ascend lo hi (expr_tokens (X.replication_of inner opening first rest))
@@ -260,21 +266,30 @@ module _ (n : ℕ) (inner : Tree → Expr) (ok : Ordered head.expression n expr_
       let k = s.rise in
       let f = G.replication r e in
       let v = f.2 in
-      expr-is _ _ _ (E.rolls-Replication _ _ _ _ _ _)
-      (a, omega arith, append _ _ mid (omega arith) (omega arith) (in-kid s (omega arith) (omega arith))
-      (omega arith, omega arith, append _ _ v.0 (omega arith) (omega arith) (exprs-ordered (kid 1 rest) (suc mid) v.0 (suc (token 0 rest)) v.0 v.2 (omega arith) (omega arith))
-      (omega arith, omega arith, (omega arith, omega arith, tt))))
+      expr-is _ _ _ (E.rolls-Replication _ _ _ _ _ _) (
+        a,
+        omega arith,
+        append _ _ mid (omega arith) (omega arith) (in-kid s (omega arith) (omega arith)) (
+          omega arith,
+          omega arith,
+          append _ _ v.0 (omega arith) (omega arith) (exprs-ordered (kid 1 rest) (suc mid) v.0 (suc (token 0 rest)) v.0 v.2 (omega arith) (omega arith))
+              (omega arith, omega arith, (omega arith, omega arith, tt)),
+        ),
+      )
 
   concatenation-ordered : (opening : ℕ) (first rest : Tree) (at mid to lo hi : ℕ) → Spans head.expression n at first mid → Spans head.concatenation_rest n mid rest to
       → (row_of rest == R.REPLICATION) ≡ false → lo ≤ opening → opening < at → to ≤ hi → Ascend lo hi (expr_tokens (X.concatenation_of inner opening first rest))
   concatenation-ordered opening first rest at mid to lo hi s r e a c b =
       let k = s.rise in
       let f = G.concatenation r (e, tt) in
-      expr-is _ _ _ (E.rolls-Concatenation _ _ _)
-      (a, omega arith, append _ _ f.0 (omega arith) (omega arith)
-      (append _ _ mid (omega arith) (omega arith) (in-kid s (omega arith) (omega arith))
-      (L.behind head.expression n expr_tokens inner ok head.next_expression (λ x y u r. G.next-expression r) (kids_of (kid 0 rest)) mid f.0 mid f.0 (G.next-expressions f.2) (omega arith) (omega arith)))
-      (omega arith, omega arith, tt))
+      expr-is _ _ _ (E.rolls-Concatenation _ _ _) (
+        a,
+        omega arith,
+        append _ _ f.0 (omega arith) (omega arith)
+            (append _ _ mid (omega arith) (omega arith) (in-kid s (omega arith) (omega arith))
+            (L.behind head.expression n expr_tokens inner ok head.next_expression (λ x y u r. G.next-expression r) (kids_of (kid 0 rest)) mid f.0 mid f.0 (G.next-expressions f.2) (omega arith) (omega arith)))
+            (omega arith, omega arith, tt),
+      )
 
   braced-ordered : (opening : ℕ) (t : Tree) (at to lo hi : ℕ) → Spans head.primary_brace_rest n at t to → lo ≤ opening → opening < at → to ≤ hi → Ascend lo hi (expr_tokens (X.braced_of inner opening t))
   braced-ordered opening t at to lo hi s a c b =
@@ -286,7 +301,7 @@ module _ (n : ℕ) (inner : Tree → Expr) (ok : Ordered head.expression n expr_
       (λ r. concatenation-ordered opening (kid 0 t) (kid 1 t) at f.0 f.3.0 lo hi f.2 f.3.2 r a c (omega arith)))
 
   -- names and calls
-  name-primary-ordered : (t : Tree) (at to lo hi : ℕ) → Facts (T ∷ N head.primary_name_rest ∷ []) 0 n t at to → lo ≤ at → to ≤ hi → Ascend lo hi (expr_tokens (X.name_primary_of inner t))
+  name-primary-ordered : (t : Tree) (at to lo hi : ℕ) → Facts (Token ∷ One head.primary_name_rest ∷ []) 0 n t at to → lo ≤ at → to ≤ hi → Ascend lo hi (expr_tokens (X.name_primary_of inner t))
   name-primary-ordered t at to lo hi f a b =
       let g = G.name-rest f.2.2 in
       let x = g.3 in
@@ -296,37 +311,45 @@ module _ (n : ℕ) (inner : Tree → Expr) (ok : Ordered head.expression n expr_
       let h = G.call x.2 e in
       let v = h.2 in
       call-form _ _ _ _ _ _ _
-      (append _ _ g.0 (omega arith) (omega arith) (name-ordered n (token 0 t) (kid 0 (kid 1 t)) (suc at) g.0 lo g.0 g.2 (omega arith) (omega arith) (omega arith))
-      (omega arith, omega arith,
-      append _ _ v.0 (omega arith) (omega arith) (arguments-ordered (kid 1 (kid 1 (kid 1 t))) (suc g.0) v.0 (suc (token 0 (kid 1 (kid 1 t)))) v.0 v.2 (omega arith) (omega arith))
-      (omega arith, omega arith, optional-cast (kid 2 (kid 1 t)) x.0 y.0 _ hi y.2 (omega arith) (omega arith)))))
+      (append _ _ g.0 (omega arith) (omega arith) (name-ordered n (token 0 t) (kid 0 (kid 1 t)) (suc at) g.0 lo g.0 g.2 (omega arith) (omega arith) (omega arith)) (
+        omega arith,
+        omega arith,
+        append _ _ v.0 (omega arith) (omega arith) (arguments-ordered (kid 1 (kid 1 (kid 1 t))) (suc g.0) v.0 (suc (token 0 (kid 1 (kid 1 t)))) v.0 v.2 (omega arith) (omega arith))
+            (omega arith, omega arith, optional-cast (kid 2 (kid 1 t)) x.0 y.0 _ hi y.2 (omega arith) (omega arith)),
+      )))
       (λ e.
       name-form _ _ _ _ _
       (append _ _ g.0 (omega arith) (omega arith) (name-ordered n (token 0 t) (kid 0 (kid 1 t)) (suc at) g.0 lo g.0 g.2 (omega arith) (omega arith) (omega arith))
       (append _ _ x.0 (omega arith) (omega arith) (each-select (kids_of (kid 1 (kid 1 t))) g.0 x.0 g.0 x.0 (G.name-selects x.2 (e, tt)) (omega arith) (omega arith))
       (optional-cast (kid 2 (kid 1 t)) x.0 y.0 x.0 hi y.2 (omega arith) (omega arith)))))
 
-  parenthesized-ordered : (t : Tree) (at to lo hi : ℕ) → Facts (T ∷ N head.expression ∷ T ∷ N head.optional_cast ∷ []) 0 n t at to → lo ≤ at → to ≤ hi
+  parenthesized-ordered : (t : Tree) (at to lo hi : ℕ) → Facts (Token ∷ One head.expression ∷ Token ∷ One head.optional_cast ∷ []) 0 n t at to → lo ≤ at → to ≤ hi
       → Ascend lo hi (expr_tokens (X.parenthesized_of inner t))
   parenthesized-ordered t at to lo hi f a b =
       let e = f.2 in
       let c = e.3.2 in
-      parenthesized-form _ _ _ _ _ _
-      (omega arith, omega arith, append _ _ e.0 (omega arith) (omega arith) (in-kid e.2 (omega arith) (omega arith))
-      (omega arith, omega arith, optional-cast (kid 3 t) (suc e.0) c.0 (suc (token 2 t)) hi c.2 (omega arith) (omega arith)))
+      parenthesized-form _ _ _ _ _ _ (
+        omega arith,
+        omega arith,
+        append _ _ e.0 (omega arith) (omega arith) (in-kid e.2 (omega arith) (omega arith))
+            (omega arith, omega arith, optional-cast (kid 3 t) (suc e.0) c.0 (suc (token 2 t)) hi c.2 (omega arith) (omega arith)),
+      )
 
-  type-primary-ordered : (t : Tree) (at to lo hi : ℕ) → Facts (N head.keyword_type ∷ N head.dimensions ∷ N head.optional_cast ∷ []) 0 n t at to → lo ≤ at → to ≤ hi
+  type-primary-ordered : (t : Tree) (at to lo hi : ℕ) → Facts (One head.keyword_type ∷ One head.dimensions ∷ One head.optional_cast ∷ []) 0 n t at to → lo ≤ at → to ≤ hi
       → Ascend lo hi (expr_tokens (X.type_primary_of inner t))
   type-primary-ordered t at to lo hi f a b =
       let d = f.3 in
       let c = d.3 in
       let g = G.keyword-type f.2 in
       let h = G.type-keyword g.2 in
-      type-form _ _ _ _ _
-      (omega arith, omega arith, append _ _ d.0 (omega arith) (omega arith) (dimensions-ordered (kid 1 t) f.0 d.0 (suc (token 0 (kid 0 (kid 0 t)))) d.0 d.2 (omega arith) (omega arith))
-      (optional-cast (kid 2 t) d.0 c.0 d.0 hi c.2 (omega arith) (omega arith)))
+      type-form _ _ _ _ _ (
+        omega arith,
+        omega arith,
+        append _ _ d.0 (omega arith) (omega arith) (dimensions-ordered (kid 1 t) f.0 d.0 (suc (token 0 (kid 0 (kid 0 t)))) d.0 d.2 (omega arith) (omega arith))
+            (optional-cast (kid 2 t) d.0 c.0 d.0 hi c.2 (omega arith) (omega arith)),
+      )
 
-  signing-ordered : (t : Tree) (at to lo hi : ℕ) → Facts (N head.signing ∷ N head.cast ∷ []) 0 n t at to → lo ≤ at → to ≤ hi → Ascend lo hi (expr_tokens (X.signing_cast_of inner t))
+  signing-ordered : (t : Tree) (at to lo hi : ℕ) → Facts (One head.signing ∷ One head.cast ∷ []) 0 n t at to → lo ≤ at → to ≤ hi → Ascend lo hi (expr_tokens (X.signing_cast_of inner t))
   signing-ordered t at to lo hi f a b =
       let g = G.signing f.2 in
       let c = f.3 in
@@ -380,10 +403,10 @@ module _ (n : ℕ) (inner : Tree → Expr) (ok : Ordered head.expression n expr_
 abbrev Marked : ℕ → ℕ → Tree → ℕ → ℕ → Type 0
 Marked below n t at to = (mark (kid 0 t) ≡ at) × Spans below n (suc at) (kid 1 t) to
 
-by-mark : {below n at to : ℕ} (t : Tree) → Facts (T ∷ N below ∷ []) 0 n t at to → Marked below n t at to
+by-mark : {below n at to : ℕ} (t : Tree) → Facts (Token ∷ One below ∷ []) 0 n t at to → Marked below n t at to
 by-mark {below} {n} {at} t f = (f.1, subst (λ m. Spans below n (suc at) (kid 1 t) m) f.2.3 f.2.2)
 
-by-node : {op below n at to : ℕ} (t : Tree) (f : Facts (N op ∷ N below ∷ []) 0 n t at to) → Facts (T ∷ []) 0 n (kid 0 t) at f.0 → Marked below n t at to
+by-node : {op below n at to : ℕ} (t : Tree) (f : Facts (One op ∷ One below ∷ []) 0 n t at to) → Facts (Token ∷ []) 0 n (kid 0 t) at f.0 → Marked below n t at to
 by-node {op} {below} {n} {at} t f o =
     (mark-node (kid 0 t) f.2.is_node ∙ o.0, subst (λ m. Spans below n (suc at) (kid 1 t) m) f.3.3 (subst (λ m. Spans below n m (kid 1 t) f.3.0) (sym o.2) f.3.2))
 
@@ -399,10 +422,12 @@ module _ (n : ℕ) (inner : Tree → Expr) (ok : Ordered head.expression n expr_
         let f = G.inside s e in
         let v = f.2.2 in
         expr-is _ _ _ (E.rolls-Inside _ _ _ _ _)
-        (append _ _ at (omega arith) (omega arith) l
-        (omega arith, omega arith,
-        L.items-if head.value_range n range_tokens (X.value_range_of inner) (value-range-ordered n inner ok) head.next_value_range (λ x y u r. G.next-value-range r) (kid 2 t) (suc (suc at)) v.0 (suc (token 0 t)) hi
-        (λ q. G.value-ranges v.2) (omega arith) (omega arith))))
+        (append _ _ at (omega arith) (omega arith) l (
+          omega arith,
+          omega arith,
+          L.items-if head.value_range n range_tokens (X.value_range_of inner) (value-range-ordered n inner ok) head.next_value_range (λ x y u r. G.next-value-range r) (kid 2 t) (suc (suc at)) v.0 (suc (token 0 t)) hi
+              (λ q. G.value-ranges v.2) (omega arith) (omega arith),
+        )))
         (λ e.
         let m = marked t at to s e in
         let r = m.1.rise in
@@ -417,7 +442,7 @@ module _ (n : ℕ) (inner : Tree → Expr) (ok : Ordered head.expression n expr_
         chain-ordered (X.joined_with inner operand left t) ts s.0 to lo hi (joined-ordered left t at s.0 lo s.0 l s.2 a (omega arith)) s.3 (omega arith) b
 
   -- operators of one more level of precedence
-  level-ordered : (h below rest : ℕ) → ((t : Tree) (at to : ℕ) → Spans h n at t to → Facts (N below ∷ L rest ∷ []) 0 n t at to)
+  level-ordered : (h below rest : ℕ) → ((t : Tree) (at to : ℕ) → Spans h n at t to → Facts (One below ∷ Each rest ∷ []) 0 n t at to)
       → ((t : Tree) (at to : ℕ) → Spans rest n at t to → (row_of t == R.INSIDE) ≡ false → Marked below n t at to)
       → (unary : Tree → Expr) (levels : ℕ) → Ordered below n expr_tokens (operation_within inner unary levels) → Ordered h n expr_tokens (operation_within inner unary (suc levels))
   unfolding operation_within
@@ -434,24 +459,24 @@ module _ (n : ℕ) (inner : Tree → Expr) (ok : Ordered head.expression n expr_
   weaker-ordered unary u =
       let power = level-ordered head.power head.unary head.power_rest (λ t x y s. G.power s) (λ t x y s e. by-mark t (G.power-rest s)) unary 0 (none-ordered unary u) in
       let product =
-          level-ordered head.product head.power head.product_rest (λ t x y s. G.product s)
-          (λ t x y s e. let f = G.product-rest s in by-node t f (G.product-operator f.2)) unary 1 power in
+      level-ordered head.product head.power head.product_rest (λ t x y s. G.product s)
+      (λ t x y s e. let f = G.product-rest s in by-node t f (G.product-operator f.2)) unary 1 power in
       let sum = level-ordered head.sum head.product head.sum_rest (λ t x y s. G.sum s) (λ t x y s e. let f = G.sum-rest s in by-node t f (G.sum-operator f.2)) unary 2 product in
       let shift = level-ordered head.shift head.sum head.shift_rest (λ t x y s. G.shift s) (λ t x y s e. let f = G.shift-rest s in by-node t f (G.shift-operator f.2)) unary 3 sum in
       let relation =
-          level-ordered head.relation head.shift head.relation_rest (λ t x y s. G.relation s)
-          (λ t x y s e. let f = G.relation-rest s (e, tt) in by-node t f (G.relation-operator f.2)) unary 4 shift in
+      level-ordered head.relation head.shift head.relation_rest (λ t x y s. G.relation s)
+      (λ t x y s e. let f = G.relation-rest s (e, tt) in by-node t f (G.relation-operator f.2)) unary 4 shift in
       level-ordered head.equality head.relation head.equality_rest (λ t x y s. G.equality s)
       (λ t x y s e. let f = G.equality-rest s in by-node t f (G.equality-operator f.2)) unary 5 relation
 
   operation-ordered : (unary : Tree → Expr) → Ordered head.unary n expr_tokens unary → Ordered head.logical_or n expr_tokens (operation_within inner unary precedence_levels)
   operation-ordered unary u =
       let by-and =
-          level-ordered head.bitwise_and head.equality head.bitwise_and_rest (λ t x y s. G.bitwise-and s) (λ t x y s e. by-mark t (G.bitwise-and-rest s)) unary 6
-          (weaker-ordered unary u) in
+      level-ordered head.bitwise_and head.equality head.bitwise_and_rest (λ t x y s. G.bitwise-and s) (λ t x y s e. by-mark t (G.bitwise-and-rest s)) unary 6
+      (weaker-ordered unary u) in
       let by-xor =
-          level-ordered head.bitwise_xor head.bitwise_and head.bitwise_xor_rest (λ t x y s. G.bitwise-xor s)
-          (λ t x y s e. let f = G.bitwise-xor-rest s in by-node t f (G.xor-operator f.2)) unary 7 by-and in
+      level-ordered head.bitwise_xor head.bitwise_and head.bitwise_xor_rest (λ t x y s. G.bitwise-xor s)
+      (λ t x y s e. let f = G.bitwise-xor-rest s in by-node t f (G.xor-operator f.2)) unary 7 by-and in
       let by-or = level-ordered head.bitwise_or head.bitwise_xor head.bitwise_or_rest (λ t x y s. G.bitwise-or s) (λ t x y s e. by-mark t (G.bitwise-or-rest s)) unary 8 by-xor in
       let all = level-ordered head.logical_and head.bitwise_or head.logical_and_rest (λ t x y s. G.logical-and s) (λ t x y s e. by-mark t (G.logical-and-rest s)) unary 9 by-or in
       level-ordered head.logical_or head.logical_and head.logical_or_rest (λ t x y s. G.logical-or s) (λ t x y s e. by-mark t (G.logical-or-rest s)) unary 10 all
@@ -466,11 +491,14 @@ module _ (n : ℕ) (inner : Tree → Expr) (ok : Ordered head.expression n expr_
       let f = G.conditional s e tt in
       let g = f.2.3.2 in
       expr-is _ _ _ (E.rolls-Conditional _ _ _ _ _)
-      (append _ _ at (omega arith) (omega arith) l
-      (omega arith, omega arith, append _ _ f.2.0 (omega arith) (omega arith) (in-kid n inner ok f.2.2 (omega arith) (omega arith))
-      (omega arith, omega arith, in-kid n inner ok g.2 (omega arith) (omega arith)))))
+      (append _ _ at (omega arith) (omega arith) l (
+        omega arith,
+        omega arith,
+        append _ _ f.2.0 (omega arith) (omega arith) (in-kid n inner ok f.2.2 (omega arith) (omega arith))
+            (omega arith, omega arith, in-kid n inner ok g.2 (omega arith) (omega arith)),
+      )))
 
-  pub around-ordered : (t : Tree) (at to lo hi : ℕ) → Facts (N head.logical_or ∷ N head.optional_conditional_rest ∷ []) 0 n t at to → lo ≤ at → to ≤ hi
+  pub around-ordered : (t : Tree) (at to lo hi : ℕ) → Facts (One head.logical_or ∷ One head.optional_conditional_rest ∷ []) 0 n t at to → lo ≤ at → to ≤ hi
       → Ascend lo hi (expr_tokens (X.expr_around inner t))
   around-ordered t at to lo hi f a b =
       conditional-ordered (X.operation_of inner (kid 0 t)) (kid 1 t) f.0 f.3.0 lo hi

@@ -111,7 +111,9 @@ module _ (n : ℕ) where
   task-ordered t at to lo hi s a b =
       let f = G.task s in
       let y = f.2.3.2 in
-      let z = y.3.2 in
-      (omega arith, omega arith,
-      append {lo = suc (token 2 t)} {hi = hi} _ _ y.0 (omega arith) (omega arith) (formals-ordered (kid 3 t) (suc f.2.0) y.0 (suc (token 2 t)) y.0 y.2 (omega arith) (omega arith))
-      (block-items-ordered n (kid 5 t) (suc y.0) z.0 y.0 hi z.2 (omega arith) (omega arith)))
+      let z = y.3.2 in (
+        omega arith,
+        omega arith,
+        append {lo = suc (token 2 t)} {hi = hi} _ _ y.0 (omega arith) (omega arith) (formals-ordered (kid 3 t) (suc f.2.0) y.0 (suc (token 2 t)) y.0 y.2 (omega arith) (omega arith))
+            (block-items-ordered n (kid 5 t) (suc y.0) z.0 y.0 hi z.2 (omega arith) (omega arith)),
+      )

@@ -158,11 +158,13 @@ module _ (n : ℕ) (inner : Tree → Item) (ok : Ordered head.module_item n item
       let z = y.3.2 in
       let w = z.3.2 in
       item-is lo hi _ (I.rolls-LoopGenerate _ _ _ _ _)
-      (append {lo = lo} {hi = hi} (generate_loop_tokens (X.generate_loop_of t)) _ z.0 (omega arith) (omega arith)
-      (omega arith, omega arith,
-      append {lo = suc (token 3 t)} {hi = z.0} _ _ x.0 (omega arith) (omega arith) (expr-ordered n (kid 5 t) (suc (suc g.0)) x.0 (suc (token 3 t)) x.0 x.2 (omega arith) (omega arith))
-      (append {lo = x.0} {hi = z.0} _ _ y.0 (omega arith) (omega arith) (expr-ordered n (kid 7 t) (suc x.0) y.0 x.0 y.0 y.2 (omega arith) (omega arith))
-      (step-ordered n (kid 9 t) (suc y.0) z.0 y.0 z.0 z.2 (omega arith) (omega arith))))
+      (append {lo = lo} {hi = hi} (generate_loop_tokens (X.generate_loop_of t)) _ z.0 (omega arith) (omega arith) (
+        omega arith,
+        omega arith,
+        append {lo = suc (token 3 t)} {hi = z.0} _ _ x.0 (omega arith) (omega arith) (expr-ordered n (kid 5 t) (suc (suc g.0)) x.0 (suc (token 3 t)) x.0 x.2 (omega arith) (omega arith))
+            (append {lo = x.0} {hi = z.0} _ _ y.0 (omega arith) (omega arith) (expr-ordered n (kid 7 t) (suc x.0) y.0 x.0 y.0 y.2 (omega arith) (omega arith))
+            (step-ordered n (kid 9 t) (suc y.0) z.0 y.0 z.0 z.2 (omega arith) (omega arith))),
+      )
       (block-ordered (kid 11 t) (suc z.0) w.0 z.0 hi w.2 (omega arith) (omega arith)))
 
   if-generate : Ordered head.if_generate_construct n item_tokens (X.if_generate inner)

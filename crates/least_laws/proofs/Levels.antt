@@ -56,7 +56,6 @@ pub range-is : {e : ValueRange} (lo hi : ℕ) (z : ValueRange-F Cast Dimension E
     → Ascend lo hi (O.range_step (map-ValueRange Cast Dimension Expr Pattern PatternItem Select SliceSize ValueRange Tokens Tokens Tokens Tokens Tokens Tokens Tokens Tokens cast_tokens dimension_tokens expr_tokens pattern_tokens pattern_item_tokens select_tokens slice_tokens range_tokens z)) → Ascend lo hi (range_tokens e)
 range-is lo hi z r a = as-tokens lo hi (ap range_tokens (sym r) ∙ fold-roll-ValueRange Tokens Tokens Tokens Tokens Tokens Tokens Tokens Tokens O.cast_step O.dimension_step O.expr_step O.pattern_step O.pattern_item_step O.select_step O.slice_step O.range_step z) a
 
-
 -- types
 pub type-is : {e : TypeText} (lo hi : ℕ) (z : TypeText-F TypeText Member) → roll-TypeText z ≡ e → Ascend lo hi (O.type_step (map-TypeText TypeText Member Tokens Tokens type_tokens member_tokens z))
     → Ascend lo hi (type_tokens e)

@@ -1,7 +1,7 @@
 pub mod Tests
 pub mod Spans
 pub mod Rows
-pub mod Grammar
+pub mod ExpressionRows
 pub mod TypeRows
 pub mod DeclarationRows
 pub mod StatementRows
@@ -18,3 +18,4 @@ pub mod Items
 pub mod Routines
 pub mod Texts
 pub mod Frames
+pub mod Told

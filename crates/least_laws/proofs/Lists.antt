@@ -9,7 +9,7 @@ use Rattle.expr_type.proofs.Ordering.{ascend-append}
 use Rattle.order_laws.specs.Ordered.{Tokens, in_row, if_there}
 use Rattle.least_laws.proofs.Tests.{by-test}
 use Rattle.least_laws.proofs.Spans.{Spans, AllSpan, Shape, Facts}
-use Rattle.least_laws.proofs.Spans.Shape.{T, N, L}
+use Rattle.least_laws.proofs.Spans.Shape.{Token, One, Each}
 
 -- what is read from each node of a head ascends where the node stands
 abbrev pub Ordered : {A : Type 0} → ℕ → ℕ → (A → Tokens) → (Tree → A) → Type 0
@@ -42,7 +42,7 @@ module _ {A : Type 0} (h n : ℕ) (w : A → Tokens) (read : Tree → A) (ok : O
       append _ _ s.0 (omega arith) (omega arith) (ok t at s.0 lo s.0 s.2 a (omega arith)) (each ts s.0 to s.0 hi s.3 (omega arith) b)
 
   -- nodes behind a mark each
-  module _ (m : ℕ) (next : (from end : ℕ) (t : Tree) → Spans m n from t end → Facts (T ∷ N h ∷ []) 0 n t from end) where
+  module _ (m : ℕ) (next : (from end : ℕ) (t : Tree) → Spans m n from t end → Facts (Token ∷ One h ∷ []) 0 n t from end) where
     pub behind : (ts : List Tree) (at to lo hi : ℕ) → AllSpan m n at ts to → lo ≤ at → to ≤ hi → Ascend lo hi (in_row (map w (behind_marks read ts)))
     behind [] at to lo hi s a b = tt
     behind (t ∷ ts) at to lo hi s a b =
@@ -58,7 +58,7 @@ module _ {A : Type 0} (h n : ℕ) (w : A → Tokens) (read : Tree → A) (ok : O
         let k = all-rise m n xs f.0 to f.3 in
         append _ _ f.0 (omega arith) (omega arith) (ok x at f.0 lo f.0 f.2 a (omega arith)) (behind xs f.0 to f.0 hi f.3 (omega arith) b)
 
-    pub items-if : (t : Tree) (at to lo hi : ℕ) → (is_blank t ≡ false → Facts (N h ∷ L m ∷ []) 0 n t at to) → lo ≤ at → to ≤ hi → Ascend lo hi (in_row (map w (separated read (kids_of t))))
+    pub items-if : (t : Tree) (at to lo hi : ℕ) → (is_blank t ≡ false → Facts (One h ∷ Each m ∷ []) 0 n t at to) → lo ≤ at → to ≤ hi → Ascend lo hi (in_row (map w (separated read (kids_of t))))
     items-if t at to lo hi s a b = apart t (kids_of t) at to lo hi s a b
 
   -- a first node and as many of the same head as there are
@@ -69,7 +69,7 @@ module _ {A : Type 0} (h n : ℕ) (w : A → Tokens) (read : Tree → A) (ok : O
       let k = all-rise h n xs f.0 to f.3 in
       append _ _ f.0 (omega arith) (omega arith) (ok x at f.0 lo f.0 f.2 a (omega arith)) (each xs f.0 to f.0 hi f.3 (omega arith) b)
 
-  pub items-whole : (t : Tree) (at to lo hi : ℕ) → Facts (N h ∷ L h ∷ []) 0 n t at to → lo ≤ at → to ≤ hi → Ascend lo hi (in_row (map w (map read (kids_of t))))
+  pub items-whole : (t : Tree) (at to lo hi : ℕ) → Facts (One h ∷ Each h ∷ []) 0 n t at to → lo ≤ at → to ≤ hi → Ascend lo hi (in_row (map w (map read (kids_of t))))
   items-whole t at to lo hi f a b = gathered t (kids_of t) at to lo hi (λ e. f) a b
 
 module _ {A : Type 0} (h n : ℕ) (w : A → Tokens) (read : Tree → A) (ok : OrderedIf h n w read) where

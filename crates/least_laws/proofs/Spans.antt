@@ -135,9 +135,9 @@ conforms {around} n h k (G.Reads.empty {at = at} {mid = mid} {to = to} {p = p} {
 
 -- What a row says of its parts: a token, a node of a head, and as many nodes of a head as there are, at the end.
 pub data Shape : Type 0 where
-  T : Shape
-  N : ℕ → Shape
-  L : ℕ → Shape
+  Token : Shape
+  One : ℕ → Shape
+  Each : ℕ → Shape
 
 abbrev pub AllSpan : ℕ → ℕ → ℕ → List Tree → ℕ → Type 0
 AllSpan h n at [] to = at ≡ to
@@ -146,9 +146,9 @@ AllSpan h n at (x ∷ xs) to = (mid : ℕ) × (at ≤ mid) × Spans h n at x mid
 -- the parts of a node from a place on
 abbrev pub Facts : List Shape → ℕ → ℕ → Tree → ℕ → ℕ → Type 0
 Facts [] i n t at to = at ≡ to
-Facts (T ∷ ss) i n t at to = (token i t ≡ at) × (mark (kid i t) ≡ at) × Facts ss (suc i) n t (suc at) to
-Facts (N h ∷ ss) i n t at to = (mid : ℕ) × (at ≤ mid) × Spans h n at (kid i t) mid × Facts ss (suc i) n t mid to
-Facts (L h ∷ ss) i n t at to = AllSpan h n at (drop i (kids_of t)) to
+Facts (Token ∷ ss) i n t at to = (token i t ≡ at) × (mark (kid i t) ≡ at) × Facts ss (suc i) n t (suc at) to
+Facts (One h ∷ ss) i n t at to = (mid : ℕ) × (at ≤ mid) × Spans h n at (kid i t) mid × Facts ss (suc i) n t mid to
+Facts (Each h ∷ ss) i n t at to = AllSpan h n at (drop i (kids_of t)) to
 
 abbrev pub is_head : ℕ → Part → Bool
 is_head h (Term a) = false
@@ -178,9 +178,9 @@ is_end (p ∷ ps) = false
 abbrev pub fits : List Shape → List Part → Bool
 fits [] ps = is_end ps
 fits (s ∷ ss) [] = false
-fits (T ∷ ss) (p ∷ ps) = is_term p && fits ss ps
-fits (N h ∷ ss) (p ∷ ps) = is_head h p && fits ss ps
-fits (L h ∷ ss) (p ∷ ps) = is_list h p && is_end ps
+fits (Token ∷ ss) (p ∷ ps) = is_term p && fits ss ps
+fits (One h ∷ ss) (p ∷ ps) = is_head h p && fits ss ps
+fits (Each h ∷ ss) (p ∷ ps) = is_list h p && is_end ps
 
 -- the first of the parts
 record Front (P : Tree → ℕ → Type 0) (n : ℕ) (ps : List Part) (ts : List Tree) (to : ℕ) : Type 0 where
@@ -255,29 +255,34 @@ module _ (t : Tree) (n to : ℕ) where
   facts [] [] i at ts f e c = no-part c
   facts [] (p ∷ ps) i at ts f e c = absurd (cc)
   facts (s ∷ ss) [] i at ts f e c = absurd (cc)
-  facts (T ∷ ss) (Term a ∷ ps) i at ts f e c =
+  facts (Token ∷ ss) (Term a ∷ ps) i at ts f e c =
       let r = term-front c in
       let d = e ∙ r.is in
-      let k = kid-is i t r.first r.others d in
-      (ap token_of k ∙ token-at at r.first r.of.0, ap mark k ∙ mark-at at r.first r.of.0,
-      facts ss ps (suc i) (suc at) r.others f (drop-next i (kids_of t) r.first r.others d) (subst (λ m. Conforms n ps m r.others to) r.of.1 r.rest))
-  facts (T ∷ ss) (Non g ∷ ps) i at ts f e c = absurd (cc)
-  facts (T ∷ ss) (Maybe g ∷ ps) i at ts f e c = absurd (cc)
-  facts (T ∷ ss) (Many g ∷ ps) i at ts f e c = absurd (cc)
-  facts (T ∷ ss) (Chain g ∷ ps) i at ts f e c = absurd (cc)
-  facts (N h ∷ ss) (Non g ∷ ps) i at ts f e c =
+      let k = kid-is i t r.first r.others d in (
+        ap token_of k ∙ token-at at r.first r.of.0,
+        ap mark k ∙ mark-at at r.first r.of.0,
+        facts ss ps (suc i) (suc at) r.others f (drop-next i (kids_of t) r.first r.others d) (subst (λ m. Conforms n ps m r.others to) r.of.1 r.rest),
+      )
+  facts (Token ∷ ss) (Non g ∷ ps) i at ts f e c = absurd (cc)
+  facts (Token ∷ ss) (Maybe g ∷ ps) i at ts f e c = absurd (cc)
+  facts (Token ∷ ss) (Many g ∷ ps) i at ts f e c = absurd (cc)
+  facts (Token ∷ ss) (Chain g ∷ ps) i at ts f e c = absurd (cc)
+  facts (One h ∷ ss) (Non g ∷ ps) i at ts f e c =
       let r = non-front c in
       let d = e ∙ r.is in
       let k = kid-is i t r.first r.others d in
-      let same = eqb-true g h (left-of (g == h) (fits ss ps) f) in
-      (r.mid, r.of.rise, subst (λ q. Spans q n at (kid i t) r.mid) same (subst (λ x. Spans g n at x r.mid) (sym k) r.of),
-      facts ss ps (suc i) r.mid r.others (right-of (g == h) (fits ss ps) f) (drop-next i (kids_of t) r.first r.others d) r.rest)
-  facts (N h ∷ ss) (Term g ∷ ps) i at ts f e c = absurd (cc)
-  facts (N h ∷ ss) (Maybe g ∷ ps) i at ts f e c = absurd (cc)
-  facts (N h ∷ ss) (Many g ∷ ps) i at ts f e c = absurd (cc)
-  facts (N h ∷ ss) (Chain g ∷ ps) i at ts f e c = absurd (cc)
-  facts (L h ∷ ss) (p ∷ []) i at ts f e c = subst (λ ys. AllSpan h n at ys to) (sym e) (list-span p h n at to ts (left-of (is_list h p) true f) c)
-  facts (L h ∷ ss) (p ∷ q ∷ ps) i at ts f e c = absurd (let g = right-of (is_list h p) false f in cc)
+      let same = eqb-true g h (left-of (g == h) (fits ss ps) f) in (
+        r.mid,
+        r.of.rise,
+        subst (λ q. Spans q n at (kid i t) r.mid) same (subst (λ x. Spans g n at x r.mid) (sym k) r.of),
+        facts ss ps (suc i) r.mid r.others (right-of (g == h) (fits ss ps) f) (drop-next i (kids_of t) r.first r.others d) r.rest,
+      )
+  facts (One h ∷ ss) (Term g ∷ ps) i at ts f e c = absurd (cc)
+  facts (One h ∷ ss) (Maybe g ∷ ps) i at ts f e c = absurd (cc)
+  facts (One h ∷ ss) (Many g ∷ ps) i at ts f e c = absurd (cc)
+  facts (One h ∷ ss) (Chain g ∷ ps) i at ts f e c = absurd (cc)
+  facts (Each h ∷ ss) (p ∷ []) i at ts f e c = subst (λ ys. AllSpan h n at ys to) (sym e) (list-span p h n at to ts (left-of (is_list h p) true f) c)
+  facts (Each h ∷ ss) (p ∷ q ∷ ps) i at ts f e c = absurd (let g = right-of (is_list h p) false f in cc)
 
 -- a node without parts
 blank-ends : {n at to : ℕ} {ps : List Part} {ts : List Tree} → Conforms n ps at ts to → is_none ts ≡ true → at ≡ to

@@ -32,7 +32,7 @@ use Rattle.expr_type.proofs.Ordering.{ascend-wider}
 use Rattle.order_laws.specs.Ordered.{Tokens, in_row, if_there, name_tokens, expr_tokens, exprs_tokens, selects_tokens, slice_tokens, type_tokens, declarators_tokens, lvalue_tokens, start_tokens, loop_step_tokens, stmt_tokens, block_item_tokens, case_item_tokens, else_tokens, items_tokens}
 use Rattle.least_laws.proofs.Tests.{by-test}
 use Rattle.least_laws.proofs.Spans.{Spans, AllSpan, Facts, Shape}
-use Rattle.least_laws.proofs.Spans.Shape.{T, N, L as Each}
+use Rattle.least_laws.proofs.Spans.Shape.{Token, One, Each}
 use Rattle.least_laws.proofs.StatementRows as G
 use Rattle.least_laws.proofs.Levels.{as-tokens, lvalue-is, item-is, case-is, stmt-is, else-level}
 use Rattle.least_laws.proofs.Lists as L
@@ -80,9 +80,12 @@ module _ (n : ℕ) where
         let f = G.stream-lvalues s (e, tt) in
         let z = f.3 in
         let v = z.3.2 in
-        lvalue-is _ _ _ (V.rolls-Stream _ _ _ _ _ _ _ _)
-        (a, omega arith, append _ _ z.0 (omega arith) (omega arith) (slice-size-ordered n expr_of (expr-ordered n) (kid 1 t) f.0 z.0 (suc opening) z.0 z.2 (omega arith) (omega arith))
-        (lvalues-ordered (kid 3 t) (suc z.0) v.0 z.0 hi v.2 (omega arith) (omega arith))))
+        lvalue-is _ _ _ (V.rolls-Stream _ _ _ _ _ _ _ _) (
+          a,
+          omega arith,
+          append _ _ z.0 (omega arith) (omega arith) (slice-size-ordered n expr_of (expr-ordered n) (kid 1 t) f.0 z.0 (suc opening) z.0 z.2 (omega arith) (omega arith))
+              (lvalues-ordered (kid 3 t) (suc z.0) v.0 z.0 hi v.2 (omega arith) (omega arith)),
+        ))
 
   -- calls
   call-ordered : (name : QualifiedName) (t : Tree) (semicolon at to lo hi : ℕ) → Ascend lo at (name_tokens name) → Spans head.call n at t to → lo ≤ at → to ≤ hi

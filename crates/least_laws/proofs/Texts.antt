@@ -40,10 +40,13 @@ module _ (symbols : List ℕ) (t : Tree) (r : IsReading table symbols nesting_li
 -- the whole tree
 pub tree-ascends : (tokens : List Token) (tree : SourceTree) → Reads tokens tree → Somewhere (tree_tokens tree)
 tree-ascends tokens tree r =
-    let s = derivation-spans _ r.derivation r.is_reading in
-    (0, r.is_reading.is_text.to, omega arith,
-    subst (λ (us : List Description). Ascend 0 r.is_reading.is_text.to (in_row (map unit_tokens us))) (sym r.means)
-    (units-ordered 0 r.derivation 0 r.is_reading.is_text.to 0 r.is_reading.is_text.to s (omega arith) (omega arith)))
+    let s = derivation-spans _ r.derivation r.is_reading in (
+      0,
+      r.is_reading.is_text.to,
+      omega arith,
+      subst (λ (us : List Description). Ascend 0 r.is_reading.is_text.to (in_row (map unit_tokens us))) (sym r.means)
+          (units-ordered 0 r.derivation 0 r.is_reading.is_text.to 0 r.is_reading.is_text.to s (omega arith) (omega arith)),
+    )
 
 -- what stands in the tree in one piece
 pub part-ascends : (tokens : List Token) (tree : SourceTree) (ts : Tokens) → Reads tokens tree → IsPart ts tree → Somewhere ts

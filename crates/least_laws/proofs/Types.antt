@@ -46,10 +46,12 @@ module _ (n : ℕ) where
   declarator-ordered t at to lo hi s a b =
       let f = G.declarator s in
       let d = f.2 in
-      let v = d.3 in
-      (omega arith, omega arith,
-      append _ _ d.0 (omega arith) (omega arith) (dims-ordered (kid 1 t) (suc at) d.0 (suc (token 0 t)) d.0 d.2 (omega arith) (omega arith))
-      (initial-ordered (kid 2 t) d.0 v.0 d.0 hi v.2 (omega arith) (omega arith)))
+      let v = d.3 in (
+        omega arith,
+        omega arith,
+        append _ _ d.0 (omega arith) (omega arith) (dims-ordered (kid 1 t) (suc at) d.0 (suc (token 0 t)) d.0 d.2 (omega arith) (omega arith))
+            (initial-ordered (kid 2 t) d.0 v.0 d.0 hi v.2 (omega arith) (omega arith)),
+      )
 
   pub declarators-ordered : Ordered head.declarators n declarators_tokens declarators_of
   declarators-ordered t at to lo hi s a b =
