@@ -1,5 +1,5 @@
 -- The tokens of the parameters, variables and formals that are read from a text ascend.
-use Rattle.std.proofs.Common.{◌≡◌, ℕ, suc, ◌<◌, ◌≤◌, true, false, ◌==◌, [], ◌∷◌, ◌++◌, drop, refl, arith}
+use Rattle.std.proofs.Common.{◌≡◌, ℕ, suc, ◌<◌, ◌≤◌, false, ◌==◌, ◌++◌, drop, arith}
 use Rattle.ll_engine.specs.declared.tree.Tree.{Tree}
 use Rattle.sv_tree.specs.Heads as head
 use Rattle.sv_tree.specs.declared.declarations.ParameterBody.{ParameterBody}
@@ -11,9 +11,9 @@ use Rattle.sv_build.specs.declared.rows.TheConstants as R
 use Rattle.sv_build.specs.declared.variables.VariableText.{VariableText}
 use Rattle.sv_build.specs.Declarations as D
 use Rattle.expr_type.specs.Placed.{Ascend}
-use Rattle.order_laws.specs.Ordered.{Tokens, in_row, type_tokens, declarator_tokens, declarators_tokens, parameter_tokens, parameters_tokens, port_tokens}
+use Rattle.order_laws.specs.Ordered.{Tokens, type_tokens, declarator_tokens, declarators_tokens, parameter_tokens, parameters_tokens, port_tokens}
 use Rattle.least_laws.proofs.Tests.{by-test}
-use Rattle.least_laws.proofs.Spans.{Spans, blank-span}
+use Rattle.least_laws.proofs.Spans.{Spans}
 use Rattle.least_laws.proofs.DeclarationRows as G
 use Rattle.least_laws.proofs.Lists as L
 use Rattle.least_laws.proofs.Lists.{Ordered, append}

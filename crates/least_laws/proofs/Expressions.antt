@@ -1,5 +1,5 @@
 -- The tokens of the expressions that are read from a text ascend.
-use Rattle.std.proofs.Common.{◌≡◌, ℕ, zero, suc, ◌+◌, ◌<◌, ◌≤◌, true, false, ◌==◌, List, [], ◌∷◌, ◌++◌, map, drop, Option, Some, None, refl, sym, ap, ◌∙◌, subst, arith}
+use Rattle.std.proofs.Common.{◌≡◌, ℕ, zero, suc, ◌+◌, ◌<◌, ◌≤◌, true, false, ◌==◌, List, [], ◌∷◌, ◌++◌, map, drop, Option, Some, None, refl, sym, ◌∙◌, subst, arith}
 use Rattle.std.specs.Option.{option_map}
 use Rattle.ll_engine.specs.declared.tree.Tree.{Tree}
 use Rattle.sv_tree.specs.Extents.{signing_token}
@@ -25,17 +25,16 @@ use Rattle.sv_tree.specs.declared.names.Signing.{Signing}
 use Rattle.sv_tree.specs.declared.operators.StreamOperator.{StreamOperator}
 use Rattle.sv_tree.specs.declared.types.KeywordType.{KeywordType}
 use Rattle.expr_build.specs.declared.rows.TheConstants as R
-use Rattle.expr_build.specs.Nodes.{kids_of, kid, token, mark, row_of, is_blank, behind_marks}
+use Rattle.expr_build.specs.Nodes.{kids_of, kid, token, mark, row_of, is_blank}
 use Rattle.expr_build.specs.Words.{signing_of, qualified_of}
 use Rattle.expr_build.specs.Expressions as X
 use Rattle.expr_build.specs.Expressions.{expr_within, unary_within, operation_within, chain_of, expr_of, nesting_limit, precedence_levels}
 use Rattle.expr_type.specs.Placed.{Ascend}
 use Rattle.expr_type.proofs.Ordering.{ascend-wider}
-use Rattle.order_laws.specs.Ordered.{Tokens, in_row, if_there, name_tokens, cast_tokens, dimension_tokens, expr_tokens, pattern_tokens, pattern_item_tokens, select_tokens, slice_tokens, range_tokens, dims_tokens, selects_tokens, exprs_tokens}
+use Rattle.order_laws.specs.Ordered.{in_row, if_there, name_tokens, cast_tokens, dimension_tokens, expr_tokens, pattern_tokens, pattern_item_tokens, select_tokens, slice_tokens, range_tokens, dims_tokens, selects_tokens, exprs_tokens}
 use Rattle.least_laws.proofs.Tests.{by-test, decide}
-use Rattle.least_laws.proofs.Spans.{Spans, AllSpan, Shape, Facts, spans-lower, blank-span, mark-node}
+use Rattle.least_laws.proofs.Spans.{Spans, AllSpan, Facts, spans-lower, mark-node}
 use Rattle.least_laws.proofs.Spans.Shape.{Token, One, Each}
-use Rattle.least_laws.proofs.Rows.{span-limit}
 use Rattle.least_laws.proofs.ExpressionRows as G
 use Rattle.least_laws.proofs.Levels.{cast-is, dimension-is, expr-is, pattern-is, pattern-item-is, select-is, slice-is, range-is}
 use Rattle.least_laws.proofs.Lists as L

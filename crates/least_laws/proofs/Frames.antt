@@ -1,5 +1,5 @@
 -- The first breaks of the texts of frames.
-use Rattle.std.proofs.Common.{◌≡◌, ℕ, ◌≤◌, List, length, Option, Some, None, refl}
+use Rattle.std.proofs.Common.{◌≡◌, ℕ, List, length, Option, Some, None, refl}
 use Rattle.std.specs.Prelude.{Ok, Err, slice_get}
 use Rattle.sv_source.specs.declared.token.Token.{Token}
 use Rattle.sv_tree.specs.declared.expressions.Expr.{Expr}

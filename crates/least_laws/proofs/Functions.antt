@@ -1,5 +1,5 @@
 -- The tokens of the functions and tasks that are read from a text ascend.
-use Rattle.std.proofs.Common.{◌≡◌, ℕ, suc, ◌<◌, ◌≤◌, true, false, ◌==◌, List, [], ◌∷◌, ◌++◌, Option, Some, None, refl, arith}
+use Rattle.std.proofs.Common.{◌≡◌, ℕ, suc, ◌<◌, ◌≤◌, false, ◌==◌, List, ◌∷◌, ◌++◌, Option, Some, None, arith}
 use Rattle.ll_engine.specs.declared.tree.Tree.{Tree}
 use Rattle.sv_tree.specs.Heads as head
 use Rattle.sv_tree.specs.declared.functions.FormalList.{FormalList}
@@ -13,7 +13,7 @@ use Rattle.expr_type.specs.Names.{OfFunction, OfTask}
 use Rattle.expr_type.specs.Functions as F
 use Rattle.expr_type.specs.Placed.{Ascend}
 use Rattle.expr_type.proofs.Ordering.{ascend-wider}
-use Rattle.order_laws.specs.Ordered.{Tokens, in_row, type_tokens, dims_tokens, formal_tokens, formals_tokens, result_tokens, items_tokens, routine_tokens}
+use Rattle.order_laws.specs.Ordered.{type_tokens, dims_tokens, formal_tokens, formals_tokens, result_tokens, routine_tokens}
 use Rattle.least_laws.proofs.Tests.{by-test}
 use Rattle.least_laws.proofs.Spans.{Spans, blank-span}
 use Rattle.least_laws.proofs.DeclarationRows as G

@@ -1,6 +1,5 @@
 -- The tokens of the type names, headers, variables, assignments, processes and instances that are read from a text ascend.
-use Rattle.std.proofs.Common.{◌≡◌, ℕ, suc, ◌<◌, ◌≤◌, true, false, ◌==◌, List, [], ◌∷◌, ◌++◌, map, Some, None, refl, arith}
-use Rattle.std.specs.Option.{option_map}
+use Rattle.std.proofs.Common.{◌≡◌, ℕ, suc, ◌<◌, ◌≤◌, true, ◌==◌, map, arith}
 use Rattle.ll_engine.specs.declared.tree.Tree.{Tree}
 use Rattle.sv_tree.specs.Heads as head
 use Rattle.sv_tree.specs.declared.instances.Bind.{Bind}
@@ -13,8 +12,8 @@ use Rattle.sv_build.specs.declared.rows.TheConstants as R
 use Rattle.sv_build.specs.Declarations as D
 use Rattle.sv_build.specs.Items as X
 use Rattle.expr_type.specs.Placed.{Ascend}
-use Rattle.order_laws.specs.Ordered.{in_row, if_there, expr_tokens}
-use Rattle.least_laws.specs.Trees.{typedef_tokens, data_tokens, parameter_port_tokens, parameter_list_tokens, header_port_tokens, port_list_tokens, header_tokens, assignment_tokens, assign_tokens, always_tokens, bind_tokens, binds_tokens, connection_tokens, instance_tokens}
+use Rattle.order_laws.specs.Ordered.{in_row}
+use Rattle.least_laws.specs.Trees.{typedef_tokens, data_tokens, parameter_port_tokens, parameter_list_tokens, header_port_tokens, port_list_tokens, header_tokens, assignment_tokens, assign_tokens, always_tokens, bind_tokens, connection_tokens, instance_tokens}
 use Rattle.least_laws.proofs.Tests.{by-test}
 use Rattle.least_laws.proofs.Spans.{Spans}
 use Rattle.least_laws.proofs.ItemRows as G

@@ -1,5 +1,5 @@
 -- Lists and optional parts that are read from the parts of a node.
-use Rattle.std.proofs.Common.{◌≡◌, ℕ, suc, ◌≤◌, Bool, true, false, List, [], ◌∷◌, ◌++◌, map, drop, Option, Some, None, refl, sym, ap, ◌∙◌, subst, append_assoc, arith}
+use Rattle.std.proofs.Common.{◌≡◌, ℕ, suc, ◌≤◌, false, List, [], ◌∷◌, ◌++◌, map, drop, Option, Some, None, refl, sym, ap, ◌∙◌, subst, append_assoc, arith}
 use Rattle.std.specs.Prelude.{slice_get}
 use Rattle.std.specs.Option.{option_map}
 use Rattle.ll_engine.specs.declared.tree.Tree.{Tree}
@@ -8,7 +8,7 @@ use Rattle.expr_type.specs.Placed.{Ascend}
 use Rattle.expr_type.proofs.Ordering.{ascend-append}
 use Rattle.order_laws.specs.Ordered.{Tokens, in_row, if_there}
 use Rattle.least_laws.proofs.Tests.{by-test}
-use Rattle.least_laws.proofs.Spans.{Spans, AllSpan, Shape, Facts}
+use Rattle.least_laws.proofs.Spans.{Spans, AllSpan, Facts}
 use Rattle.least_laws.proofs.Spans.Shape.{Token, One, Each}
 
 -- what is read from each node of a head ascends where the node stands

@@ -1,5 +1,5 @@
 -- The tokens of each function and task of a tree ascend, where those of the tree do.
-use Rattle.std.proofs.Common.{◌≡◌, ℕ, ◌≤◌, Bool, true, false, ◌==◌, cond, List, [], ◌∷◌, ◌++◌, map, Option, Some, None, refl, sym, subst, arith}
+use Rattle.std.proofs.Common.{◌≡◌, ℕ, ◌≤◌, Bool, true, false, ◌==◌, cond, List, [], ◌∷◌, ◌++◌, map, Option, Some, None, sym, subst}
 use Rattle.std.specs.Prelude.{⊤, flat_map}
 use Rattle.sv_tree.specs.declared.items.CaseGenerateItem.{CaseGenerateItem, CaseGenerateItem-F, fold-CaseGenerateItem, roll-CaseGenerateItem, map-CaseGenerateItem, fold-roll-CaseGenerateItem}
 use Rattle.sv_tree.specs.declared.items.GenerateBlock.{GenerateBlock, GenerateBlock-F, fold-GenerateBlock, roll-GenerateBlock, map-GenerateBlock, fold-roll-GenerateBlock}
@@ -16,7 +16,7 @@ use Rattle.expr_type.specs.Functions.{name_of}
 use Rattle.expr_type.specs.Placed.{Ascend}
 use Rattle.expr_type.specs.Routines as T
 use Rattle.expr_type.specs.Routines.{Routines, item_routines, module_routines, named_at, package_item, routines, unit_routines}
-use Rattle.order_laws.specs.Ordered.{Tokens, in_row, if_there, expr_tokens, exprs_tokens, routine_tokens}
+use Rattle.order_laws.specs.Ordered.{Tokens, in_row, expr_tokens, exprs_tokens, routine_tokens}
 use Rattle.order_laws.proofs.Tokens.{split}
 use Rattle.least_laws.specs.Trees as W
 use Rattle.least_laws.specs.Trees.{Somewhere, generate_loop_tokens, choice_tokens, block_tokens, item_tokens, else_tokens, header_tokens, module_tokens, package_item_tokens, unit_tokens, tree_tokens}

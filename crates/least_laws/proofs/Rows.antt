@@ -7,8 +7,7 @@ use Rattle.ll_engine.specs.declared.table.Part.{Part}
 use Rattle.ll_engine.specs.declared.table.Part.TheVariants.{Term, Non, Maybe, Many, Chain}
 use Rattle.ll_engine.specs.declared.table.Row.{Row}
 use Rattle.ll_engine.specs.declared.tree.Tree.{Tree}
-use Rattle.ll_engine.specs.Grammar.{IsRowOf, named}
-use Rattle.ll_engine.specs.Reading.{inside}
+use Rattle.ll_engine.specs.Grammar.{IsRowOf}
 use Rattle.sv_tree.specs.Heads as head
 use Rattle.sv_tree.specs.Table.{table}
 use Rattle.expr_build.specs.Nodes.{kids_of, row_of, is_none, is_blank}

@@ -22,23 +22,20 @@ use Rattle.sv_build.specs.declared.rows.TheConstants as R
 use Rattle.sv_build.specs.declared.variables.VariableText.{VariableText}
 use Rattle.sv_build.specs.Statements as X
 use Rattle.sv_build.specs.Statements.{concatenated_within}
-use Rattle.sv_build.specs.Declarations.{variables_of, variable_text_of, parameters_of}
 use Rattle.expr_build.specs.Nodes.{kids_of, kid, token, row_of, is_none}
 use Rattle.expr_build.specs.Words.{qualified_of}
-use Rattle.expr_build.specs.Expressions.{expr_of, nesting_limit, exprs_of, selects_of}
-use Rattle.expr_build.specs.Types.{alone, scoped, declarators_of}
+use Rattle.expr_build.specs.Expressions.{expr_of, nesting_limit, selects_of}
+use Rattle.expr_build.specs.Types.{alone, scoped}
 use Rattle.expr_type.specs.Placed.{Ascend}
-use Rattle.expr_type.proofs.Ordering.{ascend-wider}
-use Rattle.order_laws.specs.Ordered.{Tokens, in_row, if_there, name_tokens, expr_tokens, exprs_tokens, selects_tokens, slice_tokens, type_tokens, declarators_tokens, lvalue_tokens, start_tokens, loop_step_tokens, stmt_tokens, block_item_tokens, case_item_tokens, else_tokens, items_tokens}
+use Rattle.order_laws.specs.Ordered.{in_row, if_there, name_tokens, expr_tokens, selects_tokens, type_tokens, lvalue_tokens, start_tokens, loop_step_tokens, stmt_tokens, block_item_tokens, case_item_tokens, else_tokens, items_tokens}
 use Rattle.least_laws.proofs.Tests.{by-test}
-use Rattle.least_laws.proofs.Spans.{Spans, AllSpan, Facts, Shape}
-use Rattle.least_laws.proofs.Spans.Shape.{Token, One, Each}
+use Rattle.least_laws.proofs.Spans.{Spans, AllSpan}
 use Rattle.least_laws.proofs.StatementRows as G
 use Rattle.least_laws.proofs.Levels.{as-tokens, lvalue-is, item-is, case-is, stmt-is, else-level}
 use Rattle.least_laws.proofs.Lists as L
 use Rattle.least_laws.proofs.Lists.{Ordered, append}
 use Rattle.least_laws.proofs.Expressions.{name-ordered, expr-ordered, arguments-ordered, exprs-ordered, selects-ordered, slice-size-ordered}
-use Rattle.least_laws.proofs.Types.{dims-ordered, declarators-ordered, keyword-ordered, named-ordered, aggregate-ordered}
+use Rattle.least_laws.proofs.Types.{declarators-ordered, keyword-ordered, named-ordered, aggregate-ordered}
 use Rattle.least_laws.proofs.Declarations.{variables_tokens, parameters-ordered, variables-ordered, variable-text-ordered}
 
 -- a statement with a part that may be left out

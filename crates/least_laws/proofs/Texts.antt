@@ -1,8 +1,7 @@
 -- The tokens of the tree of a text ascend.
-use Rattle.std.proofs.Common.{◌≡◌, ℕ, ◌≤◌, [], ◌∷◌, ◌++◌, List, map, Option, Some, None, refl, sym, ap, ◌∙◌, subst, arith}
+use Rattle.std.proofs.Common.{◌≡◌, ℕ, ◌++◌, List, map, Option, Some, None, sym, ap, ◌∙◌, subst, arith}
 use Rattle.std.specs.Prelude.{slice_get}
 use Rattle.ll_engine.specs.declared.table.Row.{Row}
-use Rattle.ll_engine.specs.declared.table.Part.TheVariants.{Non}
 use Rattle.ll_engine.specs.declared.tree.Tree.{Tree}
 use Rattle.ll_engine.specs.Texts.{IsReading}
 use Rattle.sv_source.specs.declared.token.Token.{Token}
@@ -18,7 +17,7 @@ use Rattle.expr_type.specs.Routines.{named_at, routines}
 use Rattle.order_laws.specs.Ordered.{Tokens, in_row, routine_tokens}
 use Rattle.order_laws.proofs.Tokens.{split}
 use Rattle.least_laws.specs.Trees.{IsPart, Somewhere, unit_tokens, tree_tokens}
-use Rattle.least_laws.proofs.Spans.{Spans, Conforms, conforms, whole-span}
+use Rattle.least_laws.proofs.Spans.{Spans, conforms, whole-span}
 use Rattle.least_laws.proofs.Items.{units-ordered}
 use Rattle.least_laws.proofs.Routines.{routines-ascend, named-ascend}
 

@@ -1,5 +1,5 @@
 -- What is answered of breaks is the token and the rule of the first.
-use Rattle.std.proofs.Common.{◌≡◌, ℕ, Option, Some, None, refl, sym, ap, ◌∙◌}
+use Rattle.std.proofs.Common.{◌≡◌, ℕ, Option, Some, None, refl, ap, ◌∙◌}
 use Rattle.expr_type.specs.Answers as A
 use Rattle.expr_type.specs.Answers.{Break, first_break}
 use Rattle.expr_type.specs.Breaks as B

@@ -1,21 +1,20 @@
 -- The tokens of the types and declared names that are read from a text ascend.
-use Rattle.std.proofs.Common.{◌≡◌, ℕ, zero, suc, ◌+◌, ◌<◌, ◌≤◌, true, false, ◌==◌, List, [], ◌∷◌, ◌++◌, map, Option, Some, None, refl, sym, ap, ◌∙◌, subst, arith}
+use Rattle.std.proofs.Common.{◌≡◌, ℕ, zero, suc, ◌+◌, ◌<◌, ◌≤◌, false, ◌==◌, List, Option, Some, None, arith}
 use Rattle.ll_engine.specs.declared.tree.Tree.{Tree}
 use Rattle.sv_tree.specs.Heads as head
 use Rattle.sv_tree.specs.declared.names.QualifiedName.{QualifiedName}
 use Rattle.sv_tree.specs.declared.types.EnumBase.{EnumBase}
-use Rattle.sv_tree.specs.declared.types.EnumName.{EnumName}
 use Rattle.sv_tree.specs.declared.types.TypeText.{TypeText}
 use Rattle.sv_tree.specs.declared.types.TypeText.TheVariants as T
 use Rattle.sv_tree.specs.declared.declarations.Initializer.{Initializer}
 use Rattle.expr_build.specs.declared.rows.TheConstants as R
-use Rattle.expr_build.specs.Nodes.{kids_of, kid, token, row_of, is_blank}
+use Rattle.expr_build.specs.Nodes.{kid, token, row_of, is_blank}
 use Rattle.expr_build.specs.Expressions.{expr_of, nesting_limit}
 use Rattle.expr_build.specs.Words.{qualified_of}
 use Rattle.expr_build.specs.Types as Y
 use Rattle.expr_build.specs.Types.{dims_of, type_within, type_of, declarator_of, declarators_of, declarators_behind, optional_initializer_of, initializer_of, alone, scoped}
 use Rattle.expr_type.specs.Placed.{Ascend}
-use Rattle.order_laws.specs.Ordered.{Tokens, in_row, name_tokens, dimension_tokens, dims_tokens, expr_tokens, initial_tokens, base_tokens, enum_name_tokens, enum_names_tokens, field_tokens, fields_tokens, type_tokens, member_tokens, declarator_tokens, declarators_tokens}
+use Rattle.order_laws.specs.Ordered.{name_tokens, dims_tokens, initial_tokens, base_tokens, enum_name_tokens, enum_names_tokens, field_tokens, fields_tokens, type_tokens, member_tokens, declarator_tokens, declarators_tokens}
 use Rattle.least_laws.proofs.Tests.{by-test}
 use Rattle.least_laws.proofs.Spans.{Spans, AllSpan}
 use Rattle.least_laws.proofs.TypeRows as G

@@ -1,6 +1,6 @@
 -- The tokens of source trees in the order of the text: those of each expression, type, declared name, target, statement, function and task in
 -- them, wherever they stand.
-use Rattle.std.specs.Prelude.{◌≡◌, ℕ, ◌≤◌, List, [], ◌∷◌, ◌++◌, Option, Some, None, map}
+use Rattle.std.specs.Prelude.{◌≡◌, ℕ, ◌≤◌, [], ◌∷◌, ◌++◌, map}
 use Rattle.std.specs.Option.{option_map}
 use Rattle.sv_tree.specs.declared.instances.Bind.{Bind}
 use Rattle.sv_tree.specs.declared.instances.Bind.TheVariants as B
