@@ -1,6 +1,6 @@
 -- Assignments keep the order of the text: `=`, `op=`, `++` and `--`.
 use Rattle.std.proofs.Common.{ℕ, suc, ◌≤◌, ◌<◌, ◌++◌, Bool, true, List, [], ◌∷◌, map, Option, Some, None, sym, subst, arith}
-use Rattle.std.specs.Prelude.{nat_lt, Ok, Err}
+use Rattle.std.specs.Prelude.{nat_lt, Ok}
 use Rattle.sv_tree.specs.declared.expressions.Expr as X
 use Rattle.sv_tree.specs.declared.expressions.Select.{Select}
 use Rattle.sv_tree.specs.declared.operators.AssignmentOperator.{AssignmentOperator}
@@ -30,12 +30,9 @@ use Rattle.order_laws.proofs.Tokens.{split}
 use Rattle.order_laws.proofs.Typings.{PlacedAs, as-both, as-checked, as-lesser, as-refused, as-then, as-wider, any-placed}
 use Rattle.order_laws.proofs.Parts.{PartsInOrder}
 use Rattle.order_laws.proofs.Targets.{IsPath, TargetStands, named-stands, path-wider, target-in-order}
+use Rattle.order_laws.proofs.Operands.{as-stands}
 use Rattle.order_laws.proofs.Given.{given-stands, operand-wider, value-stands}
 use Rattle.order_laws.proofs.Declared.{InText, operand-in}
-
-pub as-standing : (i : ℕ) (x : Checked Valued) (low high : ℕ) → StandsIf i low high x → PlacedAs (Stands low high) i low high x
-as-standing i (Ok v) low high s = s
-as-standing i (Err b) low high s = s
 
 -- a target as an operand
 operand-of : (k : Context) (t : Target) (low high : ℕ) → TargetStands low high t → PlacedAs (IsPath low high) k.source.instance low high (as_operand k t)
@@ -56,7 +53,7 @@ combined-stands k at (Some op) t o low high h m s p =
     (λ r. where_whole (binary_of op k.source at l r) (λ v. Ok (Plain v))) low high
     (as-wider k.source.instance (Stands (suc at) high) (Stands (suc at) high) (is_value k.source o) (suc at) high low high (omega arith) (omega arith) (λ v q. q) (value-stands k.source (suc at) high o p))
     (λ r y. as-then k.source.instance (Stands low high) (OperandStands k.source.instance low high) (binary_of op k.source at l r) (λ v. Ok (Plain v)) low high
-    (as-standing k.source.instance (binary_of op k.source at l r) low high (binary-stands k.source at low high l r x.0 y op)) (λ v z. z)))
+    (as-stands k.source.instance low high (binary_of op k.source at l r) (binary-stands k.source at low high l r x.0 y op)) (λ v z. z)))
 
 -- `++` and `--`, before what they count or behind it
 abbrev by_one : StepOperator → BinaryOperator
@@ -81,7 +78,7 @@ one-by : (k : Context) (at : ℕ) (op : StepOperator) (l : Valued) (of : SvType)
     → PlacedAs (Stands low high) k.source.instance low high (binary_of (by_one op) k.source at l (by_itself k.source at of form))
 one-by k at op l of form low high h m s =
     as-refused k.source.instance (Stands low high) _ (position k.source at) 508 (by_kind (binary_kind (by_one op)) k.source at l (by_itself k.source at of form)) low high (place k.source at low high h m)
-    (as-standing k.source.instance (by_kind (binary_kind (by_one op)) k.source at l (by_itself k.source at of form)) low high (counted-by k at op l of form low high h m s))
+    (as-stands k.source.instance low high (by_kind (binary_kind (by_one op)) k.source at l (by_itself k.source at of form)) (counted-by k at op l of form low high h m s))
 
 one-combined : (k : Context) (at : ℕ) (op : StepOperator) (t : Target) (of : SvType) (form : Form) (low high : ℕ) → low ≤ at → at < high → TargetStands low high t
     → PlacedAs (OperandStands k.source.instance low high) k.source.instance low high (combined k at (Some (by_one op)) t (Plain (by_itself k.source at of form)))

@@ -12,7 +12,8 @@ use Rattle.expr_type.specs.Statements.{continuous, parameters, typed_stmt}
 use Rattle.expr_type.specs.Placed.{Ascend, OperandStands, RoutinesInOrder, Stands}
 use Rattle.order_laws.specs.Laws.{TreesKeepOrder}
 use Rattle.order_laws.specs.Ordered.{expr_tokens}
-use Rattle.order_laws.proofs.Typings.{PlacedAs, TypedAs, as-checked, as-then, placed-any}
+use Rattle.order_laws.proofs.Typings.{PlacedAs, TypedAs, as-checked, as-then}
+use Rattle.order_laws.proofs.Operands.{placed-from}
 use Rattle.order_laws.proofs.Parts.{PartsInOrder}
 use Rattle.order_laws.proofs.Given.{given-stands, value-stands}
 use Rattle.order_laws.proofs.Declared.{operand-in, parameters-in}
@@ -34,10 +35,10 @@ module _ (parts : PartsInOrder) where
 
   pub keep-order : TreesKeepOrder
   keep-order = record {
-    expr = λ e want low high h a k rs. placed-any k.source.instance (typed_expr k e want) low high (expr-in-order e want low high h a k rs);
+    expr = λ e want low high h a k rs. placed-from k.source.instance low high (λ a. Unit {0}) (typed_expr k e want) (expr-in-order e want low high h a k rs);
     text = λ t low high h a k rs. parts.text t low high h a k rs;
-    parameters = λ before bs low high h a k rs. placed-any k.source.instance (parameters k before bs) low high (parameters-in parts k before bs low high rs h a);
-    assignment = λ to at e low high h a k rs. placed-any k.source.instance (continuous k to at e) low high (assign-in parts k to false at A.Assign e low high rs h a);
-    stmt = λ s low high h a k rs. placed-any k.source.instance (typed_stmt k s) low high (stmt-in-order parts s low high h a k rs);
+    parameters = λ before bs low high h a k rs. placed-from k.source.instance low high (λ a. Unit {0}) (parameters k before bs) (parameters-in parts k before bs low high rs h a);
+    assignment = λ to at e low high h a k rs. placed-from k.source.instance low high (λ a. Unit {0}) (continuous k to at e) (assign-in parts k to false at A.Assign e low high rs h a);
+    stmt = λ s low high h a k rs. placed-from k.source.instance low high (λ a. Unit {0}) (typed_stmt k s) (stmt-in-order parts s low high h a k rs);
     routines = λ depth k texts. routines-in-order parts depth k texts;
   }

@@ -23,7 +23,8 @@ use Rattle.expr_type.specs.Placed.{Ascend, Placed, RoutinesInOrder}
 use Rattle.order_laws.specs.Laws.{AscendsIf, TextsAscend}
 use Rattle.order_laws.specs.Ordered.{dims_tokens, type_tokens, port_tokens, formal_tokens, formals_tokens, result_tokens, items_tokens, routine_tokens}
 use Rattle.order_laws.proofs.Tokens.{split}
-use Rattle.order_laws.proofs.Typings.{any-from, as-both-any, as-checked, placed-any}
+use Rattle.order_laws.proofs.Typings.{any-from, as-both-any, as-checked}
+use Rattle.order_laws.proofs.Operands.{placed-from}
 use Rattle.order_laws.proofs.Parts.{PartsInOrder}
 use Rattle.order_laws.proofs.Declared.{InText, KeepsOrder, declared-in, long-in, text-in}
 use Rattle.order_laws.proofs.Walk.{items-in-order}
@@ -143,7 +144,7 @@ module _ (parts : PartsInOrder) where
         k.source.instance,
         p.0,
         p.1,
-        placed-any k.source.instance (checked (by_text k n t) appended) p.0 p.1
+        placed-from k.source.instance p.0 p.1 (λ a. Unit {0}) (checked (by_text k n t) appended)
             (as-checked k.source.instance (λ f. Unit {0}) (λ c. Unit {0}) (by_text k n t) appended p.0 p.1 (text-in-order k n t p.0 p.1 p.2 p.3 rs) (λ f u gs. tt)) fs,
       )
 

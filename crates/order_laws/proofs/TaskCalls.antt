@@ -23,7 +23,7 @@ use Rattle.expr_type.proofs.Ordering.{place}
 use Rattle.order_laws.specs.Meanings.{ExprInOrder, TargetIf}
 use Rattle.order_laws.proofs.Typings.{PlacedAs, TypedAs, Each, IfThere, any-typing, as-all, as-all-of, as-both-any, as-checked, as-refused, as-then, as-wider}
 use Rattle.order_laws.proofs.Given.{first-within, operand-typing, passed-stands, unstreamed-stands}
-use Rattle.order_laws.proofs.Assignments.{as-standing}
+use Rattle.order_laws.proofs.Operands.{as-stands}
 use Rattle.order_laws.proofs.Declared.{InText, KeepsOrder}
 
 -- actuals
@@ -48,7 +48,7 @@ target-stands k e low high rs p = by (e.as_target k) (p.as_target k rs)
         (λ o s fs. let f = first-within k.source low high o s in place k.source (first_of o) low high f.0 f.1)
     by (Some x) q =
         as-checked k.source.instance (Stands low high) (ActualStands k.source.instance low high) x (λ v. whole (record { value = None; target = Some v })) low high
-        (λ fs. as-standing k.source.instance (x fs).result low high (q fs)) (λ v s fs. (tt, s))
+        (λ fs. as-stands k.source.instance low high (x fs).result (q fs)) (λ v s fs. (tt, s))
 
 actual-stands : (k : Context) (o : Option Way) (e : Meaning) (low high : ℕ) → RoutinesInOrder k → ExprInOrder low high e → TypedAs (ActualStands k.source.instance low high) k.source.instance low high (actual_by k o e)
 actual-stands k None e low high rs p = value-stands k e low high rs p

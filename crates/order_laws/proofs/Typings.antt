@@ -39,13 +39,6 @@ module _ (i : ℕ) where
   pub any-typing : {A : Type 0} (x : Typing A) (low high : ℕ) → PlacedTyping i low high x → TypedAs (λ a. Unit {0}) i low high x
   any-typing x low high p fs = any-placed (x fs).result low high (p fs)
 
-  placed-of : {A : Type 0} (x : Checked A) (low high : ℕ) → PlacedAs (λ a. Unit {0}) i low high x → Placed i low high x
-  placed-of (Ok a) low high p = tt
-  placed-of (Err b) low high p = p
-
-  pub placed-any : {A : Type 0} (x : Typing A) (low high : ℕ) → TypedAs (λ a. Unit {0}) i low high x → PlacedTyping i low high x
-  placed-any x low high p fs = placed-of (x fs).result low high (p fs)
-
   pub any-from : {A : Type 0} (P : A → Type 0) (x : Typing A) (low high low' high' : ℕ) → low' ≤ low → high ≤ high' → TypedAs P i low high x
       → TypedAs (λ a. Unit {0}) i low' high' x
   any-from P x low high low' high' h m p fs = as-wider P (λ a. Unit {0}) (x fs).result low high low' high' h m (λ a q. tt) (p fs)
