@@ -1,9 +1,12 @@
 -- The first breaks of the texts of frames.
-use Rattle.std.proofs.Common.{◌≡◌, ℕ, List, length, Option, Some, None, refl}
+use Rattle.std.proofs.Common.{◌≡◌, ℕ, ◌∷◌, ◌++◌, List, length, Option, Some, None, refl}
 use Rattle.std.specs.Prelude.{Ok, Err, slice_get}
 use Rattle.sv_source.specs.declared.token.Token.{Token}
+use Rattle.sv_tree.specs.declared.declarations.ParameterBody.{ParameterBody}
 use Rattle.sv_tree.specs.declared.expressions.Expr.{Expr}
+use Rattle.sv_tree.specs.declared.statements.Lvalue.{Lvalue}
 use Rattle.sv_tree.specs.declared.statements.Stmt.{Stmt}
+use Rattle.sv_tree.specs.declared.types.TypeText.{TypeText}
 use Rattle.sv_tree.specs.declared.units.SourceTree.{SourceTree}
 use Rattle.sv_types.specs.declared.frame.Frame.{Frame}
 use Rattle.sv_types.specs.declared.statement.Function.{Function}
@@ -14,11 +17,13 @@ use Rattle.package_scope.specs.declared.table.Table.{Table}
 use Rattle.expr_type.specs.Names.{Called, RoutineText}
 use Rattle.expr_type.specs.Placed.{Placed, RoutinesInOrder}
 use Rattle.expr_type.specs.Routines.{named_at, routines}
+use Rattle.expr_type.specs.Statements.{Kind, continuous, parameters}
+use Rattle.expr_type.specs.Types.{typed_text}
 use Rattle.expr_type.specs.Typings.{Checked, applied, whole}
 use Rattle.expr_type.proofs.Orders.{first-least}
 use Rattle.frame_texts.specs.Frames.{context, type_expr, type_function, type_stmt, without_routines, without_signals}
 use Rattle.order_laws.specs.Laws.{AscendsIf, TextsAscend}
-use Rattle.order_laws.specs.Ordered.{expr_tokens, stmt_tokens}
+use Rattle.order_laws.specs.Ordered.{expr_tokens, lvalue_tokens, parameters_tokens, stmt_tokens, type_tokens}
 use Rattle.order_laws.proofs.Laws.{keep-order}
 use Rattle.order_laws.proofs.Together.{parts}
 use Rattle.least_laws.specs.Laws.{FirstIsLeast}
@@ -51,6 +56,21 @@ module _ (tokens : List Token) (tree : SourceTree) (t : Table) (f : Frame) (at :
 
   pub stmt-least : (x : Stmt) → Somewhere (stmt_tokens x) → FirstIsLeast (type_stmt tree t f at x).result
   stmt-least x s = placed-least f.instance s.0 s.1 (type_stmt tree t f at x).result ((keep-order parts).stmt x s.0 s.1 s.2 s.3 (context tree t f at) in-order f.functions)
+
+  pub type-least : (x : TypeText) → Somewhere (type_tokens x) → FirstIsLeast (typed_text x (context tree t f at) f.functions).result
+  type-least x s =
+      placed-least f.instance s.0 s.1 (typed_text x (context tree t f at) f.functions).result ((keep-order parts).text x s.0 s.1 s.2 s.3 (context tree t f at) in-order f.functions)
+
+  pub parameters-least : (before : Kind) (bs : List ParameterBody) → Somewhere (parameters_tokens bs) → FirstIsLeast (parameters (context tree t f at) before bs f.functions).result
+  parameters-least before bs s =
+      placed-least f.instance s.0 s.1 (parameters (context tree t f at) before bs f.functions).result
+      ((keep-order parts).parameters before bs s.0 s.1 s.2 s.3 (context tree t f at) in-order f.functions)
+
+  pub assignment-least : (to : Lvalue) (equals : ℕ) (e : Expr) → Somewhere (lvalue_tokens to ++ (equals ∷ expr_tokens e))
+      → FirstIsLeast (continuous (context tree t f at) to equals e f.functions).result
+  assignment-least to equals e s =
+      placed-least f.instance s.0 s.1 (continuous (context tree t f at) to equals e f.functions).result
+      ((keep-order parts).assignment to equals e s.0 s.1 s.2 s.3 (context tree t f at) in-order f.functions)
 
 placed-place : (i low high : ℕ) (x : Checked Called) (fs : List Function) → Placed i low high x → FirstIsLeast (applied x (λ (c : Called). whole c.place) fs).result
 placed-place i low high (Ok c) fs p = tt

@@ -1,8 +1,11 @@
 -- The laws: tokens ascend in a tree that is read, and the first break of a text of a frame, in the order of the text, is the least.
-use Rattle.std.specs.Prelude.{◌≡◌, ℕ, List, [], ◌∷◌, Option, Some, None, Ok, Err}
+use Rattle.std.specs.Prelude.{◌≡◌, ℕ, List, [], ◌∷◌, ◌++◌, Option, Some, None, Ok, Err}
 use Rattle.sv_source.specs.declared.token.Token.{Token}
+use Rattle.sv_tree.specs.declared.declarations.ParameterBody.{ParameterBody}
 use Rattle.sv_tree.specs.declared.expressions.Expr.{Expr}
+use Rattle.sv_tree.specs.declared.statements.Lvalue.{Lvalue}
 use Rattle.sv_tree.specs.declared.statements.Stmt.{Stmt}
+use Rattle.sv_tree.specs.declared.types.TypeText.{TypeText}
 use Rattle.sv_tree.specs.declared.units.SourceTree.{SourceTree}
 use Rattle.sv_types.specs.declared.frame.Frame.{Frame}
 use Rattle.sv_types.specs.declared.types.SvType.{SvType}
@@ -12,9 +15,11 @@ use Rattle.expr_type.specs.Answers.{Break, first_break}
 use Rattle.expr_type.specs.Breaks.{Position, Breaks, Key, IsLeast, first}
 use Rattle.expr_type.specs.Names.{RoutineText}
 use Rattle.expr_type.specs.Routines.{named_at, routines}
+use Rattle.expr_type.specs.Statements.{Kind, continuous, parameters}
+use Rattle.expr_type.specs.Types.{typed_text}
 use Rattle.expr_type.specs.Typings.{Checked}
-use Rattle.frame_texts.specs.Frames.{type_expr, type_function, type_stmt}
-use Rattle.order_laws.specs.Ordered.{Tokens, expr_tokens, routine_tokens, stmt_tokens}
+use Rattle.frame_texts.specs.Frames.{context, type_expr, type_function, type_stmt}
+use Rattle.order_laws.specs.Ordered.{Tokens, expr_tokens, lvalue_tokens, parameters_tokens, routine_tokens, stmt_tokens, type_tokens}
 use Rattle.least_laws.specs.Trees.{IsPart, Somewhere, tree_tokens}
 
 pub record TreesAscend : Type 0 where
@@ -52,5 +57,12 @@ pub record FirstBreaksAreLeast : Type 0 where
   pub any_expr : (tokens : List Token) (tree : SourceTree) (t : Table) (f : Frame) (at : ℕ) (e : Expr) (want : Option SvType) → Reads tokens tree → Somewhere (expr_tokens e)
       → FirstIsLeast (type_expr tree t f at e want).result
   pub any_stmt : (tokens : List Token) (tree : SourceTree) (t : Table) (f : Frame) (at : ℕ) (s : Stmt) → Reads tokens tree → Somewhere (stmt_tokens s) → FirstIsLeast (type_stmt tree t f at s).result
+  -- types, parameters and continuous assignments in the text of a frame
+  pub any_type : (tokens : List Token) (tree : SourceTree) (t : Table) (f : Frame) (at : ℕ) (x : TypeText) → Reads tokens tree → Somewhere (type_tokens x)
+      → FirstIsLeast (typed_text x (context tree t f at) f.functions).result
+  pub any_parameters : (tokens : List Token) (tree : SourceTree) (t : Table) (f : Frame) (at : ℕ) (before : Kind) (bs : List ParameterBody) → Reads tokens tree → Somewhere (parameters_tokens bs)
+      → FirstIsLeast (parameters (context tree t f at) before bs f.functions).result
+  pub any_assignment : (tokens : List Token) (tree : SourceTree) (t : Table) (f : Frame) (at : ℕ) (to : Lvalue) (equals : ℕ) (e : Expr) → Reads tokens tree
+      → Somewhere (lvalue_tokens to ++ (equals ∷ expr_tokens e)) → FirstIsLeast (continuous (context tree t f at) to equals e f.functions).result
   -- what calls answer of breaks is the token and the rule of the first
   pub told : (b : Breaks) → first_break b ≡ break_of (first b)
