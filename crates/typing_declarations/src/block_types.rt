@@ -1,6 +1,6 @@
 //! Types in declarations.
 
-ghost use Rattle.std.specs.Prelude.{◌≡◌, IfOk, map, true};
+ghost use Rattle.std.specs.Prelude.{◌≡◌, None, IfOk, map, true};
 ghost use Rattle.expr_type.specs.Statements as statement;
 ghost use Rattle.routine_fits.specs.Sound.{AllSoundFunctions};
 ghost use Rattle.typing_fits.specs.Sound.{Extends};
@@ -114,6 +114,28 @@ fn sign_alone(of: &TypeText) -> Option<Signing>
     }
 }
 
+// A type that is written.
+#[tactic(auto, using(typing_parts::proofs::Keeping::keepings))]
+fn type_alone<B: Base, C: Fn(u32, &mut Known) -> Result<u32, Halt>>(
+    alloc: Global,
+    names: &Scope<'_, B>,
+    needs: &C,
+    of: &TypeText,
+    known: &mut Known,
+) -> Result<WrittenType, Halt>
+    requires needs { MakesKnown _ ((n : _) (k : _) → IsReady k.now → C.pre needs.now n k) (λ k. k.now) (C.post needs.now) (context_of B.context names.now) }
+    requires names { Surrounded AllSoundFunctions (context_of B.context names.now) }
+    requires written { type_written of.now ≡ true }
+    requires ready { IsReady known.old }
+    ensures value { TypesTo (as_meant written_of result) (statement.sign_or_type (context_of B.context names.now) of.now None known.old.functions) known.new.functions }
+    ensures ready { IsReady known.new }
+    ensures keeps { Extends known.old.functions known.new.functions }
+{
+    let found = typed_text(alloc, names, needs, of, known)?;
+    let TypeFound { of: t, .. } = found;
+    Ok(WrittenType::OfType(t))
+}
+
 // A type that is written, or a sign alone, which takes the range of the value.
 #[tactic(auto, using(typing_parts::proofs::Keeping::keepings))]
 fn sign_or_type<B: Base, C: Fn(u32, &mut Known) -> Result<u32, Halt>>(
@@ -132,12 +154,10 @@ fn sign_or_type<B: Base, C: Fn(u32, &mut Known) -> Result<u32, Halt>>(
     ensures ready { IsReady known.new }
     ensures keeps { Extends known.old.functions known.new.functions }
 {
-    if let Some(sign) = signing {
-        return Ok(WrittenType::OfValue(Some(sign)));
+    match signing {
+        Some(sign) => Ok(WrittenType::OfValue(Some(sign))),
+        None => type_alone(alloc, names, needs, of, known),
     }
-    let found = typed_text(alloc, names, needs, of, known)?;
-    let TypeFound { of: t, .. } = found;
-    Ok(WrittenType::OfType(t))
 }
 
 /// What is written of a parameter's type, or what is of that of the parameter before where nothing is (IEEE 1800-2017 clause 6.20.2).

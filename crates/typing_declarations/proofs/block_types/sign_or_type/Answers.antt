@@ -1,16 +1,8 @@
-use Rattle.std.proofs.Common.{Option, Some, None, Ok, Err, ap, refl, sym, ◌∙◌, subst}
-use Rattle.std.specs.Prelude.{Result}
-use Rattle.std.proofs.lemmas.Result.{err_from_is_err_and}
+use Rattle.std.proofs.Common.{Option, Some, Ok, refl, sym, subst}
 use Rattle.sv_tree.specs.declared.names.Signing.{Signing}
-use Rattle.expr_type.specs.declared.halt.Halt.{Halt}
 use Rattle.expr_type.specs.Statements as S
-use Rattle.expr_type.specs.Types.{TypeFound}
-use Rattle.typing_calls.specs.Lists.{as_meant}
 use Rattle.typing_scopes.specs.Scopes.{context_of}
 use Rattle.typing_steps.specs.Steps.{TypesTo}
-use Rattle.typing_declarations.specs.declared.block_types.WrittenType.{WrittenType}
-use Rattle.typing_declarations.specs.Kinds.{written_of}
-use Rattle.typing_declarations.proofs.Making.{text-types}
 use Rattle.typing_declarations.proofs.block_types.sign_or_type.Goals as goal
 
 pub returns-in-Some-clause-value : goal.returns-in-Some-clause-value
@@ -19,21 +11,3 @@ returns-in-Some-clause-value g c =
     let fs = c.args.known.now.functions in
     subst (λ (o : Option Signing). TypesTo (Ok (S.OfValue (Some c.in-Some.sign))) (S.sign_or_type k c.args.of.now o fs) fs) (sym c.in-Some.is) refl
 
-pub returns-in_err-found-clause-value : goal.returns-in_err-found-clause-value
-returns-in_err-found-clause-value g c =
-    let k = context_of g.B.Names.context c.args.names.now in
-    let of = c.args.of.now in
-    let fs = c.args.known.now.functions in
-    let gs = c.typed_text.new.known.functions in
-    let e = err_from_is_err_and c.from_residual.result c.from_residual.ensures.1 in
-    subst (λ (o : Option Signing). TypesTo (as_meant written_of c.from_residual.result) (S.sign_or_type k of o fs) gs) (sym c.in-None.is)
-    (subst (λ (r : Result WrittenType Halt). TypesTo (as_meant written_of r) (S.sign_or_type k of None fs) gs) (sym (e.1 ∙ ap Err e.2)) (text-types k of (Err c.in_err-found.field-0.0) fs gs c.in_err-found.ensures.value))
-
-pub returns-clause-value : goal.returns-clause-value
-returns-clause-value g c =
-    let k = context_of g.B.Names.context c.args.names.now in
-    let of = c.args.of.now in
-    let fs = c.args.known.now.functions in
-    let gs = c.typed_text.new.known.functions in
-    subst (λ (o : Option Signing). TypesTo (Ok (S.OfType c.found.of)) (S.sign_or_type k of o fs) gs) (sym c.in-None.is)
-    (subst (λ (f : TypeFound). TypesTo (Ok (S.OfType f.of)) (S.sign_or_type k of None fs) gs) (sym c.found.view_is) (text-types k of (Ok c.in_ok-found.found) fs gs c.in_ok-found.ensures.value))
