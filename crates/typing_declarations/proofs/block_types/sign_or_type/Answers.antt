@@ -10,4 +10,3 @@ returns-in-Some-clause-value g c =
     let k = context_of g.B.Names.context c.args.names.now in
     let fs = c.args.known.now.functions in
     subst (λ (o : Option Signing). TypesTo (Ok (S.OfValue (Some c.in-Some.sign))) (S.sign_or_type k c.args.of.now o fs) fs) (sym c.in-Some.is) refl
-
