@@ -2,6 +2,7 @@
 use Rattle.std.proofs.Common.{◌≡◌, ℕ, max, Bool, true, false, List, [], Option, Some, None, refl, sym, ap, ◌∙◌, subst, arith}
 use Rattle.std.specs.Prelude.{Result, Ok, Err, nat_lt, ◌||◌, slice_index_or}
 use Rattle.std.specs.List.{list_any}
+use Rattle.sv_tree.specs.declared.names.Signing.{Signing}
 use Rattle.sv_types.specs.declared.expression.Expr.{Expr}
 use Rattle.sv_types.specs.declared.frame.ParamValue.{ParamValue}
 use Rattle.sv_types.specs.declared.statement.Function.{Function}
@@ -17,9 +18,11 @@ use Rattle.expr_type.specs.declared.halt.Halt.TheVariants as H
 use Rattle.expr_type.specs.declared.operand.Valued.{Valued}
 use Rattle.expr_type.specs.Answers.{Gives, HaltsBy, reason}
 use Rattle.expr_type.specs.Breaks.{At}
+use Rattle.expr_type.specs.Forms.{is_signed_by}
 use Rattle.expr_type.specs.Names.{Context, Source, position}
-use Rattle.expr_type.specs.Operands.{Operand, constant_alone, constant_given, constant_of, constant_pattern, constant_stream, is_constant, is_constant_value, is_given, passed, stops, value_by}
+use Rattle.expr_type.specs.Operands.{Operand, constant_alone, constant_given, constant_of, constant_pattern, constant_stream, is_constant, is_constant_value, is_given, passed, stops, value_by, Plain, width}
 use Rattle.expr_type.specs.Operators.{not_too_long}
+use Rattle.expr_type.specs.Shapes.{vector}
 use Rattle.expr_type.specs.Statements as S
 use Rattle.expr_type.specs.Typings.{Checked, lesser, refused, where_whole}
 use Rattle.expr_type.specs.Uses.{holds_stream, names_any, nothing, stream_marks, uses}
@@ -37,7 +40,7 @@ use Rattle.typing_fits.proofs.Given.{alone-fits, for-fits, knows-itself, pattern
 use Rattle.typing_fits.proofs.Limits.{at-width}
 use Rattle.stmt_laws.proofs.Values.{NoStream}
 use Rattle.constant_values.specs.declared.parameters.Place.{Place}
-use Rattle.constant_values.specs.Parameters.{AllGiven, IsGiven, IsGivenIf, limited, of_own_type, of_type, param, parameter_value, short}
+use Rattle.constant_values.specs.Parameters.{AllGiven, IsGiven, IsGivenIf, limited, of_own_type, of_range, of_type, param, parameter_value, short}
 use Rattle.constant_values.specs.Rules.{IsFree}
 use Rattle.constant_values.specs.Valuing.{runs_on, valued}
 
@@ -230,6 +233,18 @@ own-pattern k p fs tick times is = subst (λ (o : Operand). HaltsBy (H.Breaks ti
 pub own-stream : (k : Source) (p : Place) (fs : List Function) (v : Valued) (r : Result ParamValue Halt) → Gives r (constant_stream {A = ParamValue} k v) → Gives r (of_own_type k p (operand_of k (OV.Stream v)) fs)
 own-stream k p fs v r g = subst (λ (o : Operand). Gives r (of_own_type k p o fs)) (sym (operand-Stream k v)) (valued-by k v.first (by_value k p fs) r (names_any v.expr) g)
 
+abbrev by_range : Source → Place → Bool → List Function → Valued → Checked ParamValue
+by_range k p signed fs v = of_type k p (vector (width v) signed) (Plain v) fs
+
+pub range-plain : (k : Source) (p : Place) (signed : Bool) (fs : List Function) (v : Valued) (r : Result ParamValue Halt) → Gives r (by_range k p signed fs v) → Gives r (of_range k p signed (operand_of k (OV.Plain v)) fs)
+range-plain k p signed fs v r g = subst (λ (o : Operand). Gives r (of_range k p signed o fs)) (sym (operand-Plain k v)) g
+
+pub range-pattern : (k : Source) (p : Place) (signed : Bool) (fs : List Function) (tick times : ℕ) (is : List J.Item) → HaltsBy (H.Breaks tick 505) (reason (of_range k p signed (operand_of k (OV.Pattern tick times is)) fs))
+range-pattern k p signed fs tick times is = subst (λ (o : Operand). HaltsBy (H.Breaks tick 505) (reason (of_range k p signed o fs))) (sym (operand-Pattern k tick times is)) refl
+
+pub range-stream : (k : Source) (p : Place) (signed : Bool) (fs : List Function) (v : Valued) (r : Result ParamValue Halt) → Gives r (constant_stream {A = ParamValue} k v) → Gives r (of_range k p signed (operand_of k (OV.Stream v)) fs)
+range-stream k p signed fs v r g = subst (λ (o : Operand). Gives r (of_range k p signed o fs)) (sym (operand-Stream k v)) (valued-by k v.first (by_range k p signed fs) r (names_any v.expr) g)
+
 -- A parameter of a text, which has at most 65,536 bits.
 abbrev pub short_value : Context → ℕ → Option SvType → Operand → List Function → Checked ParamValue
 short_value k at t o fs = where_whole (S.constant_value k at t o fs) (λ (v : ParamValue). not_too_long k.source at (width_of v.of) (Ok v))
@@ -251,3 +266,13 @@ own-short k at fs (Err b) = refl
 pub short-is : (k : Context) (at : ℕ) (t : Option SvType) (o : Operand) (fs : List Function) → short_value k at t o fs ≡ parameter_value k.source (place_at k at) t o fs
 short-is k at None o fs = own-short k at fs (is_constant_value k.source o)
 short-is k at (Some t) o fs = made-short k at t fs (constant_of k.source t o fs)
+
+range-short : (k : Context) (at : ℕ) (s : Signing) (fs : List Function) (c : Checked Valued)
+    → where_whole (where_whole c (λ (v : Valued). S.constant_value k at (Some (vector (width v) (is_signed_by s))) (Plain v) fs)) (λ (v : ParamValue). not_too_long k.source at (width_of v.of) (Ok v))
+    ≡ where_whole c (by_range k.source (place_at k at) (is_signed_by s) fs)
+range-short k at s fs (Ok v) = made-short k at (vector (width v) (is_signed_by s)) fs (constant_of k.source (vector (width v) (is_signed_by s)) (Plain v) fs)
+range-short k at s fs (Err b) = refl
+
+pub range-is : (k : Context) (at : ℕ) (s : Signing) (o : Operand) (fs : List Function)
+    → where_whole (S.ranged_value k at s o fs) (λ (v : ParamValue). not_too_long k.source at (width_of v.of) (Ok v)) ≡ of_range k.source (place_at k at) (is_signed_by s) o fs
+range-is k at s o fs = range-short k at s fs (is_constant_value k.source o)

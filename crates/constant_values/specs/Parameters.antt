@@ -1,5 +1,5 @@
 -- Parameters by their values.
-use Rattle.std.specs.Prelude.{◌≡◌, ⊤, ℕ, true, List, Option, Some, None, Result, Ok, Err}
+use Rattle.std.specs.Prelude.{◌≡◌, ⊤, ℕ, Bool, true, List, Option, Some, None, Result, Ok, Err}
 use Rattle.sv_types.specs.declared.expression.Expr.{Expr}
 use Rattle.sv_types.specs.declared.frame.ParamValue.{ParamValue}
 use Rattle.sv_types.specs.declared.statement.Function.{Function}
@@ -7,8 +7,9 @@ use Rattle.sv_types.specs.declared.types.SvType.{SvType}
 use Rattle.sv_types.specs.Layouts.{width_of}
 use Rattle.expr_type.specs.declared.halt.Halt.{Halt}
 use Rattle.expr_type.specs.Names.{Source, position}
-use Rattle.expr_type.specs.Operands.{Operand, constant_alone, constant_of, is_constant_value, stops, value_by}
+use Rattle.expr_type.specs.Operands.{Operand, Plain, constant_alone, constant_of, is_constant_value, stops, value_by, width}
 use Rattle.expr_type.specs.Operators.{not_too_long}
+use Rattle.expr_type.specs.Shapes.{vector}
 use Rattle.expr_type.specs.Typings.{Checked, refused, where_whole}
 use Rattle.typing_fits.specs.Sound.{SoundAlone, SoundFor}
 use Rattle.typing_fits.specs.Types.{is_full}
@@ -31,6 +32,10 @@ of_type k p t o fs = where_whole (constant_of k t o fs) (short k p t fs)
 
 abbrev pub of_own_type : Source → Place → Operand → List Function → Checked ParamValue
 of_own_type k p o fs = where_whole (is_constant_value k o) (λ v. where_whole (constant_alone k v fs) (short k p v.expr.of fs))
+
+-- of a sign and the range of what it is given
+abbrev pub of_range : Source → Place → Bool → Operand → List Function → Checked ParamValue
+of_range k p signed o fs = where_whole (is_constant_value k o) (λ v. of_type k p (vector (width v) signed) (Plain v) fs)
 
 abbrev pub parameter_value : Source → Place → Option SvType → Operand → List Function → Checked ParamValue
 parameter_value k p None o fs = of_own_type k p o fs

@@ -6,4 +6,4 @@ mod parameters;
 mod rules;
 mod runs;
 
-pub use parameters::{Place, parameter_value};
+pub use parameters::{Place, parameter_value, ranged_value};

@@ -6,6 +6,7 @@ ghost use Rattle.eval_runs.specs.Functions.{AllCanRun};
 ghost use Rattle.sv_types.specs.declared.expression.Expr.{Expr as AnExpr};
 ghost use Rattle.expr_type.specs.Answers.{Gives, source};
 ghost use Rattle.expr_type.specs.Operands as rule;
+ghost use Rattle.expr_type.specs.Shapes.{vector};
 ghost use Rattle.expr_type.specs.Typings.{Checked, where_whole};
 ghost use Rattle.expr_type.specs.Uses.{stream_marks};
 ghost use Rattle.given_types.specs.Admitting.{Admits};
@@ -15,7 +16,7 @@ ghost use Rattle.stmt_laws.proofs.Values.{NoStream};
 ghost use Rattle.typing_fits.specs.Operands.{SoundOperand};
 ghost use Rattle.typing_fits.specs.Sound.{Sound};
 ghost use Rattle.typing_fits.specs.Types.{is_full};
-ghost use Rattle.constant_values.specs.Parameters.{AllGiven, FullIfThere, IsGiven, IsGivenIf, limited, of_own_type, of_type, parameter_value, short};
+ghost use Rattle.constant_values.specs.Parameters.{AllGiven, FullIfThere, IsGiven, IsGivenIf, limited, of_own_type, of_range, of_type, parameter_value, short};
 
 use crate::rules::may_stand;
 use crate::runs::{runs_on, valued};
@@ -24,8 +25,8 @@ use expr_type::{Halt, Source, Valued};
 use given_types::{is_above, may_give};
 use pattern_types::{Operand, fitted, listed};
 use std::alloc::Global;
-use sv_types::{Expr, Functions, ParamValue, SvType};
-use type_kinds::copy_type;
+use sv_types::{Expr, Functions, ParamValue, SvType, width};
+use type_kinds::{copy_type, vector};
 
 // The most bits of a parameter.
 const MOST_BITS: u32 = 65_536;
@@ -202,6 +203,54 @@ fn of_own_type(
             functions,
             marks,
         ),
+        Operand::Pattern { tick, items, .. } => {
+            drop(items);
+            Err(Halt::Breaks {
+                at: tick,
+                rule: 505,
+            })
+        }
+        Operand::Stream(v) => stream_value(alloc, text, v),
+    }
+}
+
+// The value of a parameter of a sign and the range of its value.
+fn plain_range(
+    alloc: Global,
+    text: Source<'_>,
+    of: Place,
+    signed: bool,
+    v: &Valued,
+    functions: &Functions,
+    marks: &[bool],
+) -> Result<ParamValue, Halt>
+    requires functions { AllCanRun functions.now }
+    requires marks { marks.now ≡ stream_marks functions.now }
+    requires sound { Sound v.now functions.now }
+    ensures { Gives result (of_type (source text.entry) of (vector (rule.width v.now) signed) (rule.Plain v.now) functions.now) }
+{
+    let t = vector(alloc, width(&v.expr.of), signed)?;
+    plain_value(alloc, text, of, &t, v, functions, marks)
+}
+
+/// The value of a parameter of which a sign is written and no type (IEEE 1800-2017 clause 6.20.2): it has that sign and the range of what
+/// it is given, which breaks the rules of `parameter_value`; a pattern has none (E505).
+pub fn ranged_value(
+    alloc: Global,
+    text: Source<'_>,
+    of: Place,
+    signed: bool,
+    o: Operand,
+    functions: &Functions,
+    marks: &[bool],
+) -> Result<ParamValue, Halt>
+    requires functions { AllCanRun functions.now }
+    requires marks { marks.now ≡ stream_marks functions.now }
+    requires sound { SoundOperand (operand_of (source text) o) functions.now }
+    ensures { Gives result (of_range (source text.entry) of signed (operand_of (source text.entry) o) functions.now) }
+{
+    match o {
+        Operand::Plain(v) => plain_range(alloc, text, of, signed, &v, functions, marks),
         Operand::Pattern { tick, items, .. } => {
             drop(items);
             Err(Halt::Breaks {

@@ -14,8 +14,8 @@ use Rattle.expr_type.specs.declared.operand.Number.{Number}
 use Rattle.expr_type.specs.declared.operand.Valued.{Valued}
 use Rattle.expr_type.specs.Answers.{HaltsBy, reason}
 use Rattle.expr_type.specs.Names.{Source, position}
-use Rattle.expr_type.specs.Operands.{in_range, is_number_in}
-use Rattle.expr_type.specs.Types.{NameValue, least_value, most_value}
+use Rattle.expr_type.specs.Operands.{in_range}
+use Rattle.expr_type.specs.Types.{NameValue, is_name_number, least_value, most_value}
 use Rattle.expr_type.specs.Typings.{Checked, refused, where_whole}
 use Rattle.constant_types.proofs.Sizes.{none-stops}
 use Rattle.enum_types.specs.Bits.{BitsOf, HasBits, value_in}
@@ -67,7 +67,7 @@ given-is : (k : Source) (t : SvType) (at : ℕ) (before : List NameValue) (v : V
 given-is k t at before v fs b g = ap (λ (x : Checked Number). where_whole x (λ n. distinct k t at before n.number)) (g (least_value t) (most_value t))
 
 pub constant-stops : (k : Source) (t : SvType) (at : ℕ) (before : List NameValue) (v : Valued) (fs : List Function) (h : Halt) → C.HasBits (Err h) k v fs → Names t at (Err h) (written k t at before v fs)
-constant-stops k t at before v fs h g = halts-on h (is_number_in k (least_value t) (most_value t) v fs) (λ n. distinct k t at before n.number) (g (least_value t) (most_value t))
+constant-stops k t at before v fs h g = halts-on h (is_name_number k (least_value t) (most_value t) v fs) (λ n. distinct k t at before n.number) (g (least_value t) (most_value t))
 
 long-by : (k : Source) (t : SvType) (first at : ℕ) (o : Option ℤ) → nat_lt 65536 (width_of t) ≡ true → HaltsBy (long_halt at first (is_some o)) (reason (named k first at t [] o))
 long-by k t first at None e = refl

@@ -10,10 +10,9 @@ use Rattle.expr_type.specs.declared.halt.Halt.TheVariants as H
 use Rattle.expr_type.specs.declared.operand.Valued.{Valued}
 use Rattle.expr_type.specs.Answers.{HaltsBy, reason}
 use Rattle.expr_type.specs.Names.{Source, position}
-use Rattle.expr_type.specs.Operands.{is_number_in}
 use Rattle.expr_type.specs.Operators.{not_too_long}
 use Rattle.expr_type.specs.Shapes.{sign_of}
-use Rattle.expr_type.specs.Types.{NameValue, is_taken, least_value, most_value, next_value}
+use Rattle.expr_type.specs.Types.{NameValue, is_name_number, is_taken, least_value, most_value, next_value}
 use Rattle.expr_type.specs.Typings.{Checked, refused, where_whole}
 use Rattle.enum_types.specs.Bits.{HasBits}
 
@@ -49,7 +48,7 @@ distinct k base at before n =
 
 -- the value of a name where a constant is written, and where none is
 abbrev pub written : Source → SvType → ℕ → List NameValue → Valued → List Function → Checked NameValue
-written k base at before v fs = where_whole (is_number_in k (least_value base) (most_value base) v fs) (λ n. distinct k base at before n.number)
+written k base at before v fs = where_whole (is_name_number k (least_value base) (most_value base) v fs) (λ n. distinct k base at before n.number)
 
 abbrev pub in_order : Source → SvType → ℕ → ℤ → Checked ℤ
 in_order k base at n = refused (not (int_le (least_value base) n && int_le n (most_value base))) (position k at) 411 (Ok n)

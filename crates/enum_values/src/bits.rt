@@ -1,4 +1,4 @@
-//! The bits of constants (IEEE 1800-2017 clause 11.2.1).
+//! The bits of constants that are written for names of enums (IEEE 1800-2017 clauses 6.19 and 11.2.1).
 
 ghost use Rattle.std.specs.Prelude.{◌≡◌, length, IfOk};
 ghost use Rattle.sv_types.specs.Expressions.{meaning};
@@ -11,8 +11,8 @@ ghost use Rattle.eval_runs.specs.Functions.{AllCanRun};
 ghost use Rattle.const_eval.specs.Values.{AloneGives};
 ghost use Rattle.expr_type.specs.Answers.{Gives, source};
 ghost use Rattle.expr_type.specs.Uses.{stream_marks};
-ghost use Rattle.constant_types.specs.Known.{constant_rules, HasNoSlots};
-ghost use Rattle.enum_values.specs.Constants.{HasBits, halt_for};
+ghost use Rattle.constant_types.specs.Known.{HasNoSlots};
+ghost use Rattle.enum_values.specs.Constants.{HasBits, halt_for, name_rules};
 
 use crate::marks::reaches;
 use b4_core::Vec4;
@@ -91,8 +91,8 @@ fn alone(
     )
 }
 
-// The rules on what stands in a constant of which the bits are wanted.
-fn constant_rules(
+// The rules on what stands in a constant that is given to the base of an enum.
+fn name_rules(
     alloc: Global,
     text: Source<'_>,
     v: &Valued,
@@ -100,7 +100,7 @@ fn constant_rules(
     marks: &[bool],
 ) -> Result<(), Halt>
     requires { marks.now ≡ stream_marks functions.now }
-    ensures { Gives result (constant_rules (source text.entry) v.now functions.now) }
+    ensures { Gives result (name_rules (source text.entry) v.now functions.now) }
 {
     let uses = uses_of(alloc, &v.expr)?;
     if uses.names {
@@ -112,7 +112,7 @@ fn constant_rules(
     if is_unpacked(&v.expr.of) {
         return Err(Halt::Breaks {
             at: v.first,
-            rule: 508,
+            rule: 501,
         });
     }
     if reaches(marks, &uses) {
@@ -124,8 +124,8 @@ fn constant_rules(
     Ok(())
 }
 
-/// The bits of a constant, with the functions that are known and whether each holds a stream. It breaks, at its first token, E406
-/// where it names a signal or a local, E508 where it is unpacked, E512 where a stream stands in it or in a function that it calls,
+/// The bits of a constant that is given to the base of an enum, with the functions that are known and whether each holds a stream. It breaks, at its first token, E406
+/// where it names a signal or a local, E501 where it is unpacked, E512 where a stream stands in it or in a function that it calls,
 /// and E608 where a loop makes more than 65,536 turns or more than 2^20 statements run.
 #[tactic(auto, using(crate::proofs::Constants::constants))]
 pub fn constant_bits(
@@ -141,7 +141,7 @@ pub fn constant_bits(
     ensures value { HasBits result (source text.entry) v.now functions.now }
     ensures long { IfOk result (λ bits. length bits ≡ width_of v.now.expr.of) }
 {
-    match constant_rules(alloc, text, v, functions, marks) {
+    match name_rules(alloc, text, v, functions, marks) {
         Err(halt) => Err(halt),
         Ok(()) => {
             let env = nothing_held(alloc);

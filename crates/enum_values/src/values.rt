@@ -40,7 +40,7 @@ fn long_halt(at: u32, first: u32, held: bool) -> Halt
 }
 
 /// The bits in the base of the value of an enum's name at a token, where it is written as a constant. It breaks what constants break
-/// (E406, E508, E512 and E608), E411 where the base doesn't hold it, each at its first token, and at the name E509 where a name before
+/// (E406, E501, E512 and E608), E411 where the base doesn't hold it, each at its first token, and at the name E509 where a name before
 /// has the value and E701 where the base has more than 65,536 bits.
 #[tactic(auto, using(crate::proofs::Written::writing))]
 pub fn written_value(

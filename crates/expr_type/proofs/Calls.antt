@@ -10,8 +10,8 @@ use Rattle.sv_types.specs.declared.statement.Formal.{Formal}
 use Rattle.sv_types.specs.declared.statement.Function.{Function}
 use Rattle.sv_types.specs.declared.types.SvType.{SvType}
 use Rattle.sv_types.specs.Layouts.{width_of}
-use Rattle.expr_type.specs.Breaks.{Breaks, At, Within}
-use Rattle.expr_type.specs.Typings.{Checked, joined, applied, broken, all, all_of, at_all, lesser, rule, unless, where_whole, whole}
+use Rattle.expr_type.specs.Breaks.{Breaks, Within}
+use Rattle.expr_type.specs.Typings.{Checked, joined, applied, all, all_of, at_all, lesser, rule, unless, where_whole, whole}
 use Rattle.expr_type.specs.Shapes.{is_assignable, is_plain_to_enum}
 use Rattle.expr_type.specs.Names.{Called, Context, Source, position}
 use Rattle.expr_type.specs.declared.operand.Valued.{Valued}
@@ -19,7 +19,7 @@ use Rattle.expr_type.specs.Operands.{Operand, Plain, Pattern, Stream, is_given, 
 use Rattle.expr_type.specs.Operators.{by_itself}
 use Rattle.expr_type.specs.Forms as F
 use Rattle.expr_type.specs.Expressions.{Meaning, actuals, expr_step}
-use Rattle.expr_type.specs.Placed.{Placed, PlacedTyping, Stands, StandsIf, OperandStands, OperandIf, RoutinesInOrder, InOrder, AllInOrder}
+use Rattle.expr_type.specs.Placed.{Placed, PlacedTyping, Stands, StandsIf, StandsTyping, OperandStands, OperandIf, RoutinesInOrder, InOrder, AllInOrder}
 use Rattle.expr_type.proofs.Placing.{wider, placed-joined, placed-then, placed-refused, placed-lesser, placed-from}
 use Rattle.expr_type.proofs.Ordering.{WithinIf, ascend-wide, all-within, place, refused-stands}
 use Rattle.expr_type.proofs.Forms.{leaf, plain-stands}
@@ -117,21 +117,40 @@ needed-placed : (k : Context) (at : ℕ) (o : Option ℕ) → RoutinesInOrder k 
 needed-placed k at None rs = λ fs. tt
 needed-placed k at (Some n) rs = placed-from k.source.instance (position k.source at) (k.routine n) at (suc at) (place k.source at at (suc at) (omega arith) (omega arith)) (rs n)
 
-needed-with-placed : (k : Context) (at : ℕ) (o : Option ℕ) (count : ℕ) → RoutinesInOrder k → PlacedTyping k.source.instance at (suc at) (F.needed_with k at o count)
-needed-with-placed k at None count rs = λ fs. tt
-needed-with-placed k at (Some n) count rs = by (F.has_count (k.text n) count)
-  where
-    by : (b : Bool) → PlacedTyping k.source.instance at (suc at) (cond b (F.needed k at (Some n)) (broken (At (position k.source at) 405)))
-    by true = needed-placed k at (Some n) rs
-    by false = λ fs. place k.source at at (suc at) (omega arith) (omega arith)
+-- a call with another number of actuals
+miscounted-stands : (k : Source) (first name opening closing : ℕ) (x : Checked Called) (y : Checked (List Operand))
+    → first ≤ name → name < opening → opening < closing → Placed k.instance name (suc name) x → ArgumentsIf k.instance (suc opening) closing y
+    → StandsIf k.instance first (suc closing) (F.miscounted (position k name) x y)
+miscounted-stands k first name opening closing x (Ok os) h m n p q = place k name first (suc closing) h (omega arith)
+miscounted-stands k first name opening closing (Ok c) (Err y) h m n p q = wider y k.instance (suc opening) closing first (suc closing) (omega arith) (omega arith) q
+miscounted-stands k first name opening closing (Err x) (Err y) h m n p q = (
+  suc name,
+  omega arith,
+  omega arith,
+  wider x k.instance name (suc name) first (suc name) h (omega arith) p,
+  wider y k.instance (suc opening) closing (suc name) (suc closing) (omega arith) (omega arith) q,
+)
 
 pub call : (of : QualifiedName) (opening : ℕ) (arguments : List Meaning) (closing : ℕ) → qualified_first of ≤ of.name → of.name < opening → opening < closing
     → AllInOrder (suc opening) closing arguments → InOrder (qualified_first of) (suc closing) (expr_step (Expr-F.Call of opening arguments closing None))
 call of opening arguments closing h m n q k rs =
     plain-stands k.source (F.call k of (actuals k arguments)) (qualified_first of) (suc closing)
-    (λ fs.
-    let x = F.needed_with k of.name (k.finds of) (length (actuals k arguments)) in
-    let y = all (actuals k arguments) in
-    let gs = (x fs).functions in
-    call-if k.source (qualified_first of) of.name opening closing (x fs).result (y gs).result (y gs).functions h m n
-    (needed-with-placed k of.name (k.finds of) (length (actuals k arguments)) rs fs) (arguments-stand k arguments (suc opening) closing rs q gs))
+    (by (F.finds_count k (k.finds of) (length (actuals k arguments))))
+  where
+    counted : StandsTyping k.source.instance (qualified_first of) (suc closing) (F.counted_call k of (actuals k arguments))
+    counted fs =
+        let x = F.needed k of.name (k.finds of) in
+        let y = all (actuals k arguments) in
+        let gs = (x fs).functions in
+        call-if k.source (qualified_first of) of.name opening closing (x fs).result (y gs).result (y gs).functions h m n
+        (needed-placed k of.name (k.finds of) rs fs) (arguments-stand k arguments (suc opening) closing rs q gs)
+
+    other : StandsTyping k.source.instance (qualified_first of) (suc closing) (F.with_other_count (position k.source of.name) (F.needed k of.name (k.finds of)) (all (actuals k arguments)))
+    other fs =
+        miscounted-stands k.source (qualified_first of) of.name opening closing (F.needed k of.name (k.finds of) fs).result (all (actuals k arguments) fs).result h m n
+        (needed-placed k of.name (k.finds of) rs fs) (arguments-stand k arguments (suc opening) closing rs q fs)
+
+    by : (b : Bool) → StandsTyping k.source.instance (qualified_first of) (suc closing)
+        (cond b (F.counted_call k of (actuals k arguments)) (F.with_other_count (position k.source of.name) (F.needed k of.name (k.finds of)) (all (actuals k arguments))))
+    by true = counted
+    by false = other

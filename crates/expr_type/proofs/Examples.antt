@@ -16,7 +16,7 @@ use Rattle.pattern_fit.specs.Same.{same_type}
 use Rattle.expr_type.specs.Breaks.{Breaks, At, Key, first}
 use Rattle.expr_type.specs.Typings.{Checked, Typing, all_of, both, broken, joined, where_whole, rule, whole, refused, unless, at_all}
 use Rattle.expr_type.specs.Shapes.{is_plain_to_enum, one_bit, vector, sign_of}
-use Rattle.expr_type.specs.Forms.{call_of}
+use Rattle.expr_type.specs.Forms.{call_of, miscounted, most_of_signals, signal_or}
 use Rattle.expr_type.specs.Selects.{is_index}
 use Rattle.sv_types.specs.declared.expression.Expr.{Expr}
 use Rattle.sv_types.specs.declared.statement.FunctionKind.TheVariants.{Plain}
@@ -65,7 +65,7 @@ text ws ds = record {
   finds = λ q. number_from 0 ds (word_in (slice_get (tokens ws) q.name));
   declared = λ at. 100 + at;
   is_interface = λ n. false;
-  stands = λ n. true;
+  key_rule = λ n. None;
   is_net = λ n. false;
   is_net_member = λ n m. false;
   result = None;
@@ -294,9 +294,39 @@ case-by-values : first_break (rule (case_stmt braces C.Plain (Ok selector) (brok
 unfolding X.out-SvType denote.Hole.Carrier.out
 case-by-values = ap with_width in-widest
 
--- a key that is the name of a function, in a pattern of an array
-key-of-function : named_key (record braces { stands = λ n. false }) 3 (Other 0) ≡ Err (At (position braces.source 3) 404)
+-- Keys in a pattern of an array: the name of a function, one of a signal in a function's text, and one whose declaration is broken.
+key-of-function : named_key (record braces { key_rule = λ n. Some 404 }) 3 (Other 0) ≡ Err (At (position braces.source 3) 404)
 key-of-function = refl
+
+key-of-hidden : named_key (record braces { key_rule = λ n. Some 406 }) 3 (Other 0) ≡ Err (At (position braces.source 3) 406)
+key-of-hidden = refl
+
+key-of-broken : named_key braces 3 (Other 0) ≡ Err Breaks.Quiet
+key-of-broken = refl
+
+-- A call with another number of actuals: whole ones leave E405 at its name, also where the function is broken; one that is broken leaves
+-- its own break, behind those of the function.
+abbrev count_of : Checked Called → Checked (List Operand) → Option Key
+count_of c os = first_break (rule {A = Valued} (miscounted (position braces.source 2) c os))
+
+abbrev broken_function : Checked Called
+broken_function = Err (Breaks.Behind (position braces.source 2) (At (position braces.source 0) 501))
+
+abbrev broken_actual : Checked (List Operand)
+broken_actual = Err (At (position braces.source 4) 501)
+
+count-alone : count_of broken_function (Ok []) ≡ at 2 405
+count-alone = refl
+
+count-behind-actuals : (c : Called) → count_of (Ok c) broken_actual ≡ at 4 501
+count-behind-actuals c = refl
+
+count-behind-function : count_of broken_function broken_actual ≡ first (Breaks.Behind (position braces.source 2) (At (position braces.source 0) 501))
+count-behind-function = refl
+
+-- a member of an interface with more bits than all signals may have: it is there, and broken
+wide-member : (k : Source) (first at : ℕ) (s : SignalId) → nat_lt most_of_signals (width_of s.of) ≡ true → signal_or k first at (Some s) ≡ Err Breaks.Quiet
+wide-member k first at s h = ap (λ b. cond b (Err Breaks.Quiet) (Ok (by_itself k first s.of (F.Signal s.signal)))) h
 
 -- a stream of a signal as a constant
 constant-streamed : (k : Source) (v : Valued) → names_any v.expr ≡ true → is_constant_value k (Stream v) ≡ Err (At (position k v.first) 406)

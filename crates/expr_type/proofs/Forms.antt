@@ -397,7 +397,11 @@ path-stands k (s ∷ ss) x low between high rs h p q =
 member-or : (k : Source) (first at : ℕ) (o : Option SignalId) (low high : ℕ) → low ≤ first → first < high → low ≤ at → at < high
     → StandsIf k.instance low high (F.signal_or k first at o)
 member-or k first at None low high h m n l = place k at low high n l
-member-or k first at (Some s) low high h m n l = leaf k first low high s.of (T.Signal s.signal) h m
+member-or k first at (Some s) low high h m n l = by (nat_lt F.most_of_signals (width_of s.of))
+  where
+    by : (b : Bool) → StandsIf k.instance low high (cond b (Err Quiet) (Ok (by_itself k first s.of (T.Signal s.signal))))
+    by true = tt
+    by false = leaf k first low high s.of (T.Signal s.signal) h m
 
 interface-by : (k : Context) (first n : ℕ) (s : SelectMeaning) (ss : List SelectMeaning) (low between high : ℕ) → RoutinesInOrder k → low ≤ first → first < between
     → (o : Option ℕ) → MemberStands low between o → SelectsInOrder between high ss

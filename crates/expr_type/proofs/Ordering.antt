@@ -1,15 +1,11 @@
 -- What operators and selects make of operands that stand in the order of the text stands in it, and so do the breaks of their
 -- rules.
-use Rattle.std.proofs.Common.{ℕ, suc, max, ◌≤◌, ◌<◌, Bool, true, false, List, [], ◌∷◌, ◌++◌, Option, Some, None, refl, cond, arith}
+use Rattle.std.proofs.Common.{ℕ, suc, ◌≤◌, ◌<◌, Bool, true, false, List, [], ◌∷◌, ◌++◌, Option, Some, None, refl, cond, arith}
 use Rattle.std.specs.Prelude.{Ok, nat_lt, not}
 use Rattle.b4_core.specs.declared.operators.BinOp.{BinOp}
-use Rattle.b4_core.specs.declared.operators.BinOp.TheVariants as B
 use Rattle.b4_core.specs.declared.operators.EqOp.{EqOp}
-use Rattle.b4_core.specs.declared.operators.EqOp.TheVariants as Q
 use Rattle.b4_core.specs.declared.operators.OrdOp.{OrdOp}
-use Rattle.b4_core.specs.declared.operators.OrdOp.TheVariants as O
 use Rattle.b4_core.specs.declared.operators.ShiftOp.{ShiftOp}
-use Rattle.b4_core.specs.declared.operators.ShiftOp.TheVariants as S
 use Rattle.b4_core.specs.declared.operators.UnOp.TheVariants as U
 use Rattle.sv_tree.specs.declared.operators.BinaryOperator.{BinaryOperator}
 use Rattle.expr_type.specs.declared.kinds.BinaryKind.{BinaryKind}

@@ -17,7 +17,7 @@ use Rattle.sv_types.specs.declared.statement.Formal.{Formal}
 use Rattle.sv_types.specs.declared.types.SvType.{SvType}
 use Rattle.sv_types.specs.Layouts.{width_of}
 use Rattle.sv_types.specs.Values.{value_of_bits}
-use Rattle.expr_type.specs.Breaks.{At, Quiet}
+use Rattle.expr_type.specs.Breaks.{Position, At, And, Quiet}
 use Rattle.expr_type.specs.Typings.{Checked, Typing, where_whole, refused, all_of, whole, broken, rule, checked, both, all, from_token}
 use Rattle.expr_type.specs.Shapes.{most_bits, integer, one_bit, vector, is_assignable, is_unpacked}
 use Rattle.expr_type.specs.Literals as L
@@ -58,10 +58,20 @@ abbrev pub fill : Source → ℕ → Checked Valued
 fill k at = Ok (by_itself k at one_bit (F.Fill (L.fill_digit (word k at))))
 
 -- Names with the selects behind them. A member of an interface's instance or port is a signal (E405). What has a broken
--- declaration isn't whole, and breaks nothing here.
+-- declaration isn't whole, and breaks nothing here. So it is with a member that has more bits than all signals may have together (E702),
+-- which is broken in the interface's own text.
+abbrev pub most_of_signals : ℕ
+most_of_signals = 4194304
+
+abbrev pub where_narrow : {A : Type 0} → SvType → Checked A → Checked A
+where_narrow t x = cond (nat_lt most_of_signals (width_of t)) (Err Quiet) x
+
+abbrev pub member_signal : Source → ℕ → SignalId → Checked Valued
+member_signal k first s = where_narrow s.of (Ok (by_itself k first s.of (F.Signal s.signal)))
+
 abbrev pub signal_or : Source → ℕ → ℕ → Option SignalId → Checked Valued
 signal_or k first at None = Err (At (position k at) 405)
-signal_or k first at (Some s) = Ok (by_itself k first s.of (F.Signal s.signal))
+signal_or k first at (Some s) = member_signal k first s
 
 -- the member that the first select names
 pub record SelectMeaning : Type 0 where
@@ -196,14 +206,23 @@ abbrev pub needed : Context → ℕ → Option ℕ → Typing Called
 needed k at None = broken Quiet
 needed k at (Some n) = from_token (position k.source at) (k.routine n)
 
--- Its number of formals is there in its text: a call with another number of actuals breaks E405, whatever becomes of the function.
+-- Its number of formals is there in its text. A call with another number of actuals breaks E405 at the name where these are whole, the
+-- parts of which the rule speaks, whatever becomes of the function. Where they aren't, what breaks is the function, then the actuals.
 abbrev pub has_count : Option RoutineText → ℕ → Bool
 has_count None count = true
 has_count (Some t) count = formal_count t == count
 
-abbrev pub needed_with : Context → ℕ → Option ℕ → ℕ → Typing Called
-needed_with k at None count = broken Quiet
-needed_with k at (Some n) count = cond (has_count (k.text n) count) (needed k at (Some n)) (broken (At (position k.source at) 405))
+abbrev pub finds_count : Context → Option ℕ → ℕ → Bool
+finds_count k None count = true
+finds_count k (Some n) count = has_count (k.text n) count
+
+abbrev pub miscounted : {A B : Type 0} → Position → Checked Called → Checked A → Checked B
+miscounted p c (Ok os) = Err (At p 405)
+miscounted p (Ok c) (Err b) = Err b
+miscounted p (Err f) (Err b) = Err (And f b)
+
+abbrev pub with_other_count : {A B : Type 0} → Position → Typing Called → Typing A → Typing B
+with_other_count p x y fs = let r = x fs in record { result = miscounted p r.result (y fs).result; functions = r.functions }
 
 abbrev pub passed_to : Source → Formal × Operand → Checked Expr
 passed_to k p = passed k p.0.local.of p.1
@@ -213,8 +232,13 @@ call_of k first name c os =
     refused (not (length c.of.formals == length os)) (position k name) 405
     (where_whole (all_of (map (passed_to k) (zip c.of.formals os))) (λ es. Ok (by_itself k first c.of.of (F.Call c.place es))))
 
+abbrev pub counted_call : Context → QualifiedName → List (Typing Operand) → Typing Valued
+counted_call k of xs = both (needed k of.name (k.finds of)) (all xs) (λ c os. rule (call_of k.source (qualified_first of) of.name c os))
+
 abbrev pub call : Context → QualifiedName → List (Typing Operand) → Typing Valued
-call k of xs = both (needed_with k of.name (k.finds of) (length xs)) (all xs) (λ c os. rule (call_of k.source (qualified_first of) of.name c os))
+call k of xs =
+    cond (finds_count k (k.finds of) (length xs)) (counted_call k of xs)
+    (with_other_count (position k.source of.name) (needed k of.name (k.finds of)) (all xs))
 
 -- Streams. A part is any value, or a stream; a number there has a size (E501).
 abbrev pub is_streamed_part : Source → Operand → Checked Valued

@@ -64,8 +64,8 @@ pub record Context : Type 0 where
   pub finds : QualifiedName → Option ℕ
   pub declared : ℕ → ℕ
   pub is_interface : ℕ → Bool
-  -- signals, constants, enum names, formals, locals and types, which stand for something unless their declaration is broken
-  pub stands : ℕ → Bool
+  -- the rule that a name breaks as a pattern's key where it stands for nothing; none where its declaration is broken
+  pub key_rule : ℕ → Option ℕ
   -- nets, which statements don't assign to; also those that are members of an interface
   pub is_net : ℕ → Bool
   pub is_net_member : ℕ → List ℕ → Bool

@@ -58,13 +58,17 @@ key_of_number (Some n) = Some (K.Index n)
 abbrev pub constant_key : Source → Valued → Checked (Option Key)
 constant_key k v = where_whole (has_bits k v) (λ u. where_whole (is_index k u) (λ i. Ok (key_of_number (number_of [] i.expr))))
 
+abbrev pub other_key : Source → ℕ → Option ℕ → Checked (Option Key)
+other_key k at None = Err Quiet
+other_key k at (Some rule) = Err (At (position k at) rule)
+
 abbrev pub named_key : Context → ℕ → Thing → Checked (Option Key)
 named_key k at (Signal n t) = Err (At (position k.source at) 406)
 named_key k at (Local n t) = Err (At (position k.source at) 406)
 named_key k at (Constant t v) = constant_key k.source (by_itself k.source at t (F.Constant v))
 named_key k at (TypeName t) = Err (At (position k.source at) 404)
 named_key k at (Interface n) = Err (At (position k.source at) 404)
-named_key k at (Other n) = cond (k.stands n) (Err Quiet) (Err (At (position k.source at) 404))
+named_key k at (Other n) = other_key k.source at (k.key_rule n)
 named_key k at Nothing = Ok None
 
 abbrev pub key_in : Context → SvType → ItemKey → Checked (Option Key)

@@ -53,13 +53,13 @@ use Rattle.expr_type.specs.Names.{Called, Context, LocalId, position, spot, with
 use Rattle.expr_type.specs.declared.operand.Valued.{Valued}
 use Rattle.expr_type.specs.Operands.{is_constant_value, constant_alone, constant_of, first_of, Operand, Plain, Pattern, Stream, given, no_stream, passed, unstreamed, is_value, bits_in, sized, too_wide, width, value_by}
 use Rattle.expr_type.specs.Operators.{by_itself, expr_at, exprs, binary_of, not_too_long}
-use Rattle.expr_type.specs.Forms.{cast_expr, needed_with}
+use Rattle.expr_type.specs.Forms.{cast_expr, finds_count, is_signed_by, needed, with_other_count}
 use Rattle.expr_type.specs.Expressions as E
 use Rattle.expr_type.specs.Expressions.{Meaning, meaning, operand, select_meaning}
 use Rattle.expr_type.specs.Types.{TypeFound, dims, typed_text, declared_type}
 use Rattle.expr_type.specs.KeywordTypes.{unpacked, implicit_type}
 use Rattle.expr_type.specs.TargetNames.{named_target}
-use Rattle.expr_type.specs.Targets.{Target, ToPath, ToParts, ToStream, target, parts_of, assigned, simple_name}
+use Rattle.expr_type.specs.Targets.{Target, has_enum_part, ToPath, ToParts, ToStream, target, parts_of, assigned, simple_name}
 
 -- Assignments. `a op= b` is `a = a op b`.
 abbrev pub operator_of : AssignmentOperator → Option BinaryOperator
@@ -183,7 +183,8 @@ selected_type k of ss = elim (E.type_of_name k (simple_name of) (map select_mean
   | Some t ↦ checked t (λ u. whole (record { of = u; names = [] }))
 ]
 
--- Constants. One without a type has that of the one before it, else that of its value (E405 where it has none).
+-- Constants. One without a type has that of the one before it, else that of its value (E405 where it has none); with a sign alone it has
+-- that sign and the range of its value (clause 6.20.2).
 abbrev pub param_value : Context → ℕ → SvType → List Function → Expr → Checked ParamValue
 param_value k at t fs e = Ok (record { decl = k.declared at; of = t; value = value_by fs t e })
 
@@ -191,13 +192,27 @@ abbrev pub constant_value : Context → ℕ → Option SvType → Operand → Li
 constant_value k at None o fs = where_whole (is_constant_value k.source o) (λ v. where_whole (constant_alone k.source v fs) (param_value k at v.expr.of fs))
 constant_value k at (Some t) o fs = where_whole (constant_of k.source t o fs) (param_value k at t fs)
 
-abbrev pub constant : Context → ℕ → Option SvType → Option Initializer → Typing Declared
+-- what is written of a type: a type, or at most a sign, and the value gives the rest
+pub data WrittenType : Type 0 where
+  OfValue : Option Signing → WrittenType
+  OfType : SvType → WrittenType
+
+abbrev pub ranged_value : Context → ℕ → Signing → Operand → List Function → Checked ParamValue
+ranged_value k at s o fs =
+    where_whole (is_constant_value k.source o) (λ v. constant_value k at (Some (vector (width v) (is_signed_by s))) (Plain v) fs)
+
+abbrev pub written_value : Context → ℕ → WrittenType → Operand → List Function → Checked ParamValue
+written_value k at (OfValue None) o fs = constant_value k at None o fs
+written_value k at (OfValue (Some s)) o fs = ranged_value k at s o fs
+written_value k at (OfType t) o fs = constant_value k at (Some t) o fs
+
+abbrev pub constant : Context → ℕ → WrittenType → Option Initializer → Typing Declared
 constant k at t None = broken (At (position k.source at) 405)
 constant k at t (Some i) =
     checked (operand k i.value)
-    (λ o. checked (by_functions (constant_value k at t o)) (λ v. rule (not_too_long k.source at (width_of v.of) (Ok (record nothing { values = v ∷ [] })))))
+    (λ o. checked (by_functions (written_value k at t o)) (λ v. rule (not_too_long k.source at (width_of v.of) (Ok (record nothing { values = v ∷ [] })))))
 
--- the type that is written, or that of the parameter before; none where the value gives it
+-- The type that is written, or that of the parameter before where nothing is.
 abbrev pub nothing_written : Option Signing → List Dimension → Bool
 nothing_written None [] = true
 nothing_written None (d ∷ ds) = false
@@ -212,18 +227,39 @@ is_unwritten t = elim (out-TypeText t) [
   | TypeText-F.Implicit signing ds ↦ nothing_written signing ds
 ]
 
-abbrev pub written_type : Context → Option SvType → TypeText → Typing (Option SvType)
-written_type k before of = cond (is_unwritten of) (whole before) (checked (typed_text of k) (λ f. whole (Some f.of)))
+abbrev pub if_alone : Option Signing → List Dimension → Option Signing
+if_alone s [] = s
+if_alone s (d ∷ ds) = None
 
-abbrev pub with_dimensions : Context → Option SvType → List Dimension → Typing (Option SvType)
+abbrev pub sign_alone : TypeText → Option Signing
+sign_alone t = elim (out-TypeText t) [
+  | TypeText-F.Keyword of ds ↦ None
+  | TypeText-F.Structure of packing opening ms closing ds ↦ None
+  | TypeText-F.Enumeration keyword base opening ns closing ds ↦ None
+  | TypeText-F.Named of ds ↦ None
+  | TypeText-F.Implicit signing ds ↦ if_alone signing ds
+]
+
+abbrev pub sign_or_type : Context → TypeText → Option Signing → Typing WrittenType
+sign_or_type k of (Some s) = whole (OfValue (Some s))
+sign_or_type k of None = checked (typed_text of k) (λ f. whole (OfType f.of))
+
+abbrev pub written_type : Context → WrittenType → TypeText → Typing WrittenType
+written_type k before of = cond (is_unwritten of) (whole before) (sign_or_type k of (sign_alone of))
+
+-- under dimensions behind the name stands one bit where no type is written
+abbrev pub type_or_bit : WrittenType → SvType
+type_or_bit (OfValue s) = implicit_type s []
+type_or_bit (OfType t) = t
+
+abbrev pub with_dimensions : Context → WrittenType → List Dimension → Typing WrittenType
 with_dimensions k t [] = whole t
-with_dimensions k None (d ∷ ds) = checked (dims k (d ∷ ds)) (λ e. whole (Some (unpacked e (implicit_type None []))))
-with_dimensions k (Some t) (d ∷ ds) = checked (dims k (d ∷ ds)) (λ e. whole (Some (unpacked e t)))
+with_dimensions k t (d ∷ ds) = checked (dims k (d ∷ ds)) (λ e. whole (OfType (unpacked e (type_or_bit t))))
 
 -- a parameter that is a type, and what a value declares, with the type that the next parameter takes
 pub data Kind : Type 0 where
   IsType : Kind
-  IsValue : Option SvType → Kind
+  IsValue : WrittenType → Kind
 
 pub record Parameter : Type 0 where
   pub kind : Kind
@@ -236,11 +272,11 @@ type_parameter k at (Some i) = elim ((meaning i.value).as_type k) [
   | Some t ↦ checked t (λ u. whole (record { kind = IsType; declared = record nothing { types = record { decl = k.declared at; of = u } ∷ [] } }))
 ]
 
-abbrev pub by_dimensions : Context → Declarator → Option SvType → Typing Declared
+abbrev pub by_dimensions : Context → Declarator → WrittenType → Typing Declared
 by_dimensions k d t =
     both_by (with_dimensions k t d.unpacked) (λ o. value_if o) (λ u v. whole v)
   where
-    value_if : Option (Option SvType) → Typing Declared
+    value_if : Option WrittenType → Typing Declared
     value_if None = with_no_type d.initial
       where
         with_no_type : Option Initializer → Typing Declared
@@ -248,21 +284,21 @@ by_dimensions k d t =
         with_no_type (Some i) = checked (operand k i.value) (λ o. broken Quiet)
     value_if (Some u) = constant k d.name u d.initial
 
-abbrev pub value_parameter : Context → Option SvType → TypeText → Declarator → Typing Parameter
+abbrev pub value_parameter : Context → WrittenType → TypeText → Declarator → Typing Parameter
 value_parameter k before of d =
     both_by (written_type k before of) (λ o. value_if o) (λ t v. whole (record { kind = IsValue t; declared = v }))
   where
-    value_if : Option (Option SvType) → Typing Declared
+    value_if : Option WrittenType → Typing Declared
     value_if None = broken Quiet
     value_if (Some t) = by_dimensions k d t
 
 abbrev pub parameter : Context → Kind → ParameterBody → Typing Parameter
 parameter k before (P.Type keyword name initial) = type_parameter k name initial
-parameter k IsType (P.Value of d) = cond (is_unwritten of) (type_parameter k d.name d.initial) (value_parameter k None of d)
+parameter k IsType (P.Value of d) = cond (is_unwritten of) (type_parameter k d.name d.initial) (value_parameter k (OfValue None) of d)
 parameter k (IsValue t) (P.Value of d) = value_parameter k t of d
 
 abbrev pub kind_if : Option Parameter → Kind
-kind_if None = IsValue None
+kind_if None = IsValue (OfValue None)
 kind_if (Some p) = p.kind
 
 abbrev pub declared_if : Context → Option Parameter → Context
@@ -488,10 +524,14 @@ actuals k ws [] = []
 actuals k [] (e ∷ es) = actual_by k None e ∷ actuals k [] es
 actuals k (w ∷ ws) (e ∷ es) = actual_by k (Some w) e ∷ actuals k ws es
 
+-- an enum takes its own type alone, and none as a part of a concatenation
+abbrev pub is_other_enum : SvType → Expr → Bool
+is_other_enum t e = is_plain_to_enum e.of t || has_enum_part e
+
 abbrev pub takes_result : Context → Bool → SvType → Valued → Checked Expr
 takes_result k back t v =
     refused (not (is_assignable v.expr.of t) || (back && not (is_assignable t v.expr.of))) (position k.source v.first) 501
-    (refused (is_plain_to_enum v.expr.of t || (back && is_plain_to_enum t v.expr.of)) (position k.source v.first) 503 (Ok v.expr))
+    (refused (is_other_enum t v.expr || (back && is_plain_to_enum t v.expr.of)) (position k.source v.first) 503 (Ok v.expr))
 
 abbrev pub is_inout : Way → Bool
 is_inout W.Input = false
@@ -518,9 +558,14 @@ call_stmt_of k at c as' =
     refused (not (length c.of.formals == length as')) (position k.source at) 405
     (where_whole (all_of (all_actuals k c.of.formals as')) (λ es. Ok (S.Call c.place es (spot k.source at))))
 
+abbrev pub counted_call : Context → QualifiedName → List Meaning → Typing R.Stmt
+counted_call k of es = both_by (needed k of.name (k.finds of)) (λ o. all (actuals k (ways o) es)) (λ c as'. rule (call_stmt_of k of.name c as'))
+
+-- of another number of actuals none belongs to a formal: all are looked at as values
 abbrev pub call_stmt : Context → QualifiedName → List Meaning → Typing R.Stmt
 call_stmt k of es =
-    both_by (needed_with k of.name (k.finds of) (length es)) (λ o. all (actuals k (ways o) es)) (λ c as'. rule (call_stmt_of k of.name c as'))
+    cond (finds_count k (k.finds of) (length es)) (counted_call k of es)
+    (with_other_count (position k.source of.name) (needed k of.name (k.finds of)) (all (actuals k [] es)))
 
 -- statements, form by form
 abbrev pub StmtMeaning : Type 0
@@ -528,7 +573,7 @@ StmtMeaning = Context → Typing R.Stmt
 
 abbrev pub item_step : BlockItem-F PartMeaning CaseMeaning StmtMeaning StmtMeaning → PartMeaning
 item_step (BlockItem-F.Statement s) k = checked (s k) (λ t. whole (IsStatement t))
-item_step (BlockItem-F.Parameters p) k = checked (parameters k (IsValue None) p.bodies) (λ d. whole (IsDeclared d))
+item_step (BlockItem-F.Parameters p) k = checked (parameters k (IsValue (OfValue None)) p.bodies) (λ d. whole (IsDeclared d))
 item_step (BlockItem-F.Variables automatic «var» of ds semicolon) k = checked (variables_of k (typed_text of k) ds) (λ d. whole (IsDeclared d))
 item_step (BlockItem-F.NamedVariables of ss ds semicolon) k = checked (variables_of k (selected_type k of ss) ds) (λ d. whole (IsDeclared d))
 

@@ -11,7 +11,7 @@ use Rattle.expr_type.specs.Names.{Context, Source, Thing, Signal, Local, Constan
 use Rattle.expr_type.specs.declared.operand.Valued.{Valued}
 use Rattle.expr_type.specs.Operators.{by_itself}
 use Rattle.expr_type.specs.Selects.{path}
-use Rattle.expr_type.specs.Forms.{SelectMeaning, steps}
+use Rattle.expr_type.specs.Forms.{SelectMeaning, member_signal, steps}
 
 -- Names. Statements assign to no net, of an interface either (E404), and nothing assigns to what a modport lists as input (E410).
 -- An actual that is no variable can't be assigned (E501).
@@ -19,7 +19,7 @@ abbrev pub member_target : Context → Bool → ℕ → ℕ → ℕ → Option S
 member_target k in_statement first n at None = Err (At (position k.source at) 405)
 member_target k in_statement first n at (Some s) =
     refused (in_statement && k.is_net_member n (word k.source at)) (position k.source at) 404
-    (refused s.input (position k.source at) 410 (Ok (by_itself k.source first s.of (F.Signal s.signal))))
+    (refused s.input (position k.source at) 410 (member_signal k.source first s))
 
 abbrev pub interface_target : Context → Bool → ℕ → ℕ → List SelectMeaning → Typing Valued
 interface_target k in_statement first n [] = broken Quiet

@@ -24,8 +24,12 @@ use Rattle.sv_types.specs.declared.types.SvType.{SvType}
 use Rattle.sv_types.specs.declared.types.SvType.TheVariants.{Scalar, PackedArray, Struct, Union, Enum}
 use Rattle.sv_types.specs.Layouts.{width_of}
 use Rattle.sv_types.specs.Values.{value_of_bits}
+use Rattle.sv_types.specs.declared.statement.Function.{Function}
+use Rattle.expr_type.specs.declared.operand.Number.{Number}
+use Rattle.expr_type.specs.declared.operand.Valued.{Valued}
 use Rattle.expr_type.specs.Breaks.{Quiet}
-use Rattle.expr_type.specs.Typings.{Checked, Typing, whole, broken, rule, by_functions, checked, both, both_by, all, refused}
+use Rattle.expr_type.specs.Uses.{names_any}
+use Rattle.expr_type.specs.Typings.{Checked, Typing, whole, broken, rule, by_functions, checked, both, both_by, all, refused, where_whole}
 use Rattle.expr_type.specs.Shapes.{sign_of, is_unpacked}
 use Rattle.expr_type.specs.Names.{Context, Source, position, thing, word, with_values}
 use Rattle.expr_type.specs.Operands.{constant_in, is_number_in}
@@ -82,13 +86,20 @@ abbrev pub next_value : Option ℤ → ℤ
 next_value None = pos 0
 next_value (Some n) = n +ℤ pos 1
 
+-- The value that is written for a name is given to the base, which takes no unpacked one (E501). Other rules on constants count first.
+abbrev pub is_packed_value : Source → Valued → Checked Valued
+is_packed_value k v = refused (is_unpacked v.expr.of && not (names_any v.expr)) (position k v.first) 501 (Ok v)
+
+abbrev pub is_name_number : Source → ℤ → ℤ → Valued → List Function → Checked Number
+is_name_number k low high v fs = where_whole (is_packed_value k v) (λ u. is_number_in k low high u fs)
+
 abbrev pub written_value : Context → SvType → ℕ → Option ℤ → Option Initializer → Typing ℤ
 written_value k base at before None =
     let n = next_value before in
     rule (refused (not (int_le (least_value base) n && int_le n (most_value base))) (position k.source at) 411 (Ok n))
 written_value k base at before (Some i) =
     checked (constant_in k.source (operand k i.value))
-    (λ v. checked (by_functions (is_number_in k.source (least_value base) (most_value base) v)) (λ n. whole n.number))
+    (λ v. checked (by_functions (is_name_number k.source (least_value base) (most_value base) v)) (λ n. whole n.number))
 
 abbrev pub is_taken : List NameValue → ℤ → Bool
 is_taken vs n = list_any (λ (v : NameValue). int_eq v.number n) vs
@@ -192,7 +203,7 @@ member_step m k inside =
   where
     field_of : Option TypeFound → DimensionedName → Typing Field
     field_of None n = checked (dims k n.unpacked) (λ ds. broken Quiet)
-    field_of (Some f) n = field k inside f.of n
+    field_of (Some f) n = field (with_values f.names k) inside f.of n
 
 abbrev pub type_step : TypeText-F TypeMeaning FieldsMeaning → TypeMeaning
 type_step (TypeText-F.Keyword of ds) k = checked (dims k ds) (λ d. whole (only (keyword_type of d)))

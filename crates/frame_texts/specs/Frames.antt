@@ -19,7 +19,7 @@ use Rattle.package_scope.specs.declared.table.Declaration.{Declaration}
 use Rattle.package_scope.specs.declared.table.Table.{Table}
 use Rattle.package_scope.specs.Innermost.{scope_at}
 use Rattle.package_scope.specs.Lookup.{means, own, in_scope_of, package_scope}
-use Rattle.package_scope.specs.Rules.{number_of, is_interface_holder, declaration_at}
+use Rattle.package_scope.specs.Rules.{number_of, is_interface_holder, is_signal_kind, declaration_at}
 use Rattle.package_scope.specs.Tables.{word, outer}
 use Rattle.expr_type.specs.Breaks.{Quiet}
 use Rattle.expr_type.specs.Typings.{Typed, broken, checked, whole}
@@ -28,10 +28,6 @@ use Rattle.expr_type.specs.Expressions.{typed_expr}
 use Rattle.expr_type.specs.Statements.{typed_stmt}
 use Rattle.expr_type.specs.Functions.{routine}
 use Rattle.expr_type.specs.Routines.{routines, named_at}
-
--- Functions and tasks name nothing of a module or an interface (E610): no signal and no member stands for anything in their texts.
-abbrev pub without_signals : Context → Context
-without_signals k = record k { signals = []; is_interface = λ n. false }
 
 module _ (tree : SourceTree) (t : Table) where
   -- the declaration that a name finds at its token
@@ -68,6 +64,19 @@ module _ (tree : SourceTree) (t : Table) where
 
   abbrev pub is_kind : (DeclKind → Bool) → ℕ → Bool
   is_kind p n = elim (slice_get t.declared n) [ None ↦ false | Some d ↦ p d.what ]
+
+  -- What a name breaks as a pattern's key where it stands for nothing: nothing where its declaration is broken, else that it is no
+  -- constant's (E404).
+  abbrev pub key_rule : ℕ → Option ℕ
+  key_rule n = cond (is_kind names_thing n) None (Some 404)
+
+  -- Functions and tasks name nothing of a module or an interface (E610): no signal and no member stands for anything in their texts. A
+  -- key that finds one breaks what it breaks elsewhere: a signal is read (E406), an interface's port no constant (E404).
+  abbrev pub hidden_rule : ℕ → Option ℕ
+  hidden_rule n = cond (how (is_interface_holder tree.tokens t) n) (Some 404) (cond (is_kind is_signal_kind n) (Some 406) (key_rule n))
+
+  abbrev pub without_signals : Context → Context
+  without_signals k = record k { signals = []; is_interface = λ n. false; key_rule = hidden_rule }
 
   abbrev pub is_net_kind : Declared → Bool
   is_net_kind W.Net = true
@@ -136,7 +145,7 @@ module _ (tree : SourceTree) (t : Table) where
     finds = finds;
     declared = λ token. number_from 0 token t.declared;
     is_interface = how (is_interface_holder tree.tokens t);
-    stands = is_kind names_thing;
+    key_rule = key_rule;
     is_net = how is_net_kind;
     is_net_member = net_member;
     result = None;

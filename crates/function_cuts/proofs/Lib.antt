@@ -1,1 +1,2 @@
 mod Dropping
+pub mod Before

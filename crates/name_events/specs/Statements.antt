@@ -42,7 +42,7 @@ use Rattle.name_events.specs.declared.expressions.Position.TheVariants as Q
 use Rattle.name_events.specs.Steps.{Part, put, nothing, wrong, uses, declares, declares_outside}
 use Rattle.name_events.specs.Expressions.{expr_events, expressions, dimensions, select_path, selects_behind, slice_size_events, uses_path}
 use Rattle.name_events.specs.Steps.{maybe}
-use Rattle.name_events.specs.Types.{type_events, named_of_type, declarators, parameters}
+use Rattle.name_events.specs.Types.{type_events, last_of_dimensions, named_of_type, declarators, parameters}
 
 abbrev pub opens : ScopeKind → ℕ → ℕ → Part
 opens kind first last = put (E.Opens kind first last)
@@ -245,12 +245,16 @@ abbrev pub result_type : FunctionResult → Part
 result_type (G.Void keyword) to = to
 result_type (G.Value of) to = type_events of to
 
+-- a function's declarator ends behind the dimensions of its result
+abbrev pub declares_function : Function → Part
+declares_function f = put (E.Declares (result_declared f.of) f.name (last_of_dimensions f.name f.unpacked) true)
+
 abbrev pub function_head : Function → Part
 function_head f to =
     formal_list (result_body f.of) f.formals
     (dimensions M.Unpacked f.unpacked
     (result_type f.of
-    (declares_outside (result_declared f.of) f.name
+    (declares_function f
     (opens (result_scope f.of) f.keyword (labelled f.end f.end_label) to))))
 
 abbrev pub function_events : Function → Part

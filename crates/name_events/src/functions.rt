@@ -6,11 +6,11 @@ ghost use Rattle.name_events.specs.Statements as means;
 use crate::context::Body;
 use crate::declarations::named_of_type;
 use crate::dimensions::Dimensioned;
-use crate::events::{Declared, Events, ScopeKind};
+use crate::events::{Declared, Event, Events, ScopeKind};
 use crate::expressions::dimensions;
 use crate::statements::{closes, labelled, opens, repeats, routine_items};
 use crate::steps::{declares, declares_outside, wrong};
-use crate::types::type_text;
+use crate::types::{last_of_dimensions, type_text};
 use std::alloc::AllocError;
 use sv_tree::{Formal, FormalDirection, FormalList, Function, FunctionResult, PortText, Task};
 
@@ -134,13 +134,25 @@ fn result_type(of: &FunctionResult, to: &mut Events) -> Result<(), AllocError>
     }
 }
 
+/// The declaration of a function, which ends behind the dimensions of its result.
+fn declares_function(one: &Function, to: &mut Events) -> Result<(), AllocError>
+    ensures { OnOk result (to.new ≡ means.declares_function one.now to.old) }
+{
+    to.push(Event::Declares {
+        what: result_declared(&one.of),
+        name: one.name,
+        last: last_of_dimensions(one.name, one.unpacked.as_slice()),
+        outside: true,
+    })
+}
+
 /// A function up to its body.
 fn function_head(one: &Function, to: &mut Events) -> Result<(), AllocError>
     ensures { OnOk result (to.new ≡ means.function_head one.now to.old) }
 {
     let last = labelled(one.end, one.end_label);
     opens(result_scope(&one.of), one.keyword, last, to)?;
-    declares_outside(result_declared(&one.of), one.name, to)?;
+    declares_function(one, to)?;
     result_type(&one.of, to)?;
     dimensions(Dimensioned::Unpacked, one.unpacked.as_slice(), to)?;
     formal_list(result_body(&one.of), &one.formals, to)

@@ -83,7 +83,7 @@ pub fn initial_part(initial: &Option<Initializer>, to: &mut Events) -> Result<()
 }
 
 /// The last token of dimensions, or the token before them where there are none.
-fn last_of_dimensions(before: u32, dimensions: &[Dimension]) -> u32
+pub fn last_of_dimensions(before: u32, dimensions: &[Dimension]) -> u32
     ensures { result ≡ means.last_of_dimensions before dimensions.now }
 {
     let mut last = before;

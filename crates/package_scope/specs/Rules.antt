@@ -130,9 +130,10 @@ abbrev pub is_scope : Option ℕ → ℕ → Bool
 is_scope None s = false
 is_scope (Some r) s = r == s
 
--- a function's name stands for its result in its own body
+-- A function's name stands for its result in its own body, formals included, but not in the result's type and dimensions (clause
+-- 13.4.1).
 abbrev pub in_own_body : Table → Use → Declaration → Bool
-in_own_body t u d = is_scope (routine_around t u.scope) d.inner
+in_own_body t u d = nat_lt d.last u.at && is_scope (routine_around t u.scope) d.inner
 
 -- A genvar has a value in the loops that run over it, behind its first value there.
 abbrev pub encloses : Table → ℕ → ℕ → ℕ → Bool
@@ -243,7 +244,7 @@ fits_role R.TypeOrInterface ts t u d = is_interface_kind d.what || is_type u.pat
 fits_role R.Interface ts t u d = is_interface_kind d.what
 fits_role R.Instantiated ts t u d = is_instantiated d.what
 fits_role R.Edge ts t u d = is_signal ts t d.how || is_member_of ts t u d
-fits_role R.LoopGenvar ts t u d = is_genvar d.how
+fits_role R.LoopGenvar ts t u d = is_genvar d.how && not (has_value ts t u d)
 fits_role R.Step ts t u d = true
 fits_role R.ModportPort ts t u d = is_signal ts t d.how
 fits_role R.Key ts t u d = true
@@ -385,8 +386,8 @@ call_by ts t u = call_to t u (declared_by t (finds ts t u))
 abbrev pub calls : List Token → Table → List Call
 calls ts t = flat_map (call_by ts t) t.uses
 
--- A constant, type or enum name that a routine names and that is declared outside functions; by a pattern's key that is a name alone
--- also a signal, whether the key turns out to be a member's name or not.
+-- A constant, type or enum name that a routine names and that is declared outside functions. A pattern's key that is a name alone is
+-- such a use, whether it turns out to be a member's name or not.
 abbrev pub is_constant_kind : DeclKind → Bool
 is_constant_kind K.Constant = true
 is_constant_kind K.TypeName = true
@@ -397,22 +398,19 @@ abbrev pub is_signal_kind : DeclKind → Bool
 is_signal_kind K.Signal = true
 is_signal_kind _ = false
 
-abbrev pub is_needed_kind : Role → DeclKind → Bool
-is_needed_kind role what = is_constant_kind what || (is_key role && is_signal_kind what)
+abbrev pub is_needed : Table → Declaration → Bool
+is_needed t d = is_constant_kind d.what && not (is_some (routine_around t d.scope))
 
-abbrev pub is_needed : Table → Role → Declaration → Bool
-is_needed t role d = is_needed_kind role d.what && not (is_some (routine_around t d.scope))
+abbrev pub need_in : Table → ℕ → Option Declaration → List Need
+need_in t r None = []
+need_in t r (Some d) = cond (is_needed t d) (record { routine = r; last = d.last } ∷ []) []
 
-abbrev pub need_in : Table → ℕ → Role → Option Declaration → List Need
-need_in t r role None = []
-need_in t r role (Some d) = cond (is_needed t role d) (record { routine = r; last = d.last } ∷ []) []
-
-abbrev pub need_of : Table → Option ℕ → Role → Option Declaration → List Need
-need_of t None role d = []
-need_of t (Some r) role d = need_in t r role d
+abbrev pub need_of : Table → Option ℕ → Option Declaration → List Need
+need_of t None d = []
+need_of t (Some r) d = need_in t r d
 
 abbrev pub need_by : List Token → Table → Use → List Need
-need_by ts t u = need_of t (routine_around t u.scope) u.role (declared_by t (finds ts t u))
+need_by ts t u = need_of t (routine_around t u.scope) (declared_by t (finds ts t u))
 
 abbrev pub needs : List Token → Table → List Need
 needs ts t = flat_map (need_by ts t) t.uses

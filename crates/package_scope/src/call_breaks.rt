@@ -6,9 +6,7 @@ ghost use Rattle.package_scope.specs.Rules as means;
 use crate::breaks::Break;
 use crate::building::number;
 use crate::named_text::NamedText;
-use crate::rests::is_signal_kind;
 use crate::table::{DeclKind, Declaration, Found, Table, Use};
-use crate::use_breaks::is_key;
 use crate::walks::routine_around;
 use call_circles::{Call, Need, first_broken};
 use name_events::Role;
@@ -48,18 +46,11 @@ fn is_constant_kind(what: DeclKind) -> bool
     }
 }
 
-/// Whether what is declared has to stand before calls of a routine that names it so.
-fn is_needed_kind(role: Role, what: DeclKind) -> bool
-    ensures { result ≡ means.is_needed_kind role what }
+/// Whether a routine needs a declaration that it names to stand before calls of it.
+fn is_needed(table: &Table, declaration: &Declaration) -> bool
+    ensures { result ≡ means.is_needed table.now declaration.now }
 {
-    is_constant_kind(what) || (is_key(role) && is_signal_kind(what))
-}
-
-/// Whether a routine needs a declaration that it names so to stand before calls of it.
-fn is_needed(table: &Table, role: Role, declaration: &Declaration) -> bool
-    ensures { result ≡ means.is_needed table.now role declaration.now }
-{
-    is_needed_kind(role, declaration.what) && routine_around(table, declaration.scope).is_none()
+    is_constant_kind(declaration.what) && routine_around(table, declaration.scope).is_none()
 }
 
 impl<'t> NamedText<'t> {
@@ -96,7 +87,7 @@ impl<'t> NamedText<'t> {
         let Some(declaration) = self.numbered(number) else {
             return Ok(());
         };
-        if !is_needed(self.table(), found_by.role, declaration) {
+        if !is_needed(self.table(), declaration) {
             return Ok(());
         }
         needs.push(Need {

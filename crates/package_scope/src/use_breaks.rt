@@ -20,7 +20,7 @@ fn is_package(table: &Table, number: u32) -> bool
 }
 
 /// Whether a use is a pattern's key that is a name alone.
-pub(crate) fn is_key(role: Role) -> bool
+fn is_key(role: Role) -> bool
     ensures { result ≡ means.is_key role }
 {
     match role {

@@ -20,7 +20,7 @@ use Rattle.expr_type.specs.Expressions as E
 use Rattle.expr_type.specs.Expressions.{meaning, operand, select_meaning}
 use Rattle.expr_type.specs.Targets.{simple_name}
 use Rattle.expr_type.specs.Types.{TypeFound, dims, declared_type}
-use Rattle.expr_type.specs.Statements.{Declared, nothing, behind, behind_if, and_then, in_turn, local_of, local_type, with_type, variable, type_names, names_if, variables_of, selected_type, constant_value, constant, is_unwritten, written_type, with_dimensions, Kind, IsType, IsValue, Parameter, type_parameter, by_dimensions, value_parameter, parameter, kind_if, declared_if, parameters}
+use Rattle.expr_type.specs.Statements.{Declared, nothing, behind, behind_if, and_then, in_turn, local_of, local_type, with_type, variable, type_names, names_if, variables_of, selected_type, constant, is_unwritten, written_type, with_dimensions, Kind, IsType, IsValue, Parameter, type_parameter, by_dimensions, value_parameter, parameter, kind_if, declared_if, parameters, written_value, WrittenType, OfValue}
 use Rattle.typing_fits.proofs.Selects.{long-then}
 use Rattle.path_laws.specs.Names.{AllLocalsPlain, AllTypesPlain, PlainText}
 use Rattle.path_laws.proofs.Typings.{Gives, IfKnown, Anything, anything, whole-gives, broken-gives, rule-gives, checked-gives, by-gives}
@@ -144,13 +144,13 @@ type-parameter k at None p = broken-gives PlainParameter (At (position k.source 
 type-parameter k at (Some i) p = type-by k at ((meaning i.value).as_type k) ((expr-typed i.value).type k p.types)
 
 -- a constant declares no type and no local
-constant-gives : (k : Context) (at : ℕ) (t : Option SvType) (i : Option Initializer) → Gives PlainDeclared (constant k at t i)
+constant-gives : (k : Context) (at : ℕ) (t : WrittenType) (i : Option Initializer) → Gives PlainDeclared (constant k at t i)
 constant-gives k at t None = broken-gives PlainDeclared (At (position k.source at) 405)
 constant-gives k at t (Some i) =
-    checked-gives Anything PlainDeclared (operand k i.value) (λ o. checked (by_functions (constant_value k at t o)) (λ v. rule (not_too_long k.source at (width_of v.of) (a_declared (record nothing { values = v ∷ [] })))))
+    checked-gives Anything PlainDeclared (operand k i.value) (λ o. checked (by_functions (written_value k at t o)) (λ v. rule (not_too_long k.source at (width_of v.of) (a_declared (record nothing { values = v ∷ [] })))))
     (anything (operand k i.value))
     (λ o q.
-    checked-gives Anything PlainDeclared (by_functions (constant_value k at t o)) (λ v. rule (not_too_long k.source at (width_of v.of) (a_declared (record nothing { values = v ∷ [] })))) (anything (by_functions (constant_value k at t o)))
+    checked-gives Anything PlainDeclared (by_functions (written_value k at t o)) (λ v. rule (not_too_long k.source at (width_of v.of) (a_declared (record nothing { values = v ∷ [] })))) (anything (by_functions (written_value k at t o)))
     (λ v r.
     rule-gives PlainDeclared (not_too_long k.source at (width_of v.of) (a_declared (record nothing { values = v ∷ [] })))
     (λ e h. as-declared (record nothing { values = v ∷ [] }) e (long-then k.source at (width_of v.of) (a_declared (record nothing { values = v ∷ [] })) e h) (record { types = tt; ids = tt }))))
@@ -164,35 +164,35 @@ no-type-gives : (k : Context) (i : Option Initializer) → Gives PlainDeclared (
 no-type-gives k None = broken-gives PlainDeclared Quiet
 no-type-gives k (Some i) = checked-gives Anything PlainDeclared (operand k i.value) (λ o. broken Quiet) (anything (operand k i.value)) (λ o q. broken-gives PlainDeclared Quiet)
 
-abbrev value_by : Context → Declarator → Option (Option SvType) → Typing Declared
+abbrev value_by : Context → Declarator → Option WrittenType → Typing Declared
 value_by k d None = no_type_value k d.initial
 value_by k d (Some u) = constant k d.name u d.initial
 
-value-gives : (k : Context) (d : Declarator) (o : Option (Option SvType)) → Gives PlainDeclared (value_by k d o)
+value-gives : (k : Context) (d : Declarator) (o : Option WrittenType) → Gives PlainDeclared (value_by k d o)
 value-gives k d None = no-type-gives k d.initial
 value-gives k d (Some u) = constant-gives k d.name u d.initial
 
-dimensions-give : (k : Context) (d : Declarator) (t : Option SvType) → Gives PlainDeclared (by_dimensions k d t)
+dimensions-give : (k : Context) (d : Declarator) (t : WrittenType) → Gives PlainDeclared (by_dimensions k d t)
 dimensions-give k d t =
     by-gives Anything PlainDeclared PlainDeclared (with_dimensions k t d.unpacked) (λ o. value_by k d o) (λ u v. whole v) (anything (with_dimensions k t d.unpacked)) (λ o q. value-gives k d o)
     (λ u v q r. whole-gives PlainDeclared v r)
 
-abbrev written_by : Context → Declarator → Option (Option SvType) → Typing Declared
+abbrev written_by : Context → Declarator → Option WrittenType → Typing Declared
 written_by k d None = broken Quiet
 written_by k d (Some t) = by_dimensions k d t
 
-written-gives : (k : Context) (d : Declarator) (o : Option (Option SvType)) → Gives PlainDeclared (written_by k d o)
+written-gives : (k : Context) (d : Declarator) (o : Option WrittenType) → Gives PlainDeclared (written_by k d o)
 written-gives k d None = broken-gives PlainDeclared Quiet
 written-gives k d (Some t) = dimensions-give k d t
 
-value-parameter : (k : Context) (before : Option SvType) (of : TypeText) (d : Declarator) → Gives PlainParameter (value_parameter k before of d)
+value-parameter : (k : Context) (before : WrittenType) (of : TypeText) (d : Declarator) → Gives PlainParameter (value_parameter k before of d)
 value-parameter k before of d =
     by-gives Anything PlainDeclared PlainParameter (written_type k before of) (λ o. written_by k d o) (λ t v. whole (record { kind = IsValue t; declared = v })) (anything (written_type k before of)) (λ o q. written-gives k d o)
     (λ t v q r. whole-gives PlainParameter (record { kind = IsValue t; declared = v }) r)
 
-either-parameter : (k : Context) (b : Bool) (of : TypeText) (d : Declarator) → PlainText k → Gives PlainParameter (cond b (type_parameter k d.name d.initial) (value_parameter k None of d))
+either-parameter : (k : Context) (b : Bool) (of : TypeText) (d : Declarator) → PlainText k → Gives PlainParameter (cond b (type_parameter k d.name d.initial) (value_parameter k (OfValue None) of d))
 either-parameter k true of d p = type-parameter k d.name d.initial p
-either-parameter k false of d p = value-parameter k None of d
+either-parameter k false of d p = value-parameter k (OfValue None) of d
 
 parameter-gives : (k : Context) (before : Kind) (b : ParameterBody) → PlainText k → Gives PlainParameter (parameter k before b)
 parameter-gives k before (P.Type keyword name initial) p = type-parameter k name initial p

@@ -19,9 +19,10 @@ use Rattle.expr_type.specs.Typings.{Typing, whole, broken, rule, both, refused}
 use Rattle.expr_type.specs.Names.{Context, LocalId, Source, Thing, Signal, Local, Constant, TypeName, Interface, Other, Nothing, position, word, thing, thing_of, found, or_thing, local_in, value_in, type_in, signal_in, member_in, is_whole}
 use Rattle.expr_type.specs.Operators.{by_itself}
 use Rattle.expr_type.specs.Selects.{stepped, path}
-use Rattle.expr_type.specs.Forms.{steps, signal_or, of_interface, by_thing, named}
+use Rattle.expr_type.specs.Forms.{member_signal, steps, signal_or, of_interface, by_thing, named}
 use Rattle.expr_type.specs.TargetNames as N
 use Rattle.expr_type.specs.Expressions.{select_meaning}
+use Rattle.typing_fits.proofs.Members.{whole-if-narrow}
 use Rattle.typing_fits.proofs.Contexts.{refused-then}
 use Rattle.typing_fits.proofs.Operators.{ok-is}
 use Rattle.typed_paths.specs.Typed.{IsTyped}
@@ -152,10 +153,13 @@ member-is : (k : Source) (first : ℕ) (signals : List SignalId) (n : ℕ) (name
     → OnMember signals n v
 member-is k first signals n name s v is plain same = record { name = name; signal = s; is = is; on = subst (OnPath s.signal s.of) same (on-signal k first s.signal s.of plain) }
 
+signal-is : (k : Source) (first : ℕ) (s : SignalId) (v : Valued) → member_signal k first s ≡ Ok v → by_itself k first s.of (F.Signal s.signal) ≡ v
+signal-is k first s v h = let a = by_itself k first s.of (F.Signal s.signal) in ok-is a v (whole-if-narrow s.of (Ok a) v h)
+
 -- as values
 signal-or : (k : Source) (first at : ℕ) (signals : List SignalId) (n : ℕ) (name : List ℕ) (o : Option SignalId) (v : Valued) → member_in n name signals ≡ o → MemberIf o → signal_or k first at o ≡ Ok v → OnMember signals n v
 signal-or k first at signals n name None v is plain h = absurd (cc)
-signal-or k first at signals n name (Some s) v is plain h = member-is k first signals n name s v is plain (ok-is (by_itself k first s.of (F.Signal s.signal)) v h)
+signal-or k first at signals n name (Some s) v is plain h = member-is k first signals n name s v is plain (signal-is k first s v h)
 
 interface-by : (k : Context) (first n : ℕ) (ss : List (Typing Step)) (m : Option ℕ) → PlainNames k → AllGive HasWidth ss
     → Gives (OnThing k.signals (Interface n)) (elim m as (λ o. Typing Valued) [ None ↦ broken Quiet | Some at ↦ path k.source (rule (signal_or k.source first at (member_in n (word k.source at) k.signals))) ss ])
@@ -188,10 +192,10 @@ value-gives k of ss p other = by-thing k (qualified_first of) ss (thing k of) p 
 member-target : (k : Context) (inside : Bool) (first n at : ℕ) (o : Option SignalId) (v : Valued) → member_in n (word k.source at) k.signals ≡ o → MemberIf o → N.member_target k inside first n at o ≡ Ok v → OnMember k.signals n v
 member-target k inside first n at None v is plain h = absurd (cc)
 member-target k inside first n at (Some s) v is plain h =
-    let a = by_itself k.source first s.of (F.Signal s.signal) in
-    let rest = refused s.input (position k.source at) 410 (Ok a) in
+    let last = member_signal k.source first s in
+    let rest = refused s.input (position k.source at) 410 last in
     member-is k.source first k.signals n (word k.source at) s v is plain
-    (ok-is a v (refused-then s.input (position k.source at) 410 (Ok a) v (refused-then (inside && k.is_net_member n (word k.source at)) (position k.source at) 404 rest v h)))
+    (signal-is k.source first s v (refused-then s.input (position k.source at) 410 last v (refused-then (inside && k.is_net_member n (word k.source at)) (position k.source at) 404 rest v h)))
 
 target-by : (k : Context) (inside : Bool) (first n : ℕ) (ss : List (Typing Step)) (m : Option ℕ) → PlainNames k → AllGive HasWidth ss
     → Gives (OnThing k.signals (Interface n)) (elim m as (λ o. Typing Valued) [ None ↦ broken Quiet | Some at ↦ path k.source (rule (N.member_target k inside first n at (member_in n (word k.source at) k.signals))) ss ])

@@ -1,6 +1,6 @@
 -- What assignments in statements of a text write is typed.
 use Rattle.std.proofs.Common.{◌≡◌, ℕ, ◌==◌, Bool, true, false, cond, not, List, [], ◌∷◌, ◌++◌, length, map, Option, Some, None, refl, ap, sym, ◌∙◌, subst, rules}
-use Rattle.std.specs.Prelude.{Ok}
+use Rattle.std.specs.Prelude.{Ok, Err}
 use Rattle.sv_source.specs.declared.token.Spot.{Spot}
 use Rattle.sv_tree.specs.declared.expressions.Expr as X
 use Rattle.sv_tree.specs.declared.expressions.Select.{Select}
@@ -27,11 +27,12 @@ use Rattle.sv_types.specs.declared.statement.Stmt.TheVariants as V
 use Rattle.sv_types.specs.declared.types.SvType.{SvType}
 use Rattle.sv_types.specs.Layouts.{width_of}
 use Rattle.expr_type.specs.declared.operand.Valued.{Valued}
+use Rattle.expr_type.specs.Breaks.{Position}
 use Rattle.expr_type.specs.Typings.{Checked, Typing, whole, rule, checked, both, both_by, all, all_of, joined, looked_at, tried, where_whole}
 use Rattle.expr_type.specs.Names.{Called, Context, position, spot, thing, local_id}
 use Rattle.expr_type.specs.Operands.{Operand, given}
 use Rattle.expr_type.specs.Operators.{exprs, not_too_long}
-use Rattle.expr_type.specs.Forms.{needed_with}
+use Rattle.expr_type.specs.Forms.{finds_count, miscounted, needed, with_other_count}
 use Rattle.expr_type.specs.Expressions as E
 use Rattle.expr_type.specs.Expressions.{operand, select_meaning}
 use Rattle.expr_type.specs.Types.{TypeFound, typed_text}
@@ -39,7 +40,7 @@ use Rattle.expr_type.specs.TargetNames.{named_target}
 use Rattle.expr_type.specs.Targets as T
 use Rattle.expr_type.specs.Targets.{Target, ToPath, target, parts_of, simple_name}
 use Rattle.expr_type.specs.Statements as S
-use Rattle.expr_type.specs.Statements.{operator_of, is_later, combined, assign, assignment, continuous, one, step_operator, counted, Declared, behind, variables_of, selected_type, parameters, IsValue, BlockPart, IsStatement, IsDeclared, PartMeaning, behind_part, block_parts, in_block, built, block, empty, result, return_value, returned, condition, Branches, branches, case_kind, CaseItem, CaseFound, CaseMeaning, whole_item, case_items, default_body, item_at, selector_at, widest, case_stmt, first_by, LoopVariable, loop_type, loop_variable, in_loop, id_of, loop_step, Control, control, Turns, turns, loop_stmt, Actual, all_actuals, call_stmt_of, ways, actuals, call_stmt, StmtMeaning, else_if, typed_stmt, item_meaning, stmt_meaning}
+use Rattle.expr_type.specs.Statements.{operator_of, is_later, combined, assign, assignment, continuous, one, step_operator, counted, Declared, behind, variables_of, selected_type, parameters, IsValue, OfValue, BlockPart, IsStatement, IsDeclared, PartMeaning, behind_part, block_parts, in_block, built, block, empty, result, return_value, returned, condition, Branches, branches, case_kind, CaseItem, CaseFound, CaseMeaning, whole_item, case_items, default_body, item_at, selector_at, widest, case_stmt, first_by, LoopVariable, loop_type, loop_variable, in_loop, id_of, loop_step, Control, control, Turns, turns, loop_stmt, Actual, all_actuals, call_stmt_of, counted_call, ways, actuals, call_stmt, StmtMeaning, else_if, typed_stmt, item_meaning, stmt_meaning}
 use Rattle.typing_fits.proofs.Calls.{all-front, none-all}
 use Rattle.typing_fits.proofs.Contexts.{refused-then, whole-part, joined-both}
 use Rattle.typing_fits.proofs.Selects.{long-then}
@@ -381,10 +382,24 @@ call-typed k at c as' s h =
     let w = whole-part (all_of (all_actuals k c.of.formals as')) (λ es. a_stmt (made es)) s (refused-then (not (length c.of.formals == length as')) (position k.source at) 405 inner s h) in
     as-stmt (made w.part) s w.made (as-assigned (made w.part) [] (assigned-Call c.place w.part (spot k.source at)) tt)
 
-call-gives : (k : Context) (of : QualifiedName) (es : List E.Meaning) → Gives AssignsTyped (call_stmt k of es)
-call-gives k of es =
-    by-gives Anything Anything AssignsTyped (needed_with k of.name (k.finds of) (length es)) (λ o. all (actuals k (ways o) es)) (λ c as'. rule (call_stmt_of k of.name c as')) (anything (needed_with k of.name (k.finds of) (length es)))
+counted-call-gives : (k : Context) (of : QualifiedName) (es : List E.Meaning) → Gives AssignsTyped (counted_call k of es)
+counted-call-gives k of es =
+    by-gives Anything Anything AssignsTyped (needed k of.name (k.finds of)) (λ o. all (actuals k (ways o) es)) (λ c as'. rule (call_stmt_of k of.name c as')) (anything (needed k of.name (k.finds of)))
     (λ o q. anything (all (actuals k (ways o) es))) (λ c as' q r. rule-gives AssignsTyped (call_stmt_of k of.name c as') (λ s h. call-typed k of.name c as' s h))
+
+-- one with another number of actuals gives nothing
+never-whole : {A B : Type 0} (p : Position) (x : Checked Called) (y : Checked A) (b : B) → miscounted p x y ≡ Ok b → ⊥
+never-whole p x (Ok a) b h = cc
+never-whole p (Ok c) (Err e) b h = cc
+never-whole p (Err d) (Err e) b h = cc
+
+call-by : (k : Context) (of : QualifiedName) (es : List E.Meaning) (b : Bool)
+    → Gives AssignsTyped (cond b (counted_call k of es) (with_other_count (position k.source of.name) (needed k of.name (k.finds of)) (all (actuals k [] es))))
+call-by k of es true = counted-call-gives k of es
+call-by k of es false = λ fs s h. absurd (never-whole (position k.source of.name) (needed k of.name (k.finds of) fs).result (all (actuals k [] es) fs).result s h)
+
+call-gives : (k : Context) (of : QualifiedName) (es : List E.Meaning) → Gives AssignsTyped (call_stmt k of es)
+call-gives k of es = call-by k of es (finds_count k (k.finds of) (length es))
 
 -- statements as they are written
 abbrev case_meaning : C.CaseItem → CaseMeaning
@@ -430,7 +445,7 @@ declared-part x h = checked-gives PlainDeclared PartTyped x (λ d. whole (IsDecl
 
 item-case : (y : BlockItem-F AnItem ACase AStmt AnElse) → OfPart (S.item_step (map-BlockItem BlockItem C.CaseItem Stmt Else PartMeaning CaseMeaning StmtMeaning StmtMeaning item_meaning case_meaning stmt_meaning else_meaning (item_in y)))
 item-case (BlockItem-F.Statement s) k p = checked-gives AssignsTyped PartTyped (stmt_meaning s.0 k) (λ t. whole (IsStatement t)) (s.1 k p) (λ t q. whole-gives PartTyped (IsStatement t) q)
-item-case (BlockItem-F.Parameters b) k p = declared-part (parameters k (IsValue None) b.bodies) (parameters-give k (IsValue None) b.bodies p)
+item-case (BlockItem-F.Parameters b) k p = declared-part (parameters k (IsValue (OfValue None)) b.bodies) (parameters-give k (IsValue (OfValue None)) b.bodies p)
 item-case (BlockItem-F.Variables automatic v of ds semicolon) k p = declared-part (variables_of k (typed_text of k) ds) (variables-give k (typed_text of k) ds p (text-plain of k p.types))
 item-case (BlockItem-F.NamedVariables of ss ds semicolon) k p = declared-part (variables_of k (selected_type k of ss) ds) (variables-give k (selected_type k of ss) ds p (selected-gives k of ss p))
 

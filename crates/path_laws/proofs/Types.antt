@@ -223,11 +223,11 @@ field-gives k inside t n p =
 
 abbrev field_by : Context → Bool → Option TypeFound → DimensionedName → Typing Field
 field_by k inside None n = checked (dims k n.unpacked) (λ ds. broken Quiet)
-field_by k inside (Some f) n = field k inside f.of n
+field_by k inside (Some f) n = field (with_values f.names k) inside f.of n
 
 by-field : (k : Context) (inside : Bool) (o : Option TypeFound) (n : DimensionedName) → IfKnown PlainFound o → Gives PlainField (field_by k inside o n)
 by-field k inside None n p = checked-gives Anything PlainField (dims k n.unpacked) (λ ds. broken Quiet) (anything (dims k n.unpacked)) (λ ds q. broken-gives PlainField Quiet)
-by-field k inside (Some f) n p = field-gives k inside f.of n p
+by-field k inside (Some f) n p = field-gives (with_values f.names k) inside f.of n p
 
 each-field : (k : Context) (inside : Bool) (o : Option TypeFound) (ns : List DimensionedName) → IfKnown PlainFound o → AllGive PlainField (map (field_by k inside o) ns)
 each-field k inside o [] p = tt

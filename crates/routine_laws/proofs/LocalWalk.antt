@@ -9,7 +9,7 @@ use Rattle.expr_type.specs.Names.{Context}
 use Rattle.expr_type.specs.Expressions.{meaning}
 use Rattle.expr_type.specs.Types.{typed_text}
 use Rattle.expr_type.specs.Statements as T
-use Rattle.expr_type.specs.Statements.{variables_of, selected_type, parameters, IsValue, PartMeaning, CaseMeaning, StmtMeaning, block, item_meaning, stmt_meaning}
+use Rattle.expr_type.specs.Statements.{variables_of, selected_type, parameters, IsValue, OfValue, PartMeaning, CaseMeaning, StmtMeaning, block, item_meaning, stmt_meaning}
 use Rattle.typing_fits.proofs.Full.{and-left, and-right}
 use Rattle.typing_walks.specs.Keeps.{Keeps}
 use Rattle.typing_walks.specs.Written as Z
@@ -97,7 +97,7 @@ module _ (Q : List Function → Type 0) (s : Signals) where
 
   item-case : (y : BlockItem-F AnItem ACase AStmt AnElse) → written_item (item_in y) ≡ true → stepped_item (item_in y) ≡ true → OfPart Q s (meant_item (item_in y))
   item-case (BlockItem-F.Statement x) w u k r = X.statement-part Q s (stmt_meaning x.0 k) (x.1 w u k r)
-  item-case (BlockItem-F.Parameters b) w u k r = X.declared-part Q s (parameters k (IsValue None) b.bodies) (parameters-keep Q k (IsValue None) b.bodies r.text.around w tt)
+  item-case (BlockItem-F.Parameters b) w u k r = X.declared-part Q s (parameters k (IsValue (OfValue None)) b.bodies) (parameters-keep Q k (IsValue (OfValue None)) b.bodies r.text.around w tt)
   item-case (BlockItem-F.Variables automatic v of ds semicolon) w u k r =
       X.declared-part Q s (variables_of k (typed_text of k) ds)
       (variables-keep Q k (typed_text of k) ds r.text.around (and-right (type_written of) (declarators_written ds) w) (text-keeps Q k of r.text.around (and-left (type_written of) (declarators_written ds) w)))

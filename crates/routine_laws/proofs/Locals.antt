@@ -31,13 +31,13 @@ use Rattle.expr_type.specs.Shapes.{is_assignable, is_plain_to_enum}
 use Rattle.expr_type.specs.Names.{Called, Context, position, spot}
 use Rattle.expr_type.specs.Operands.{Operand, given, first_of}
 use Rattle.expr_type.specs.Operators.{exprs}
-use Rattle.expr_type.specs.Forms.{needed_with}
+use Rattle.expr_type.specs.Forms.{finds_count, needed, with_other_count}
 use Rattle.expr_type.specs.Expressions as E
 use Rattle.expr_type.specs.Expressions.{operand, select_meaning}
 use Rattle.expr_type.specs.TargetNames.{named_target}
 use Rattle.expr_type.specs.Targets as X
 use Rattle.expr_type.specs.Targets.{Target, ToPath, target, parts_of, simple_name}
-use Rattle.expr_type.specs.Statements.{operator_of, is_later, combined, assign, assignment, one, step_operator, counted, Declared, BlockPart, IsStatement, IsDeclared, PartMeaning, behind_part, block_parts, in_block, built, block, empty, result, return_value, returned, condition, Branches, branches, else_if, case_kind, CaseFound, CaseItem, CaseMeaning, whole_item, case_items, default_body, widest, selector_at, item_at, case_stmt, LoopVariable, loop_variable, in_loop, id_of, loop_step, control, Turns, turns, loop_stmt, Actual, as_value, actual_by, ways, actuals, takes_result, is_inout, value_passed, actual_expr, all_actuals, call_stmt_of, call_stmt, StmtMeaning}
+use Rattle.expr_type.specs.Statements.{operator_of, is_later, combined, assign, assignment, one, step_operator, counted, Declared, BlockPart, IsStatement, IsDeclared, PartMeaning, behind_part, block_parts, in_block, built, block, empty, result, return_value, returned, condition, Branches, branches, else_if, case_kind, CaseFound, CaseItem, CaseMeaning, whole_item, case_items, default_body, widest, selector_at, item_at, case_stmt, LoopVariable, loop_variable, in_loop, id_of, loop_step, control, Turns, turns, loop_stmt, Actual, as_value, actual_by, ways, actuals, is_other_enum, takes_result, is_inout, value_passed, actual_expr, all_actuals, call_stmt_of, counted_call, call_stmt, StmtMeaning}
 use Rattle.typing_fits.specs.Sound.{Sound}
 use Rattle.typing_fits.specs.Operands.{SoundFixed, SoundOperand, KnownCall}
 use Rattle.typing_fits.proofs.Calls.{all-front, none-all}
@@ -217,7 +217,7 @@ expr_ok e = Ok e
 
 result-local : (k : Context) (back : Bool) (t : SvType) (v : Valued) (e : Expr) → takes_result k back t v ≡ Ok e → LocalValued v → LocalExpr e
 result-local k back t v e h s =
-    let second = is_plain_to_enum v.expr.of t || (back && is_plain_to_enum t v.expr.of) in
+    let second = is_other_enum t v.expr || (back && is_plain_to_enum t v.expr.of) in
     let rest = refused-then (not (is_assignable v.expr.of t) || (back && not (is_assignable t v.expr.of))) (position k.source v.first) 501 (refused second (position k.source v.first) 503 (Ok v.expr)) e h in
     one-whole LocalExpr v.expr e (refused-then second (position k.source v.first) 503 (expr_ok v.expr) e rest) s
 
@@ -423,8 +423,16 @@ module _ (Q : List Function → Type 0) (s : Signals) where
       let ws = map way_of c.of.formals in
       replaced Q (λ as' hs. AllHold SoundActual as' hs) (LocalForCalled c) gs (all (actuals k ws es)) (K.all-keeps Q SoundActual (actuals k ws es) Z.actual-lasts (Z.each-actual Q k ws es r.text.around m) gs q) (all-local k s ws es r.names l gs)
 
-  pub call-keeps : (k : Context) (of : QualifiedName) (es : List E.Meaning) → Within Q s k → AllMean Q es → AllLocalActuals s es → Keeps Q WritesLocals (call_stmt k of es)
-  call-keeps k of es r m l =
-      N.with-keeps Q KnownCall LocalForCalled WritesLocals (needed_with k of.name (k.finds of) (length es)) (λ o. all (actuals k (ways o) es)) (λ c as'. rule (call_stmt_of k of.name c as')) call-lasts
-      (C.with-keeps Q k of.name (k.finds of) (length es) r.text.around) (λ o gs q x. actuals-known k es o gs r m l q)
+  counted-call-keeps : (k : Context) (of : QualifiedName) (es : List E.Meaning) → Within Q s k → AllMean Q es → AllLocalActuals s es → Keeps Q WritesLocals (counted_call k of es)
+  counted-call-keeps k of es r m l =
+      N.with-keeps Q KnownCall LocalForCalled WritesLocals (needed k of.name (k.finds of)) (λ o. all (actuals k (ways o) es)) (λ c as'. rule (call_stmt_of k of.name c as')) call-lasts
+      (C.needed-keeps Q k of.name (k.finds of) r.text.around) (λ o gs q x. actuals-known k es o gs r m l q)
       (λ c as' js q x y. K.rule-kept Q WritesLocals (call_stmt_of k of.name c as') js q (λ t h. call-writes k of.name c as' t js h x y))
+
+  call-by : (k : Context) (of : QualifiedName) (es : List E.Meaning) (b : Bool) → Within Q s k → AllMean Q es → AllLocalActuals s es
+      → Keeps Q WritesLocals (cond b (counted_call k of es) (with_other_count (position k.source of.name) (needed k of.name (k.finds of)) (all (actuals k [] es))))
+  call-by k of es true r m l = counted-call-keeps k of es r m l
+  call-by k of es false r m l = C.other-keeps Q WritesLocals (position k.source of.name) (needed k of.name (k.finds of)) (all (actuals k [] es)) (C.needed-keeps Q k of.name (k.finds of) r.text.around)
+
+  pub call-keeps : (k : Context) (of : QualifiedName) (es : List E.Meaning) → Within Q s k → AllMean Q es → AllLocalActuals s es → Keeps Q WritesLocals (call_stmt k of es)
+  call-keeps k of es r m l = call-by k of es (finds_count k (k.finds of) (length es)) r m l

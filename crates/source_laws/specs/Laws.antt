@@ -16,12 +16,12 @@ use Rattle.source_laws.specs.Frames.{SoundFrame}
 
 -- functions and tasks, of any names and any frame
 pub record TextsAreSound : Type 0 where
-  pub texts : (tokens : List Token) (tree : SourceTree) (t : Table) (f : Frame) (at : ℕ) → Reads tokens tree → AllSoundTexts (without_signals (without_routines tree t f at))
+  pub texts : (tokens : List Token) (tree : SourceTree) (t : Table) (f : Frame) (at : ℕ) → Reads tokens tree → AllSoundTexts (without_signals tree t (without_routines tree t f at))
 
 -- the text of a frame, and those of its functions
 pub record FramesAreSound : Type 0 where
   pub names : (tree : SourceTree) (t : Table) (f : Frame) (at : ℕ) → SoundFrame f → SoundContext (without_routines tree t f at)
-  pub functions : (tree : SourceTree) (t : Table) (f : Frame) (at : ℕ) → SoundFrame f → SoundContext (without_signals (without_routines tree t f at))
+  pub functions : (tree : SourceTree) (t : Table) (f : Frame) (at : ℕ) → SoundFrame f → SoundContext (without_signals tree t (without_routines tree t f at))
   pub text : (tokens : List Token) (tree : SourceTree) (t : Table) (f : Frame) (at : ℕ) → Reads tokens tree → SoundFrame f → AroundStatements AllSoundFunctions (context tree t f at)
   pub behind : (tokens : List Token) (tree : SourceTree) (t : Table) (f : Frame) (at depth n : ℕ) → Reads tokens tree → SoundFrame f
-      → let k = without_signals (without_routines tree t f at) in Surrounded AllSoundFunctions (outside (record k { routine = routine depth k }) n)
+      → let k = without_signals tree t (without_routines tree t f at) in Surrounded AllSoundFunctions (outside (record k { routine = routine depth k }) n)

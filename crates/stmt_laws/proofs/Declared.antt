@@ -18,25 +18,28 @@ use Rattle.sv_types.specs.declared.types.SvType.{SvType}
 use Rattle.sv_types.specs.Layouts.{width_of}
 use Rattle.sv_types.specs.Values.{bits}
 use Rattle.expr_type.specs.declared.operand.Valued.{Valued}
+use Rattle.sv_tree.specs.declared.names.Signing.{Signing}
 use Rattle.expr_type.specs.Breaks.{At, Quiet}
 use Rattle.expr_type.specs.Typings.{Checked, Typing, whole, broken, rule, by_functions, checked, where_whole, lesser}
-use Rattle.expr_type.specs.Shapes.{is_assignable, is_plain_to_enum}
+use Rattle.expr_type.specs.Shapes.{is_assignable, is_plain_to_enum, vector}
 use Rattle.expr_type.specs.Names.{Context, LocalId, Source, position, with_values, with_types}
 use Rattle.expr_type.specs.Operands as X
-use Rattle.expr_type.specs.Operands.{Operand, is_given, is_plain, sized, width, given, is_constant_value, is_constant, constant_alone, constant_of, value_by}
+use Rattle.expr_type.specs.Operands.{Operand, Plain, is_given, is_plain, sized, width, given, is_constant_value, is_constant, constant_alone, constant_of, value_by}
 use Rattle.expr_type.specs.Uses.{names_any}
 use Rattle.expr_type.specs.Operators.{not_too_long}
-use Rattle.expr_type.specs.KeywordTypes.{unpacked, implicit_type}
+use Rattle.expr_type.specs.KeywordTypes.{unpacked}
 use Rattle.expr_type.specs.Expressions as E
 use Rattle.expr_type.specs.Expressions.{meaning, operand, select_meaning}
 use Rattle.expr_type.specs.Targets.{simple_name}
+use Rattle.expr_type.specs.Forms.{is_signed_by}
 use Rattle.expr_type.specs.Types.{TypeFound, dims, typed_text, declared_type}
-use Rattle.expr_type.specs.Statements.{Declared, nothing, behind, behind_if, and_then, in_turn, initial_value, local_of, local_type, with_type, variable, type_names, names_if, variables_of, selected_type, param_value, constant_value, constant, is_unwritten, written_type, with_dimensions, Kind, IsType, IsValue, Parameter, type_parameter, by_dimensions, value_parameter, parameter, kind_if, declared_if, parameters}
+use Rattle.expr_type.specs.Statements.{Declared, nothing, behind, behind_if, and_then, in_turn, initial_value, local_of, local_type, with_type, variable, type_names, names_if, variables_of, selected_type, param_value, constant_value, constant, is_unwritten, written_type, with_dimensions, Kind, IsType, IsValue, Parameter, type_parameter, by_dimensions, value_parameter, parameter, kind_if, declared_if, parameters, ranged_value, written_value, sign_alone, sign_or_type, type_or_bit, WrittenType, OfValue, OfType}
 use Rattle.typing_fits.specs.Types.{is_full}
-use Rattle.typing_fits.specs.Sound.{Extends, IsNarrowType, SoundFor}
+use Rattle.typing_fits.specs.Sound.{Extends, IsNarrowType, Sound, SoundFor}
 use Rattle.typing_fits.specs.Operands.{SoundOperand, AllTypesFull, AllLocalsNarrow}
 use Rattle.typing_fits.proofs.Contexts.{refused-then, whole-part, lesser-both}
-use Rattle.typing_fits.proofs.Full.{and-left, and-right}
+use Rattle.typing_fits.proofs.Full.{and-left, and-right, full-bits}
+use Rattle.typing_fits.proofs.Vectors.{narrow-vector}
 use Rattle.typing_fits.proofs.Given.{for-later, given-sound, constant-value-sound, constant-is}
 use Rattle.typing_fits.proofs.Names.{values-behind, types-behind, locals-behind}
 use Rattle.typing_fits.proofs.Selects.{long-no, long-then}
@@ -54,7 +57,7 @@ use Rattle.typing_walks.proofs.Walk.{expr-sound}
 use Rattle.stmt_walks.proofs.Targets.{all-selects}
 use Rattle.routine_fits.specs.Sound.{SoundStart, AllSoundLocals}
 use Rattle.stmt_laws.specs.Written.{declarator_written, declarators_written, body_written, bodies_written, selects_written}
-use Rattle.stmt_laws.specs.Sound.{SoundType, SoundDeclared, PerhapsFull, KindFull, SoundParameter}
+use Rattle.stmt_laws.specs.Sound.{SoundType, SoundDeclared, PerhapsFull, WrittenFull, KindFull, SoundParameter}
 use Rattle.stmt_laws.proofs.Values.{NoStream, no-stream, value-has}
 
 -- what is declared
@@ -167,6 +170,18 @@ constant-long k at None o v gs h full s =
 constant-long k at (Some t) o v gs h full s =
     let a = whole-part (constant_of k.source t o gs) (param_value k at t gs) v h in
     value-long k at t a.part v gs a.made full (constant-plain k.source t o a.part gs a.is)
+
+ranged-long : (k : Context) (at : ℕ) (g : Signing) (o : Operand) (v : ParamValue) (gs : List Function) → ranged_value k at g o gs ≡ Ok v → SoundOperand o gs → LongValue v gs
+ranged-long k at g o v gs h s =
+    let a = whole-part (is_constant_value k.source o) (λ u. constant_value k at (Some (vector (width u) (is_signed_by g))) (Plain u) gs) v h in
+    let sound : Sound a.part gs = constant-value-sound k.source o a.part gs a.is s in
+    let full = (narrow-vector (width a.part) (is_signed_by g) (full-bits a.part.expr.of sound.of.full) sound.of.narrow).full in
+    constant-long k at (Some (vector (width a.part) (is_signed_by g))) (Plain a.part) v gs a.made full sound
+
+written-long : (k : Context) (at : ℕ) (t : WrittenType) (o : Operand) (v : ParamValue) (gs : List Function) → written_value k at t o gs ≡ Ok v → WrittenFull t → SoundOperand o gs → LongValue v gs
+written-long k at (OfValue None) o v gs h full s = constant-long k at None o v gs h tt s
+written-long k at (OfValue (Some g)) o v gs h full s = ranged-long k at g o v gs h s
+written-long k at (OfType t) o v gs h full s = constant-long k at (Some t) o v gs h full s
 
 abbrev declared_ok : Declared → Checked Declared
 declared_ok d = Ok d
@@ -323,40 +338,45 @@ module _ (Q : List Function → Type 0) where
   type-parameter k at None r w = K.broken-keeps Q SoundParameter (At (position k.source at) 405)
   type-parameter k at (Some i) r w = type-by k at ((meaning i.value).as_type k) ((expr-sound Q i.value w).as_type k r)
 
-  pub constant-keeps : (k : Context) (at : ℕ) (t : Option SvType) (i : Option Initializer) → Surrounded Q k → initial_written i ≡ true → PerhapsFull t → Keeps Q SoundDeclared (constant k at t i)
+  pub constant-keeps : (k : Context) (at : ℕ) (t : WrittenType) (i : Option Initializer) → Surrounded Q k → initial_written i ≡ true → WrittenFull t → Keeps Q SoundDeclared (constant k at t i)
   constant-keeps k at t None r w full = K.broken-keeps Q SoundDeclared (At (position k.source at) 405)
   constant-keeps k at t (Some i) r w full =
       K.checked-keeps Q SoundOperand SoundDeclared (operand k i.value)
-      (λ o. checked (by_functions (constant_value k at t o)) (λ v. rule (not_too_long k.source at (width_of v.of) (declared_ok (record nothing { values = v ∷ [] }))))) (operand-keeps k i r w)
+      (λ o. checked (by_functions (written_value k at t o)) (λ v. rule (not_too_long k.source at (width_of v.of) (declared_ok (record nothing { values = v ∷ [] }))))) (operand-keeps k i r w)
       (λ o js q s.
-      K.checked-kept Q LongValue SoundDeclared (by_functions (constant_value k at t o)) (λ v. rule (not_too_long k.source at (width_of v.of) (declared_ok (record nothing { values = v ∷ [] })))) js
-      (K.rule-kept Q LongValue (constant_value k at t o js) js q (λ v h. constant-long k at t o v js h full s))
+      K.checked-kept Q LongValue SoundDeclared (by_functions (written_value k at t o)) (λ v. rule (not_too_long k.source at (width_of v.of) (declared_ok (record nothing { values = v ∷ [] })))) js
+      (K.rule-kept Q LongValue (written_value k at t o js) js q (λ v h. written-long k at t o v js h full s))
       (λ v hs p l. K.rule-kept Q SoundDeclared (not_too_long k.source at (width_of v.of) (declared_ok (record nothing { values = v ∷ [] }))) hs p (λ d h. one-value k.source at v d hs h l)))
 
   -- the type that is written
-  abbrev Perhaps : Option SvType → List Function → Type 0
-  Perhaps t gs = PerhapsFull t
+  abbrev Perhaps : WrittenType → List Function → Type 0
+  Perhaps t gs = WrittenFull t
 
   perhaps-lasts : Lasts Perhaps
   perhaps-lasts t gs hs e s = s
 
-  written-by : (k : Context) (before : Option SvType) (of : TypeText) (b : Bool) → Surrounded Q k → type_written of ≡ true → PerhapsFull before
-      → Keeps Q Perhaps (cond b (whole before) (checked (typed_text of k) (λ f. whole (Some f.of))))
-  written-by k before of true r w full = K.whole-keeps Q Perhaps before (λ gs. full)
-  written-by k before of false r w full =
-      K.checked-keeps Q SoundType Perhaps (typed_text of k) (λ f. whole (Some f.of)) (text-keeps k of r w) (λ f js q s. K.whole-kept Q Perhaps (Some f.of) js q s.full)
+  sign-or-type : (k : Context) (of : TypeText) (o : Option Signing) → Surrounded Q k → type_written of ≡ true → Keeps Q Perhaps (sign_or_type k of o)
+  sign-or-type k of (Some g) r w = K.whole-keeps Q Perhaps (OfValue (Some g)) (λ gs. tt)
+  sign-or-type k of None r w =
+      K.checked-keeps Q SoundType Perhaps (typed_text of k) (λ f. whole (OfType f.of)) (text-keeps k of r w) (λ f js q s. K.whole-kept Q Perhaps (OfType f.of) js q s.full)
 
-  pub written-keeps : (k : Context) (before : Option SvType) (of : TypeText) → Surrounded Q k → type_written of ≡ true → PerhapsFull before → Keeps Q Perhaps (written_type k before of)
+  written-by : (k : Context) (before : WrittenType) (of : TypeText) (b : Bool) → Surrounded Q k → type_written of ≡ true → WrittenFull before
+      → Keeps Q Perhaps (cond b (whole before) (sign_or_type k of (sign_alone of)))
+  written-by k before of true r w full = K.whole-keeps Q Perhaps before (λ gs. full)
+  written-by k before of false r w full = sign-or-type k of (sign_alone of) r w
+
+  pub written-keeps : (k : Context) (before : WrittenType) (of : TypeText) → Surrounded Q k → type_written of ≡ true → WrittenFull before → Keeps Q Perhaps (written_type k before of)
   written-keeps k before of r w full = written-by k before of (is_unwritten of) r w full
 
-  pub dimensions-keep : (k : Context) (t : Option SvType) (ds : List Dimension) → Surrounded Q k → dims_written ds ≡ true → PerhapsFull t → Keeps Q Perhaps (with_dimensions k t ds)
+  full-or-bit : (t : WrittenType) → WrittenFull t → is_full (type_or_bit t) ≡ true
+  full-or-bit (OfValue s) full = full-implicit s []
+  full-or-bit (OfType t) full = full
+
+  pub dimensions-keep : (k : Context) (t : WrittenType) (ds : List Dimension) → Surrounded Q k → dims_written ds ≡ true → WrittenFull t → Keeps Q Perhaps (with_dimensions k t ds)
   dimensions-keep k t [] r w full = K.whole-keeps Q Perhaps t (λ gs. full)
-  dimensions-keep k None (d ∷ ds) r w full =
-      K.checked-keeps Q Anything Perhaps (dims k (d ∷ ds)) (λ e. whole (Some (unpacked e (implicit_type None [])))) (Y.dims-keep Q k (d ∷ ds) r w)
-      (λ e js q a. K.whole-kept Q Perhaps (Some (unpacked e (implicit_type None []))) js q (full-unpacked e (implicit_type None []) (full-implicit None [])))
-  dimensions-keep k (Some t) (d ∷ ds) r w full =
-      K.checked-keeps Q Anything Perhaps (dims k (d ∷ ds)) (λ e. whole (Some (unpacked e t))) (Y.dims-keep Q k (d ∷ ds) r w)
-      (λ e js q a. K.whole-kept Q Perhaps (Some (unpacked e t)) js q (full-unpacked e t full))
+  dimensions-keep k t (d ∷ ds) r w full =
+      K.checked-keeps Q Anything Perhaps (dims k (d ∷ ds)) (λ e. whole (OfType (unpacked e (type_or_bit t)))) (Y.dims-keep Q k (d ∷ ds) r w)
+      (λ e js q a. K.whole-kept Q Perhaps (OfType (unpacked e (type_or_bit t))) js q (full-unpacked e (type_or_bit t) (full-or-bit t full)))
 
   -- what follows a type: a constant, or what is looked at by itself
   abbrev no_type_value : Context → Option Initializer → Typing Declared
@@ -367,40 +387,40 @@ module _ (Q : List Function → Type 0) where
   no-type-keeps k None r w = K.broken-keeps Q SoundDeclared Quiet
   no-type-keeps k (Some i) r w = K.checked-keeps Q SoundOperand SoundDeclared (operand k i.value) (λ o. broken Quiet) (operand-keeps k i r w) (λ o js q s. K.broken-keeps Q SoundDeclared Quiet js q)
 
-  abbrev value_by_type : Context → Declarator → Option (Option SvType) → Typing Declared
+  abbrev value_by_type : Context → Declarator → Option WrittenType → Typing Declared
   value_by_type k d None = no_type_value k d.initial
   value_by_type k d (Some u) = constant k d.name u d.initial
 
-  value-keeps : (k : Context) (d : Declarator) (o : Option (Option SvType)) (gs : List Function) → Surrounded Q k → initial_written d.initial ≡ true → Q gs → IfKnown Perhaps o gs
+  value-keeps : (k : Context) (d : Declarator) (o : Option WrittenType) (gs : List Function) → Surrounded Q k → initial_written d.initial ≡ true → Q gs → IfKnown Perhaps o gs
       → Kept Declared Q SoundDeclared gs (value_by_type k d o gs)
   value-keeps k d None gs r w q s = no-type-keeps k d.initial r w gs q
   value-keeps k d (Some u) gs r w q s = constant-keeps k d.name u d.initial r w s gs q
 
-  pub by-dimensions : (k : Context) (d : Declarator) (t : Option SvType) → Surrounded Q k → declarator_written d ≡ true → PerhapsFull t → Keeps Q SoundDeclared (by_dimensions k d t)
+  pub by-dimensions : (k : Context) (d : Declarator) (t : WrittenType) → Surrounded Q k → declarator_written d ≡ true → WrittenFull t → Keeps Q SoundDeclared (by_dimensions k d t)
   by-dimensions k d t r w full =
       let dw = and-left (dims_written d.unpacked) (initial_written d.initial) w in
       let iw = and-right (dims_written d.unpacked) (initial_written d.initial) w in
       N.by-keeps Q Perhaps SoundDeclared SoundDeclared (with_dimensions k t d.unpacked) (λ o. value_by_type k d o) (λ u v. whole v) perhaps-lasts (dimensions-keep k t d.unpacked r dw full)
       (λ o gs q s. value-keeps k d o gs r iw q s) (λ u v js q s x. K.whole-kept Q SoundDeclared v js q x)
 
-  abbrev by_written : Context → Declarator → Option (Option SvType) → Typing Declared
+  abbrev by_written : Context → Declarator → Option WrittenType → Typing Declared
   by_written k d None = broken Quiet
   by_written k d (Some t) = by_dimensions k d t
 
-  by-written : (k : Context) (d : Declarator) (o : Option (Option SvType)) (gs : List Function) → Surrounded Q k → declarator_written d ≡ true → Q gs → IfKnown Perhaps o gs → Kept Declared Q SoundDeclared gs (by_written k d o gs)
+  by-written : (k : Context) (d : Declarator) (o : Option WrittenType) (gs : List Function) → Surrounded Q k → declarator_written d ≡ true → Q gs → IfKnown Perhaps o gs → Kept Declared Q SoundDeclared gs (by_written k d o gs)
   by-written k d None gs r w q s = K.broken-keeps Q SoundDeclared Quiet gs q
   by-written k d (Some t) gs r w q s = by-dimensions k d t r w s gs q
 
-  pub value-parameter : (k : Context) (before : Option SvType) (of : TypeText) (d : Declarator) → Surrounded Q k → type_written of ≡ true → declarator_written d ≡ true → PerhapsFull before
+  pub value-parameter : (k : Context) (before : WrittenType) (of : TypeText) (d : Declarator) → Surrounded Q k → type_written of ≡ true → declarator_written d ≡ true → WrittenFull before
       → Keeps Q SoundParameter (value_parameter k before of d)
   value-parameter k before of d r w v full =
       N.by-keeps Q Perhaps SoundDeclared SoundParameter (written_type k before of) (λ o. by_written k d o) (λ t e. whole (record { kind = IsValue t; declared = e })) perhaps-lasts (written-keeps k before of r w full)
       (λ o gs q s. by-written k d o gs r v q s) (λ t e js q s x. K.whole-kept Q SoundParameter (record { kind = IsValue t; declared = e }) js q (record { kind = s; declared = x }))
 
   either-parameter : (k : Context) (b : Bool) (of : TypeText) (d : Declarator) → Surrounded Q k → type_written of ≡ true → declarator_written d ≡ true
-      → Keeps Q SoundParameter (cond b (type_parameter k d.name d.initial) (value_parameter k None of d))
+      → Keeps Q SoundParameter (cond b (type_parameter k d.name d.initial) (value_parameter k (OfValue None) of d))
   either-parameter k true of d r w v = type-parameter k d.name d.initial r (and-right (dims_written d.unpacked) (initial_written d.initial) v)
-  either-parameter k false of d r w v = value-parameter k None of d r w v tt
+  either-parameter k false of d r w v = value-parameter k (OfValue None) of d r w v tt
 
   pub parameter-keeps : (k : Context) (before : Kind) (b : ParameterBody) → Surrounded Q k → body_written b ≡ true → KindFull before → Keeps Q SoundParameter (parameter k before b)
   parameter-keeps k before (P.Type keyword name initial) r w full = type-parameter k name initial r w

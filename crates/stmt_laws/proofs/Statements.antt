@@ -1,5 +1,5 @@
 -- Statements of a sound text, form by form.
-use Rattle.std.proofs.Common.{◌≡◌, ℕ, true, false, List, [], ◌∷◌, length, map, Option, Some, None, refl, sym, subst}
+use Rattle.std.proofs.Common.{◌≡◌, ℕ, Bool, true, false, cond, List, [], ◌∷◌, length, map, Option, Some, None, refl, sym, subst}
 use Rattle.std.specs.Prelude.{Ok}
 use Rattle.std.specs.Option.{option_map}
 use Rattle.sv_tree.specs.declared.expressions.Expr as S
@@ -13,11 +13,11 @@ use Rattle.sv_types.specs.declared.statement.Stmt.TheVariants as V
 use Rattle.sv_types.specs.declared.types.SvType.{SvType}
 use Rattle.expr_type.specs.declared.operand.Valued.{Valued}
 use Rattle.expr_type.specs.Typings.{Checked, Typing, whole, rule, checked, both, both_by, all, looked_at, tried}
-use Rattle.expr_type.specs.Names.{Context, spot}
+use Rattle.expr_type.specs.Names.{Context, position, spot}
 use Rattle.expr_type.specs.Operands.{Operand}
-use Rattle.expr_type.specs.Forms.{needed_with}
+use Rattle.expr_type.specs.Forms.{finds_count, needed, with_other_count}
 use Rattle.expr_type.specs.Expressions.{Meaning, operand}
-use Rattle.expr_type.specs.Statements.{BlockPart, IsStatement, IsDeclared, PartMeaning, behind_part, block_parts, built, block, empty, returned, return_value, condition, Branches, branches, else_if, case_kind, CaseFound, CaseMeaning, case_stmt, LoopVariable, loop_variable, in_loop, id_of, loop_step, Control, control, Turns, turns, loop_stmt, Actual, ways, actuals, call_stmt_of, call_stmt, StmtMeaning, Declared}
+use Rattle.expr_type.specs.Statements.{BlockPart, IsStatement, IsDeclared, PartMeaning, behind_part, block_parts, built, block, empty, returned, return_value, condition, Branches, branches, else_if, case_kind, CaseFound, CaseMeaning, case_stmt, LoopVariable, loop_variable, in_loop, id_of, loop_step, Control, control, Turns, turns, loop_stmt, Actual, ways, actuals, call_stmt_of, counted_call, call_stmt, StmtMeaning, Declared}
 use Rattle.typing_fits.specs.Sound.{Sound, AllSound, SoundAlone, SoundFor}
 use Rattle.typing_fits.specs.Operands.{SoundOperand, KnownCall}
 use Rattle.typing_fits.proofs.Full.{and-left, and-right}
@@ -263,8 +263,16 @@ module _ (Q : List Function → Type 0) where
       (λ o gs q s. turns-keep k test step body o gs r w u h q s) (λ x t js q s y. K.whole-kept Q SoundStmt (loop_stmt k keyword x t) js q (loop-sound k keyword x t js s y))
 
   -- calls
-  pub call-keeps : (k : Context) (of : QualifiedName) (es : List Meaning) → Surrounded Q k → AllMean Q es → Keeps Q SoundStmt (call_stmt k of es)
-  call-keeps k of es r s =
-      N.by-keeps Q KnownCall (λ as' gs. AllHold SoundActual as' gs) SoundStmt (needed_with k of.name (k.finds of) (length es)) (λ o. all (actuals k (ways o) es)) (λ c as'. rule (call_stmt_of k of.name c as')) call-lasts
-      (C.with-keeps Q k of.name (k.finds of) (length es) r) (λ o gs q x. K.all-keeps Q SoundActual (actuals k (ways o) es) actual-lasts (each-actual Q k (ways o) es r s) gs q)
+  counted-keeps : (k : Context) (of : QualifiedName) (es : List Meaning) → Surrounded Q k → AllMean Q es → Keeps Q SoundStmt (counted_call k of es)
+  counted-keeps k of es r s =
+      N.by-keeps Q KnownCall (λ as' gs. AllHold SoundActual as' gs) SoundStmt (needed k of.name (k.finds of)) (λ o. all (actuals k (ways o) es)) (λ c as'. rule (call_stmt_of k of.name c as')) call-lasts
+      (C.needed-keeps Q k of.name (k.finds of) r) (λ o gs q x. K.all-keeps Q SoundActual (actuals k (ways o) es) actual-lasts (each-actual Q k (ways o) es r s) gs q)
       (λ c as' js q x y. K.rule-kept Q SoundStmt (call_stmt_of k of.name c as') js q (λ t h. G.call-sound k of.name c as' t js h x (all-actuals as' js y)))
+
+  call-by : (k : Context) (of : QualifiedName) (es : List Meaning) (b : Bool) → Surrounded Q k → AllMean Q es
+      → Keeps Q SoundStmt (cond b (counted_call k of es) (with_other_count (position k.source of.name) (needed k of.name (k.finds of)) (all (actuals k [] es))))
+  call-by k of es true r s = counted-keeps k of es r s
+  call-by k of es false r s = C.other-keeps Q SoundStmt (position k.source of.name) (needed k of.name (k.finds of)) (all (actuals k [] es)) (C.needed-keeps Q k of.name (k.finds of) r)
+
+  pub call-keeps : (k : Context) (of : QualifiedName) (es : List Meaning) → Surrounded Q k → AllMean Q es → Keeps Q SoundStmt (call_stmt k of es)
+  call-keeps k of es r s = call-by k of es (finds_count k (k.finds of) (length es)) r s

@@ -3,7 +3,7 @@ use Rattle.std.specs.Prelude.{◌≡◌, ⊤, true, List, Option, Some, None}
 use Rattle.sv_types.specs.declared.statement.Function.{Function}
 use Rattle.sv_types.specs.declared.types.SvType.{SvType}
 use Rattle.expr_type.specs.Names.{Context}
-use Rattle.expr_type.specs.Statements.{BlockPart, IsStatement, IsDeclared, Declared, Kind, IsType, IsValue, Parameter}
+use Rattle.expr_type.specs.Statements.{BlockPart, IsStatement, IsDeclared, Declared, Kind, IsType, IsValue, Parameter, WrittenType, OfValue, OfType}
 use Rattle.expr_type.specs.Types.{TypeFound}
 use Rattle.typing_fits.specs.Types.{is_full}
 use Rattle.typing_fits.specs.Sound.{IsNarrowType}
@@ -29,10 +29,15 @@ abbrev pub PerhapsFull : Option SvType → Type 0
 PerhapsFull None = ⊤
 PerhapsFull (Some t) = is_full t ≡ true
 
+-- what is written of a type
+abbrev pub WrittenFull : WrittenType → Type 0
+WrittenFull (OfValue s) = ⊤
+WrittenFull (OfType t) = is_full t ≡ true
+
 -- what the next parameter takes
 abbrev pub KindFull : Kind → Type 0
 KindFull IsType = ⊤
-KindFull (IsValue t) = PerhapsFull t
+KindFull (IsValue t) = WrittenFull t
 
 pub record SoundParameter (p : Parameter) (gs : List Function) : Type 0 where
   pub kind : KindFull p.kind

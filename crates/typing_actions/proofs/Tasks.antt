@@ -1,5 +1,5 @@
 -- Calls of tasks and void functions, by what is needed and what is passed.
-use Rattle.std.proofs.Common.{◌≡◌, ℕ, List, length, map, Option, Some, None, refl, sym, ap, ◌∙◌, subst}
+use Rattle.std.proofs.Common.{◌≡◌, ℕ, Bool, true, false, cond, List, [], length, map, Option, Some, None, refl, sym, ap, ◌∙◌, subst}
 use Rattle.std.specs.Prelude.{Result, Ok, Err, Vec, slice_get}
 use Rattle.std.specs.declared.alloc.Global.{Global}
 use Rattle.std.proofs.lemmas.List.{length-map}
@@ -12,22 +12,22 @@ use Rattle.expr_type.specs.declared.halt.Halt.{Halt}
 use Rattle.expr_type.specs.declared.halt.Halt.TheVariants as H
 use Rattle.expr_type.specs.Answers.{Gives}
 use Rattle.expr_type.specs.Expressions.{meaning}
-use Rattle.expr_type.specs.Forms.{needed_with}
 use Rattle.expr_type.specs.Names as N
-use Rattle.expr_type.specs.Names.{Context}
+use Rattle.expr_type.specs.Names.{Context, position}
 use Rattle.expr_type.specs.Statements as D
 use Rattle.expr_type.specs.Typings.{Typed, Typing, all, both_by, rule}
 use Rattle.typing_fits.specs.Sound.{Extends}
 use Rattle.typing_parts.specs.Typists.{CalledTo}
 use Rattle.typing_steps.specs.Steps.{TypesTo}
 use Rattle.typing_steps.proofs.Combining.{rule-types}
-use Rattle.typing_calls.specs.Calls.{needed_of}
+use Rattle.typing_calls.specs.Calls.{has_count_of, needed_of}
+use Rattle.typing_calls.proofs.Counting.{count-alone}
 use Rattle.typing_calls.specs.Lists.{all_meant}
 use Rattle.typing_sides.specs.Sides.{first_stop, stop}
 use Rattle.typing_sides.proofs.Together.{by-both-fine, by-both-stops}
 use Rattle.typing_actions.specs.declared.passing.Actual.{Actual}
 use Rattle.typing_actions.specs.TaskActuals.{AreWays, actuals_of, ways_if}
-use Rattle.typing_actions.specs.Calls.{Called, CallsTask, Stopped, actual_of}
+use Rattle.typing_actions.specs.Calls.{Called, CallsTask, Stopped, actual_of, other_call_of}
 
 abbrev with_actuals : Context → QualifiedName → N.Called → List D.Actual → Typing Stmt
 with_actuals k of c as' = rule (D.call_stmt_of k of.name c as')
@@ -36,11 +36,10 @@ abbrev passed : Context → List Expr → Option N.Called → Typing (List D.Act
 passed k es o = all (D.actuals k (D.ways o) (map meaning es))
 
 abbrev called_by : Context → QualifiedName → List Expr → Typing Stmt
-called_by k of es = both_by (needed_of k of (length es)) (passed k es) (with_actuals k of)
+called_by k of es = both_by (needed_of k of) (passed k es) (with_actuals k of)
 
-by-count : (k : Context) (of : QualifiedName) (es : List Expr) (fs hs : List Function) (r : Result Stmt Halt) → TypesTo r (called_by k of es fs) hs → TypesTo r (D.call_stmt k of (map meaning es) fs) hs
-by-count k of es fs hs r p =
-    subst (λ (n : ℕ). TypesTo r (both_by (needed_with k of.name (k.finds of) n) (passed k es) (with_actuals k of) fs) hs) (sym (length-map es meaning)) p
+by-count : (k : Context) (of : QualifiedName) (es : List Expr) (fs hs : List Function) (r : Result Stmt Halt) → TypesTo r (called_by k of es fs) hs → TypesTo r (D.counted_call k of (map meaning es) fs) hs
+by-count k of es fs hs r p = p
 
 calls-then : (k : Context) (at place : ℕ) (f : Function) (o : Option Function) (as' : List D.Actual) (r : Result Stmt Halt) → o ≡ Some f → CallsTask k at place o as' r
     → Gives r (D.call_stmt_of k at (record { place = place; of = f }) as')
@@ -53,9 +52,9 @@ stopped-is : (h : Halt) (r : Result Stmt Halt) (t : Typed Stmt) (hs : List Funct
 stopped-is h r t hs e p = subst (λ (q : Result Stmt Halt). TypesTo q t hs) (sym e) p
 
 stopped-by : (k : Context) (of : QualifiedName) (es : List Expr) (fs gs hs : List Function) (h : Halt) (b : Result (List D.Actual) Halt) (r : Result Stmt Halt) (o : Option Halt) → first_stop (Some h) (stop b) ≡ o → Stopped o r
-    → TypesTo {A = N.Called} (Err h) (needed_of k of (length es) fs) gs → TypesTo b (passed k es None gs) hs → TypesTo r (D.call_stmt k of (map meaning es) fs) hs
+    → TypesTo {A = N.Called} (Err h) (needed_of k of fs) gs → TypesTo b (passed k es None gs) hs → TypesTo r (D.counted_call k of (map meaning es) fs) hs
 stopped-by k of es fs gs hs h b r (Some g) s d c p =
-    stopped-is g r (D.call_stmt k of (map meaning es) fs) hs d (by-count k of es fs hs (Err g) (by-both-stops (needed_of k of (length es)) (passed k es) (with_actuals k of) fs gs hs (Err h) b g s c p))
+    stopped-is g r (D.counted_call k of (map meaning es) fs) hs d (by-count k of es fs hs (Err g) (by-both-stops (needed_of k of) (passed k es) (with_actuals k of) fs gs hs (Err h) b g s c p))
 stopped-by k of es fs gs hs h b r None s d c p = absurd (always-stops h (stop b) s)
   where
     always-stops : (h : Halt) (o : Option Halt) → first_stop (Some h) o ≡ None → ⊥
@@ -65,21 +64,21 @@ stopped-by k of es fs gs hs h b r None s d c p = absurd (always-stops h (stop b)
     always-stops (H.Breaks at n) o e = cc
 
 pub call-types : (k : Context) (of : QualifiedName) (es : List Expr) (fs gs hs : List Function) (place : Result ℕ Halt) (ws : List Way) (as' : Result (Vec Actual Global) Halt) (r : Result Stmt Halt)
-    → CalledTo place (needed_of k of (length es) fs) gs → AreWays place gs ws → TypesTo (all_meant (actual_of k.source) as') (actuals_of k ws es gs) hs → Extends gs hs → Called k of.name place as' hs r
-    → TypesTo r (D.call_stmt k of (map meaning es) fs) hs
+    → CalledTo place (needed_of k of fs) gs → AreWays place gs ws → TypesTo (all_meant (actual_of k.source) as') (actuals_of k ws es gs) hs → Extends gs hs → Called k of.name place as' hs r
+    → TypesTo r (D.counted_call k of (map meaning es) fs) hs
 call-types k of es fs gs hs (Ok n) ws (Ok v) r c w p e d =
     let called : N.Called = record { place = n; of = c.of } in
     let ways = ways-there c.of (slice_get gs n) ws w c.known in
     let row : TypesTo (Ok (map (actual_of k.source) v.items)) (passed k es (Some called) gs) hs = subst (λ (us : List Way). TypesTo (Ok (map (actual_of k.source) v.items)) (actuals_of k us es gs) hs) ways p in
     by-count k of es fs hs r
-    (by-both-fine (needed_of k of (length es)) (passed k es) (with_actuals k of) fs gs hs called (map (actual_of k.source) v.items) r c.gives row
+    (by-both-fine (needed_of k of) (passed k es) (with_actuals k of) fs gs hs called (map (actual_of k.source) v.items) r c.gives row
     (rule-types r (D.call_stmt_of k of.name called (map (actual_of k.source) v.items)) hs (calls-then k of.name n c.of (slice_get hs n) (map (actual_of k.source) v.items) r (e.keeps n c.of c.known) d)))
 call-types k of es fs gs hs (Ok n) ws (Err h) r c w p e d =
     let called : N.Called = record { place = n; of = c.of } in
     let ways = ways-there c.of (slice_get gs n) ws w c.known in
     let row : TypesTo {A = List D.Actual} (Err h) (passed k es (Some called) gs) hs = subst (λ (us : List Way). TypesTo {A = List D.Actual} (Err h) (actuals_of k us es gs) hs) ways p in
-    stopped-is h r (D.call_stmt k of (map meaning es) fs) hs d
-    (by-count k of es fs hs (Err h) (by-both-stops (needed_of k of (length es)) (passed k es) (with_actuals k of) fs gs hs (Ok called) (Err h) h refl c.gives row))
+    stopped-is h r (D.counted_call k of (map meaning es) fs) hs d
+    (by-count k of es fs hs (Err h) (by-both-stops (needed_of k of) (passed k es) (with_actuals k of) fs gs hs (Ok called) (Err h) h refl c.gives row))
 call-types k of es fs gs hs (Err h) ws as' r c w p e d =
     let row : TypesTo (all_meant (actual_of k.source) as') (passed k es None gs) hs = subst (λ (us : List Way). TypesTo (all_meant (actual_of k.source) as') (actuals_of k us es gs) hs) w p in
     stopped-by k of es fs gs hs h (all_meant (actual_of k.source) as') r (first_stop (Some h) (stop as')) (ap (first_stop (Some h)) (meant-stop as')) d c row
@@ -104,5 +103,28 @@ pub called-fine : (k : Context) (at n : ℕ) (place : Result ℕ Halt) (as' : Re
     → CallsTask k at n (slice_get fs n) (map (actual_of k.source) v.items) r → Called k at place as' fs r
 called-fine k at n place as' v fs r e f c =
     subst (λ (p : Result ℕ Halt). Called k at p as' fs r) (sym e) (subst (λ (q : Result (Vec Actual Global) Halt). Called k at (Ok n) q fs r) (sym f) c)
+
+-- by the number of actuals
+by-number : (k : Context) (of : QualifiedName) (es : List Expr) (b : Bool) (fs hs : List Function) (r : Result Stmt Halt) → has_count_of k of (length es) ≡ b
+    → TypesTo r (cond b (D.counted_call k of (map meaning es)) (other_call_of k of es) fs) hs → TypesTo r (D.call_stmt k of (map meaning es) fs) hs
+by-number k of es b fs hs r is p =
+    subst (λ (c : Bool). TypesTo r (cond c (D.counted_call k of (map meaning es)) (other_call_of k of es) fs) hs) (sym (ap (has_count_of k of) (length-map es meaning) ∙ is)) p
+
+pub counted-call : (k : Context) (of : QualifiedName) (es : List Expr) (fs hs : List Function) (r : Result Stmt Halt) → has_count_of k of (length es) ≡ true
+    → TypesTo r (D.counted_call k of (map meaning es) fs) hs → TypesTo r (D.call_stmt k of (map meaning es) fs) hs
+counted-call k of es fs hs r is p = by-number k of es true fs hs r is p
+
+pub other-call : (k : Context) (of : QualifiedName) (es : List Expr) (fs hs : List Function) (r : Result Stmt Halt) → has_count_of k of (length es) ≡ false
+    → TypesTo r (other_call_of k of es fs) hs → TypesTo r (D.call_stmt k of (map meaning es) fs) hs
+other-call k of es fs hs r is p = by-number k of es false fs hs r is p
+
+-- another number of whole actuals
+pub count-breaks : (k : Context) (of : QualifiedName) (es : List Expr) (fs gs : List Function) (as' : List D.Actual) → TypesTo (Ok as') (actuals_of k [] es fs) gs
+    → TypesTo {A = Stmt} (Err (H.Breaks of.name 405)) (other_call_of k of es fs) gs
+count-breaks k of es fs gs as' p = count-alone Stmt (position k.source of.name) (needed_of k of fs).result (actuals_of k [] es fs).result as' (ap (λ (t : Typed (List D.Actual)). t.result) p)
+
+pub ruleset either = (counted-call, other-call)
+
+pub ruleset counts = (count-breaks)
 
 pub ruleset called = (called-stops, called-fine)

@@ -1,6 +1,8 @@
 -- Actuals as the code has them.
-use Rattle.std.specs.Prelude.{◌≡◌, ⊤, ℕ, List, map, Option, Some, None, Result, Ok, Err, Vec, slice_get}
+use Rattle.std.specs.Prelude.{◌≡◌, ⊤, ℕ, List, [], map, Option, Some, None, Result, Ok, Err, Vec, slice_get}
 use Rattle.std.specs.declared.alloc.Global.{Global}
+use Rattle.sv_tree.specs.declared.expressions.Expr as T
+use Rattle.sv_tree.specs.declared.names.QualifiedName.{QualifiedName}
 use Rattle.sv_types.specs.declared.statement.Formal.{Formal}
 use Rattle.sv_types.specs.declared.statement.Function.{Function}
 use Rattle.sv_types.specs.declared.statement.Stmt.{Stmt}
@@ -10,9 +12,11 @@ use Rattle.expr_type.specs.declared.halt.Halt.TheVariants as H
 use Rattle.expr_type.specs.Answers.{Gives}
 use Rattle.expr_type.specs.Names.{Context, Source}
 use Rattle.expr_type.specs.Statements as D
-use Rattle.expr_type.specs.Typings.{Checked}
+use Rattle.expr_type.specs.Typings.{Checked, Typing}
 use Rattle.pattern_types.specs.Meaning.{operand_of}
+use Rattle.typing_calls.specs.Calls.{other_count_of}
 use Rattle.typing_sides.specs.Sides.{first_stop, stop}
+use Rattle.typing_actions.specs.TaskActuals.{actuals_of}
 use Rattle.typing_actions.specs.declared.passing.Actual.{Actual}
 use Rattle.typing_actions.specs.declared.passing.Actual.TheVariants as A
 
@@ -38,3 +42,7 @@ abbrev pub Called : Context → ℕ → Result ℕ Halt → Result (Vec Actual G
 Called k at (Ok n) (Ok as') fs r = CallsTask k at n (slice_get fs n) (map (actual_of k.source) as'.items) r
 Called k at (Ok n) (Err h) fs r = r ≡ Err h
 Called k at (Err h) as' fs r = Stopped (first_stop (Some h) (stop as')) r
+
+-- a call of another number of actuals than there are formals
+abbrev pub other_call_of : Context → QualifiedName → List T.Expr → Typing Stmt
+other_call_of k of es = other_count_of k of (actuals_of k [] es)

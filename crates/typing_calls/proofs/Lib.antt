@@ -2,3 +2,4 @@ pub mod InTurn
 pub mod Each
 pub mod Zipping
 pub mod Calling
+pub mod Counting

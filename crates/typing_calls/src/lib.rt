@@ -3,12 +3,14 @@
 
 mod arguments;
 mod calls;
+mod counts;
 mod lists;
 mod needing;
 mod passing;
 
 pub use arguments::actuals;
 pub use calls::call;
+pub use counts::uncounted;
 pub use lists::{all_made, followed};
-pub use needing::needed;
+pub use needing::{has_count, needed};
 pub use passing::{called_with, passed_all};

@@ -31,16 +31,34 @@ module _ (k : Context) (inside : Bool) (x : Typing TypeFound) (ns : List Dimensi
   abbrev fields_behind : Option TypeFound → Typing (List Field)
   fields_behind o = all (map (field_found k inside o) ns)
 
-  whole-by : (f : TypeFound) (r : Result (List Field) Halt) → TypesTo (Ok f) (x fs) gs → TypesTo r (fields_by k inside (Some f.of) ns gs) hs → TypesTo (mapped (with_names f) r) (member_by k inside x ns fs) hs
+  -- the names that the type declares stand for their values in the dimensions
+  abbrev behind_type : TypeFound → Typing (List Field)
+  behind_type f = fields_by (with_values f.names k) inside (Some f.of) ns
+
+  whole-by : (f : TypeFound) (r : Result (List Field) Halt) → TypesTo (Ok f) (x fs) gs → TypesTo r (behind_type f gs) hs → TypesTo (mapped (with_names f) r) (member_by k inside x ns fs) hs
   whole-by f r p q = whole-turn x fields_behind with_names f r fs gs hs p q
 
-  pub member-whole : (o : Result TypeFound Halt) (f : TypeFound) (ls : List Field) → o ≡ Ok f → TypesTo o (x fs) gs → TypesTo (Ok ls) (fields_by k inside (Some f.of) ns gs) hs
-      → TypesTo (Ok (with_names f ls)) (member_by k inside x ns fs) hs
-  member-whole o f ls is p q = whole-by f (Ok ls) (subst (λ (y : Result TypeFound Halt). TypesTo y (x fs) gs) is p) q
+  pub member-whole : (f : TypeFound) (ls : List Field) → TypesTo (Ok f) (x fs) gs → TypesTo (Ok ls) (behind_type f gs) hs → TypesTo (Ok (with_names f ls)) (member_by k inside x ns fs) hs
+  member-whole f ls p q = whole-by f (Ok ls) p q
 
-  pub member-stops : (o : Result TypeFound Halt) (f : TypeFound) (h : Halt) → o ≡ Ok f → TypesTo o (x fs) gs → TypesTo {A = List Field} (Err h) (fields_by k inside (Some f.of) ns gs) hs
-      → TypesTo {A = Fields} (Err h) (member_by k inside x ns fs) hs
-  member-stops o f h is p q = whole-by f (Err h) (subst (λ (y : Result TypeFound Halt). TypesTo y (x fs) gs) is p) q
+  pub member-stops : (f : TypeFound) (h : Halt) → TypesTo (Ok f) (x fs) gs → TypesTo {A = List Field} (Err h) (behind_type f gs) hs → TypesTo {A = Fields} (Err h) (member_by k inside x ns fs) hs
+  member-stops f h p q = whole-by f (Err h) p q
+
+  -- in a scope behind the names that the type declares
+  module _ (t : SvType) (vs : List ParamValue) (found : TypeFound) (inner : Context) (there : inner ≡ with_values vs k) (view : record { of = t; names = vs } ≡ found) (p : TypesTo (Ok found) (x fs) gs) where
+    seen : TypesTo (Ok (record { of = t; names = vs })) (x fs) gs
+    seen = subst (λ (f : TypeFound). TypesTo (Ok f) (x fs) gs) (sym view) p
+
+    behind-names : (r : Result (List Field) Halt) → TypesTo r (fields_by inner inside (Some t) ns gs) hs → TypesTo r (behind_type (record { of = t; names = vs }) gs) hs
+    behind-names r q = subst (λ (c : Context). TypesTo r (fields_by c inside (Some t) ns gs) hs) there q
+
+    pub scope-stops : (h : Halt) → TypesTo {A = List Field} (Err h) (fields_by inner inside (Some t) ns gs) hs → TypesTo {A = Fields} (Err h) (member_by k inside x ns fs) hs
+    scope-stops h q = member-stops (record { of = t; names = vs }) h seen (behind-names (Err h) q)
+
+    pub scope-whole : (ls : List Field) (us : List ParamValue) → us ≡ vs → TypesTo (Ok ls) (fields_by inner inside (Some t) ns gs) hs → TypesTo (Ok (record { fields = ls; names = us })) (member_by k inside x ns fs) hs
+    scope-whole ls us e q =
+        subst (λ (ws : List ParamValue). TypesTo (Ok (record { fields = ls; names = ws })) (member_by k inside x ns fs) hs) (sym e)
+        (member-whole (record { of = t; names = vs }) ls seen (behind-names (Ok ls) q))
 
   quiet-by : (r : Result (List Field) Halt) → TypesTo {A = TypeFound} (Err H.Quiet) (x fs) gs → TypesTo r (fields_by k inside None ns gs) hs → TypesTo {A = Fields} (Err (behind r)) (member_by k inside x ns fs) hs
   quiet-by (Ok ls) p q = quiet-turn x fields_behind with_names (Ok ls) fs gs hs p q

@@ -8,25 +8,25 @@ use Rattle.sv_types.specs.declared.types.SvType.{SvType}
 use Rattle.expr_type.specs.declared.halt.Halt.{Halt}
 use Rattle.expr_type.specs.declared.halt.Halt.TheVariants as H
 use Rattle.expr_type.specs.Names.{Context, with_values}
-use Rattle.expr_type.specs.Statements.{Declared, and_then, in_turn, names_if, type_names, variable, variables_of}
+use Rattle.expr_type.specs.Statements.{Declared, WrittenType, and_then, in_turn, names_if, type_names, variable, variables_of}
 use Rattle.expr_type.specs.Types.{TypeFound}
 use Rattle.expr_type.specs.Typings.{Typed, Typing}
 use Rattle.routine_fits.specs.Sound.{AllSoundFunctions}
 use Rattle.typing_steps.specs.Steps.{StopsBy, TypesTo}
 use Rattle.typing_scopes.proofs.Turning.{broken-turn, quiet-turn, whole-turn}
 use Rattle.typing_walks.specs.Keeps.{Kept}
-use Rattle.stmt_laws.specs.Sound.{PerhapsFull, SoundType}
+use Rattle.stmt_laws.specs.Sound.{SoundType, WrittenFull}
 use Rattle.typing_declarations.specs.Rows.{AheadBy, FoundSound, each_variable}
 
 -- what is typed keeps what is said of it
 pub sound-then : (A : Type 0) (Q : List Function → Type 0) (P : A → List Function → Type 0) (t : Typed A) (fs gs : List Function) (a : A) → TypesTo (Ok a) t gs → Kept A Q P fs t → P a gs
 sound-then A Q P t fs gs a h kept = subst (λ (zs : List Function). P a zs) (ap (λ (u : Typed A). u.functions) h) (kept.sound a (ap (λ (u : Typed A). u.result) h))
 
-abbrev Perhaps : Option SvType → List Function → Type 0
-Perhaps t gs = PerhapsFull t
+abbrev Full : WrittenType → List Function → Type 0
+Full t gs = WrittenFull t
 
-pub full-then : (t : Typed (Option SvType)) (fs gs : List Function) (u : Option SvType) → Kept (Option SvType) AllSoundFunctions Perhaps fs t → TypesTo (Ok u) t gs → PerhapsFull u
-full-then t fs gs u kept h = sound-then (Option SvType) AllSoundFunctions Perhaps t fs gs u h kept
+pub full-then : (t : Typed WrittenType) (fs gs : List Function) (u : WrittenType) → Kept WrittenType AllSoundFunctions Full fs t → TypesTo (Ok u) t gs → WrittenFull u
+full-then t fs gs u kept h = sound-then WrittenType AllSoundFunctions Full t fs gs u h kept
 
 pub found-sound : (Q : List Function → Type 0) (r : Result TypeFound Halt) (t : Typed TypeFound) (fs gs : List Function) → TypesTo r t gs → Kept TypeFound Q SoundType fs t → FoundSound r gs
 found-sound Q (Ok f) t fs gs h kept = sound-then TypeFound Q SoundType t fs gs f h kept

@@ -7,6 +7,7 @@ use Rattle.sv_tree.specs.declared.declarations.Initializer.{Initializer}
 use Rattle.sv_tree.specs.declared.expressions.Dimension.{Dimension}
 use Rattle.sv_tree.specs.declared.expressions.Select.{Select}
 use Rattle.sv_tree.specs.declared.types.TypeText.{TypeText}
+use Rattle.sv_tree.specs.declared.names.Signing.{Signing}
 use Rattle.sv_types.specs.declared.expression.Expr.{Expr}
 use Rattle.sv_types.specs.declared.frame.ParamType.{ParamType}
 use Rattle.sv_types.specs.declared.frame.ParamValue.{ParamValue}
@@ -23,9 +24,9 @@ use Rattle.expr_type.specs.Forms.{type_of_thing}
 use Rattle.expr_type.specs.Names.{Context, Source, position, thing}
 use Rattle.expr_type.specs.Operands.{Operand, given}
 use Rattle.expr_type.specs.Statements as S
-use Rattle.expr_type.specs.Statements.{Declared, IsType, IsValue, Parameter, by_dimensions, constant, constant_value, initial_value, is_unwritten, local_of, local_type, selected_type, type_parameter, value_parameter, variable, with_dimensions, with_type, written_type}
+use Rattle.expr_type.specs.Statements.{Declared, IsType, IsValue, Parameter, by_dimensions, constant, initial_value, is_unwritten, local_of, local_type, selected_type, type_parameter, value_parameter, variable, with_dimensions, with_type, written_type, OfType, OfValue, WrittenType, sign_alone, sign_or_type, type_or_bit, written_value}
 use Rattle.expr_type.specs.Targets.{simple_name}
-use Rattle.expr_type.specs.KeywordTypes.{Dim, implicit_type, unpacked}
+use Rattle.expr_type.specs.KeywordTypes.{Dim, unpacked}
 use Rattle.expr_type.specs.Types.{TypeFound, declared_type, dims, only, typed_text}
 use Rattle.expr_type.specs.Typings.{Checked, Typed, Typing, applied, broken, by_functions, checked, maybe, refused, rule, where_whole, whole}
 use Rattle.pattern_laws.proofs.Reasons.{where-fine}
@@ -40,9 +41,8 @@ use Rattle.typing_scopes.proofs.Turning.{broken-turn, quiet-turn, whole-turn}
 use Rattle.typing_paths.specs.System.{as_type_of}
 use Rattle.typing_values.specs.Parts as part
 use Rattle.constant_values.specs.declared.parameters.Place.{Place}
-use Rattle.constant_values.specs.Parameters.{parameter_value}
-use Rattle.constant_values.proofs.Giving.{short-is, short_value}
-use Rattle.typing_declarations.specs.Declaring.{as_value, looked, looked_by, type_or_bit, typed_param}
+use Rattle.constant_values.proofs.Giving.{range-is, short-is}
+use Rattle.typing_declarations.specs.Declaring.{as_value, looked, looked_by, typed_param, written_param}
 
 -- a value that is looked at by itself
 pub quiet-here : {A : Type 0} (gs : List Function) → IsQuiet (broken {A = A} Quiet gs) gs
@@ -123,17 +123,18 @@ selected-whole k of ss t r fs gs e h =
 pub selected-none : (k : Context) (of : ℕ) (ss : List Select) (fs : List Function) → None ≡ type_of_thing (thing k (simple_name of)) → StopsBy H.Quiet (selected_type k of ss fs) fs
 selected-none k of ss fs e = subst (λ (o : Option SvType). StopsBy H.Quiet (found_by (option_map (λ u. part.dimensioned k u ss) o) fs) fs) e (quiet-here fs)
 
-pub before-types : (k : Context) (before : Option SvType) (of : TypeText) (fs : List Function) → is_unwritten of ≡ true → TypesTo (Ok before) (written_type k before of fs) fs
-before-types k before of fs u = subst (λ (b : Bool). TypesTo (Ok before) (cond b (whole before) (checked (typed_text of k) (λ f. whole (Some f.of))) fs) fs) (sym u) refl
+pub before-types : (k : Context) (before : WrittenType) (of : TypeText) (fs : List Function) → is_unwritten of ≡ true → TypesTo (Ok before) (written_type k before of fs) fs
+before-types k before of fs u = subst (λ (b : Bool). TypesTo (Ok before) (cond b (whole before) (sign_or_type k of (sign_alone of)) fs) fs) (sym u) refl
 
-pub written-types : (k : Context) (before : Option SvType) (of : TypeText) (r : Result TypeFound Halt) (fs gs : List Function) → is_unwritten of ≡ false → TypesTo r (typed_text of k fs) gs
-    → TypesTo (mapped (λ (f : TypeFound). Some f.of) r) (written_type k before of fs) gs
-written-types k before of r fs gs u h =
-    subst (λ (b : Bool). TypesTo (mapped (λ (f : TypeFound). Some f.of) r) (cond b (whole before) (checked (typed_text of k) (λ f. whole (Some f.of))) fs) gs) (sym u) (by r h)
-  where
-    by : (q : Result TypeFound Halt) → TypesTo q (typed_text of k fs) gs → TypesTo (mapped (λ (f : TypeFound). Some f.of) q) (checked (typed_text of k) (λ f. whole (Some f.of)) fs) gs
-    by (Ok f) p = checked-fine (typed_text of k) (λ f. whole (Some f.of)) fs gs gs f (Ok (Some f.of)) p refl
-    by (Err g) p = checked-stops (typed_text of k) (λ f. whole (Some f.of)) fs gs g p
+pub other-types : (k : Context) (before : WrittenType) (of : TypeText) (signing : Option Signing) (r : Result WrittenType Halt) (fs gs : List Function) → is_unwritten of ≡ false → signing ≡ sign_alone of
+    → TypesTo r (sign_or_type k of signing fs) gs → TypesTo r (written_type k before of fs) gs
+other-types k before of signing r fs gs u is h =
+    subst (λ (b : Bool). TypesTo r (cond b (whole before) (sign_or_type k of (sign_alone of)) fs) gs) (sym u) (subst (λ (o : Option Signing). TypesTo r (sign_or_type k of o fs) gs) is h)
+
+pub text-types : (k : Context) (of : TypeText) (r : Result TypeFound Halt) (fs gs : List Function) → TypesTo r (typed_text of k fs) gs
+    → TypesTo (mapped (λ (f : TypeFound). OfType f.of) r) (sign_or_type k of None fs) gs
+text-types k of (Ok f) fs gs p = checked-fine (typed_text of k) (λ f. whole (OfType f.of)) fs gs gs f (Ok (OfType f.of)) p refl
+text-types k of (Err g) fs gs p = checked-stops (typed_text of k) (λ f. whole (OfType f.of)) fs gs g p
 
 -- parameters that are types
 abbrev of_option : Checked (Option SvType) → Checked (Option SvType)
@@ -212,30 +213,36 @@ by-constant : (k : Context) (at : ℕ) (c : Checked ParamValue) (r : Result Para
 by-constant k at (Ok v) r gs g = rule-types (as_meant as_value r) (short_declared k at v) gs (gives-value r (nat_lt 65536 (width_of v.of)) (position k.source at) 701 v g)
 by-constant k at (Err b) r gs g = rule-types (as_meant as_value r) (Err b) gs (gives-none r b g)
 
-pub constant-types : (k : Context) (at : ℕ) (t : Option SvType) (i : Initializer) (o : Operand) (p : Place) (r : Result ParamValue Halt) (fs gs : List Function) → p ≡ record { name = at; declaration = k.declared at }
-    → TypesTo (Ok o) (operand k i.value fs) gs → Gives r (parameter_value k.source p t o gs) → TypesTo (as_meant as_value r) (constant k at t (Some i) fs) gs
-constant-types k at t i o p r fs gs is h g =
-    let made = subst (λ (q : Place). Gives r (parameter_value k.source q t o gs)) is g in
-    let short = subst (λ (c : Checked ParamValue). Gives r c) (sym (short-is k at t o gs)) made in
-    checked-fine (operand k i.value) (λ x. checked (by_functions (constant_value k at t x)) (λ v. rule (short_declared k at v))) fs gs gs o (as_meant as_value r) h (by-constant k at (constant_value k at t o gs) r gs short)
+written-short : (k : Context) (at : ℕ) (t : WrittenType) (o : Operand) (fs : List Function)
+    → where_whole (written_value k at t o fs) (λ (v : ParamValue). refused (nat_lt 65536 (width_of v.of)) (position k.source at) 701 (Ok v)) ≡ written_param k.source (record { name = at; declaration = k.declared at }) t o fs
+written-short k at (OfValue None) o fs = short-is k at None o fs
+written-short k at (OfValue (Some s)) o fs = range-is k at s o fs
+written-short k at (OfType t) o fs = short-is k at (Some t) o fs
 
-pub constant-stops : (k : Context) (at : ℕ) (t : Option SvType) (i : Initializer) (g : Halt) (fs gs : List Function) → TypesTo {A = Operand} (Err g) (operand k i.value fs) gs → StopsBy g (constant k at t (Some i) fs) gs
-constant-stops k at t i g fs gs h = checked-stops (operand k i.value) (λ x. checked (by_functions (constant_value k at t x)) (λ v. rule (short_declared k at v))) fs gs g h
+pub constant-types : (k : Context) (at : ℕ) (t : WrittenType) (i : Initializer) (o : Operand) (p : Place) (r : Result ParamValue Halt) (fs gs : List Function) → p ≡ record { name = at; declaration = k.declared at }
+    → TypesTo (Ok o) (operand k i.value fs) gs → Gives r (written_param k.source p t o gs) → TypesTo (as_meant as_value r) (constant k at t (Some i) fs) gs
+constant-types k at t i o p r fs gs is h g =
+    let made = subst (λ (q : Place). Gives r (written_param k.source q t o gs)) is g in
+    let short = subst (λ (c : Checked ParamValue). Gives r c) (sym (written-short k at t o gs)) made in
+    checked-fine (operand k i.value) (λ x. checked (by_functions (written_value k at t x)) (λ v. rule (short_declared k at v))) fs gs gs o (as_meant as_value r) h (by-constant k at (written_value k at t o gs) r gs short)
+
+pub constant-stops : (k : Context) (at : ℕ) (t : WrittenType) (i : Initializer) (g : Halt) (fs gs : List Function) → TypesTo {A = Operand} (Err g) (operand k i.value fs) gs → StopsBy g (constant k at t (Some i) fs) gs
+constant-stops k at t i g fs gs h = checked-stops (operand k i.value) (λ x. checked (by_functions (written_value k at t x)) (λ v. rule (short_declared k at v))) fs gs g h
 
 -- under dimensions
-abbrev value_by_type : Context → Declarator → Option (Option SvType) → Typing Declared
+abbrev value_by_type : Context → Declarator → Option WrittenType → Typing Declared
 value_by_type k d None = looked k d.initial
 value_by_type k d (Some u) = constant k d.name u d.initial
 
-module _ (k : Context) (d : Declarator) (t : Option SvType) (fs gs hs : List Function) where
-  pub under-whole : (u : Option SvType) (r : Result Declared Halt) → TypesTo (Ok u) (with_dimensions k t d.unpacked fs) gs → TypesTo r (constant k d.name u d.initial gs) hs → TypesTo (mapped (λ (v : Declared). v) r) (by_dimensions k d t fs) hs
+module _ (k : Context) (d : Declarator) (t : WrittenType) (fs gs hs : List Function) where
+  pub under-whole : (u : WrittenType) (r : Result Declared Halt) → TypesTo (Ok u) (with_dimensions k t d.unpacked fs) gs → TypesTo r (constant k d.name u d.initial gs) hs → TypesTo (mapped (λ (v : Declared). v) r) (by_dimensions k d t fs) hs
   under-whole u r p q = whole-turn (with_dimensions k t d.unpacked) (λ o. value_by_type k d o) (λ w v. v) u r fs gs hs p q
 
-  pub under-quiet : (h : Halt) → TypesTo {A = Option SvType} (Err H.Quiet) (with_dimensions k t d.unpacked fs) gs → StopsBy h (looked {A = Unit {0}} k d.initial gs) hs → StopsBy h (by_dimensions k d t fs) hs
+  pub under-quiet : (h : Halt) → TypesTo {A = WrittenType} (Err H.Quiet) (with_dimensions k t d.unpacked fs) gs → StopsBy h (looked {A = Unit {0}} k d.initial gs) hs → StopsBy h (by_dimensions k d t fs) hs
   under-quiet h p s =
       quiet-turn (with_dimensions k t d.unpacked) (λ o. value_by_type k d o) (λ w v. v) (Err h) fs gs hs p (looked-alike (Unit {0}) Declared h k d.initial gs hs s)
 
-  pub under-breaks : (at n : ℕ) → TypesTo {A = Option SvType} (Err (H.Breaks at n)) (with_dimensions k t d.unpacked fs) gs → StopsBy (H.Breaks at n) (by_dimensions k d t fs) hs
+  pub under-breaks : (at n : ℕ) → TypesTo {A = WrittenType} (Err (H.Breaks at n)) (with_dimensions k t d.unpacked fs) gs → StopsBy (H.Breaks at n) (by_dimensions k d t fs) hs
   under-breaks at n p = broken-turn (with_dimensions k t d.unpacked) (λ o. value_by_type k d o) (λ w v. v) at n fs gs hs p
 
 pub mapped-same : {A : Type 0} (r : Result A Halt) (t : Typed A) (gs : List Function) → TypesTo (mapped (λ (a : A). a) r) t gs → TypesTo r t gs
@@ -243,29 +250,26 @@ mapped-same (Ok a) t gs h = h
 mapped-same (Err g) t gs h = h
 
 -- parameters that are values
-abbrev by_written : Context → Declarator → Option (Option SvType) → Typing Declared
+abbrev by_written : Context → Declarator → Option WrittenType → Typing Declared
 by_written k d None = broken Quiet
 by_written k d (Some t) = by_dimensions k d t
 
-abbrev value_made : Option SvType → Declared → Parameter
+abbrev value_made : WrittenType → Declared → Parameter
 value_made t v = record { kind = IsValue t; declared = v }
 
-module _ (k : Context) (before : Option SvType) (of : TypeText) (d : Declarator) (fs gs hs : List Function) where
-  pub value-whole : (t : Option SvType) (r : Result Declared Halt) → TypesTo (Ok t) (written_type k before of fs) gs → TypesTo r (by_dimensions k d t gs) hs → TypesTo (mapped (value_made t) r) (value_parameter k before of d fs) hs
+module _ (k : Context) (before : WrittenType) (of : TypeText) (d : Declarator) (fs gs hs : List Function) where
+  pub value-whole : (t : WrittenType) (r : Result Declared Halt) → TypesTo (Ok t) (written_type k before of fs) gs → TypesTo r (by_dimensions k d t gs) hs → TypesTo (mapped (value_made t) r) (value_parameter k before of d fs) hs
   value-whole t r p q = whole-turn (written_type k before of) (λ o. by_written k d o) (λ u v. value_made u v) t r fs gs hs p q
 
-pub value-stops : (k : Context) (before : Option SvType) (of : TypeText) (d : Declarator) (g : Halt) (fs gs : List Function) → TypesTo {A = Option SvType} (Err g) (written_type k before of fs) gs → StopsBy g (value_parameter k before of d fs) gs
+pub value-stops : (k : Context) (before : WrittenType) (of : TypeText) (d : Declarator) (g : Halt) (fs gs : List Function) → TypesTo {A = WrittenType} (Err g) (written_type k before of fs) gs → StopsBy g (value_parameter k before of d fs) gs
 value-stops k before of d H.Memory fs gs h = tt
 value-stops k before of d (H.Breaks at n) fs gs h = broken-turn (written_type k before of) (λ o. by_written k d o) (λ u v. value_made u v) at n fs gs gs h
 value-stops k before of d H.Quiet fs gs h = quiet-turn (written_type k before of) (λ o. by_written k d o) (λ u v. value_made u v) (Err H.Quiet) fs gs gs h (quiet-here gs)
 
 -- a type with the dimensions behind a name
-under-dims : (x : Typing (List Dim)) (u : SvType) (r : Result (List Dim) Halt) (fs gs : List Function) → TypesTo r (x fs) gs → TypesTo (mapped (λ (e : List Dim). Some (unpacked e u)) r) (checked x (λ e. whole (Some (unpacked e u))) fs) gs
-under-dims x u (Ok e) fs gs h = checked-fine x (λ e. whole (Some (unpacked e u))) fs gs gs e (Ok (Some (unpacked e u))) h refl
-under-dims x u (Err g) fs gs h = checked-stops x (λ e. whole (Some (unpacked e u))) fs gs g h
-
-pub dims-types : (k : Context) (t : Option SvType) (ds : List Dimension) (r : Result (List Dim) Halt) (fs gs : List Function) → (length ds == 0) ≡ false → TypesTo r (dims k ds fs) gs
-    → TypesTo (mapped (λ (e : List Dim). Some (unpacked e (type_or_bit t))) r) (with_dimensions k t ds fs) gs
+pub dims-types : (k : Context) (t : WrittenType) (ds : List Dimension) (r : Result (List Dim) Halt) (fs gs : List Function) → (length ds == 0) ≡ false → TypesTo r (dims k ds fs) gs
+    → TypesTo (mapped (λ (e : List Dim). OfType (unpacked e (type_or_bit t))) r) (with_dimensions k t ds fs) gs
 dims-types k t [] r fs gs e h = absurd (cc)
-dims-types k None (d ∷ ds) r fs gs e h = under-dims (dims k (d ∷ ds)) (implicit_type None []) r fs gs h
-dims-types k (Some t) (d ∷ ds) r fs gs e h = under-dims (dims k (d ∷ ds)) t r fs gs h
+dims-types k t (d ∷ ds) (Ok e) fs gs n h =
+    checked-fine (dims k (d ∷ ds)) (λ x. whole (OfType (unpacked x (type_or_bit t)))) fs gs gs e (Ok (OfType (unpacked e (type_or_bit t)))) h refl
+dims-types k t (d ∷ ds) (Err g) fs gs n h = checked-stops (dims k (d ∷ ds)) (λ x. whole (OfType (unpacked x (type_or_bit t)))) fs gs g h

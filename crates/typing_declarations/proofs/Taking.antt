@@ -92,7 +92,7 @@ module _ {B : Type 0} (of : B → Context) (old new : Block B) (row : Typed Decl
   parameter-taken w v (Err H.Quiet) q was b bs parts k so_far h =
       let took = subst (λ (r : Result Part Halt). Takes of old new w r (Ok v)) parts.1 k in
       subst (λ (x : Kind). AheadBy v (declared new) (S.parameters after (kind_of x) bs) row gs) (sym parts.0)
-      (stayed v (λ j. S.parameters j (S.IsValue None) bs) took.0 took.1
+      (stayed v (λ j. S.parameters j (S.IsValue (S.OfValue None)) bs) took.0 took.1
       (row-quiet of_parameter (S.parameter before (kind_of was) b) (params_of bs) row fs gs w (declared old) (declared new) so_far h))
   parameter-taken w v (Err H.Memory) q was b bs parts k so_far h =
       let e : bool_ok v ≡ Err H.Memory = subst (λ (r : Result Part Halt). Takes of old new w r (Ok v)) parts.1 k in absurd (cc)

@@ -15,8 +15,8 @@ use Rattle.expr_type.specs.declared.operand.Valued.{Valued}
 use Rattle.expr_type.specs.Breaks.{Quiet}
 use Rattle.expr_type.specs.Expressions.{operand}
 use Rattle.expr_type.specs.Names.{Context, Source}
-use Rattle.expr_type.specs.Operands.{constant_in, is_number_in}
-use Rattle.expr_type.specs.Types.{NameValue, least_value, most_value, name_value}
+use Rattle.expr_type.specs.Operands.{constant_in}
+use Rattle.expr_type.specs.Types.{NameValue, is_name_number, least_value, most_value, name_value}
 use Rattle.expr_type.specs.Types as T
 use Rattle.expr_type.specs.Typings.{Checked, Typed, Typing, applied, broken, by_functions, checked, rule, whole, where_whole}
 use Rattle.typing_steps.specs.Steps.{TypesTo}
@@ -46,7 +46,7 @@ none-met t m met h = ap (values_of t) (met.names.short h)
 
 -- a value that is written
 abbrev number_by : Context → SvType → Valued → Typing ℤ
-number_by k t v = checked (by_functions (is_number_in k.source (least_value t) (most_value t) v)) (λ n. whole n.number)
+number_by k t v = checked (by_functions (is_name_number k.source (least_value t) (most_value t) v)) (λ n. whole n.number)
 
 abbrev put_name : Context → SvType → Met → ℕ → ℤ → Typing NameValue
 put_name k t m at n = rule (distinct k.source t at (values_of t m.names) n)
@@ -60,7 +60,7 @@ written-is : (k : Context) (t : SvType) (m : Met) (at : ℕ) (e : Expr) (v : Val
     → written_name k t m at e fs ≡ rule (written k.source t at (values_of t m.names) v gs) gs
 written-is k t m at e v fs gs p =
     ap (λ (r : Typed ℤ). applied r.result (put_name k t m at) r.functions) (checked-is (constant_in k.source (operand k e)) (number_by k t) fs gs v p)
-    ∙ by-number k t m at (is_number_in k.source (least_value t) (most_value t) v gs) gs
+    ∙ by-number k t m at (is_name_number k.source (least_value t) (most_value t) v gs) gs
 
 written-types : (k : Context) (t : SvType) (m : Met) (at : ℕ) (e : Expr) (v : Valued) (r : Result (List Bit4) Halt) (fs gs : List Function) → TypesTo (Ok v) (constant_in k.source (operand k e) fs) gs
     → Names t at r (written k.source t at (values_of t m.names) v gs) → TypesTo (as_named t at r) (written_name k t m at e fs) gs

@@ -14,9 +14,9 @@ use Rattle.expr_type.specs.declared.halt.Halt.{Halt}
 use Rattle.expr_type.specs.declared.halt.Halt.TheVariants as H
 use Rattle.expr_type.specs.Breaks.{Quiet}
 use Rattle.expr_type.specs.Names.{Context, Source, with_values, word}
-use Rattle.expr_type.specs.Operands.{constant_in, is_number_in}
+use Rattle.expr_type.specs.Operands.{constant_in}
 use Rattle.expr_type.specs.Expressions.{operand}
-use Rattle.expr_type.specs.Types.{NameValue, TypeFound, base_type, enum_found, least_value, most_value, name_value, name_values, unwritten, value_in}
+use Rattle.expr_type.specs.Types.{NameValue, TypeFound, base_type, enum_found, is_name_number, least_value, most_value, name_value, name_values, unwritten, value_in}
 use Rattle.expr_type.specs.Typings.{Typed, Typing, both_by, broken, by_functions, checked, rule, whole}
 use Rattle.enum_types.specs.Taken.{Holds}
 use Rattle.enum_values.specs.Values.{IsInBase, distinct, last_number, named_by}
@@ -65,7 +65,7 @@ last_bits m = cond m.lost None (bits_in (slice_get m.names (length m.names - 1))
 abbrev pub written_name : Context → SvType → Met → ℕ → Expr → Typing NameValue
 written_name k t m at e =
     checked
-    (checked (constant_in k.source (operand k e)) (λ v. checked (by_functions (is_number_in k.source (least_value t) (most_value t) v)) (λ n. whole n.number)))
+    (checked (constant_in k.source (operand k e)) (λ v. checked (by_functions (is_name_number k.source (least_value t) (most_value t) v)) (λ n. whole n.number)))
     (λ n. rule (distinct k.source t at (values_of t m.names) n))
 
 abbrev pub name_of : Context → SvType → Met → W.EnumName → Typing NameValue

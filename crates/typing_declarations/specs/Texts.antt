@@ -41,7 +41,7 @@ AddsTo fs (Err h) r = r ≡ Err h
 -- members of one type
 abbrev pub field_found : Context → Bool → Option TypeFound → DimensionedName → Typing Field
 field_found k inside None n = checked (dims k n.unpacked) (λ ds. broken Quiet)
-field_found k inside (Some f) n = field k inside f.of n
+field_found k inside (Some f) n = field (with_values f.names k) inside f.of n
 
 abbrev pub member_by : Context → Bool → Typing TypeFound → List DimensionedName → Typing Fields
 member_by k inside x ns = both_by x (λ o. all (map (field_found k inside o) ns)) (λ f fs. whole (record { fields = fs; names = f.names }))

@@ -15,20 +15,19 @@ ghost use Rattle.typing_scopes.specs.Scopes.{context_of};
 ghost use Rattle.typing_scopes.specs.Scopes.{means};
 ghost use Rattle.typing_calls.specs.Lists.{as_meant};
 ghost use Rattle.typing_walks.specs.WrittenTypes.{initial_written, type_written};
-ghost use Rattle.stmt_laws.specs.Sound.{KindFull, PerhapsFull};
+ghost use Rattle.stmt_laws.specs.Sound.{KindFull, WrittenFull};
 ghost use Rattle.stmt_laws.specs.Written.{bodies_written, body_written, declarator_written};
 ghost use Rattle.typing_declarations.specs.Blocks.{declared};
-ghost use Rattle.typing_declarations.specs.Kinds.{kind_of, parameter_of, parted};
+ghost use Rattle.typing_declarations.specs.Kinds.{kind_of, parameter_of, parted, written_of};
 ghost use Rattle.typing_declarations.specs.Rows.{AheadBy};
 
 use crate::block::{Block, Part};
-use crate::block_types::{is_unwritten, type_or_before};
+use crate::block_types::{WrittenType, is_unwritten, type_or_before};
 use crate::constants::{constant_under, named_type};
 use expr_type::Halt;
 use frame_things::Rows;
 use std::alloc::Global;
 use sv_tree::{Declarator, Initializer, ParameterBody, TypeText};
-use sv_types::SvType;
 use typing_parts::Known;
 use typing_scopes::{Base, Declared, Scope};
 
@@ -37,8 +36,8 @@ use typing_scopes::{Base, Declared, Scope};
 pub enum Kind {
     /// A type.
     Type,
-    /// A value of a type, or of that of what it is given.
-    Value(Option<SvType>),
+    /// A value, by what is written of its type.
+    Value(WrittenType),
 }
 
 /// A parameter: what it is, and what it brings in.
@@ -80,7 +79,7 @@ fn value_parameter<B: Base, C: Fn(u32, &mut Known) -> Result<u32, Halt>>(
     alloc: Global,
     names: &Scope<'_, B>,
     needs: &C,
-    before: Option<SvType>,
+    before: WrittenType,
     of: &TypeText,
     d: &Declarator,
     known: &mut Known,
@@ -89,14 +88,14 @@ fn value_parameter<B: Base, C: Fn(u32, &mut Known) -> Result<u32, Halt>>(
     requires names { Surrounded AllSoundFunctions (context_of B.context names.now) }
     requires type_written { type_written of.now ≡ true }
     requires written { declarator_written d.now ≡ true }
-    requires full { PerhapsFull before }
+    requires full { WrittenFull (written_of before) }
     requires ready { IsReady known.old }
-    ensures value { TypesTo (as_meant parameter_of result) (statement.value_parameter (context_of B.context names.now) before of.now d.now known.old.functions) known.new.functions }
+    ensures value { TypesTo (as_meant parameter_of result) (statement.value_parameter (context_of B.context names.now) (written_of before) of.now d.now known.old.functions) known.new.functions }
     ensures ready { IsReady known.new }
     ensures keeps { Extends known.old.functions known.new.functions }
 {
     let t = type_or_before(alloc, names, needs, before, of, known)?;
-    let value = constant_under(alloc, names, needs, t.as_ref(), d, known)?;
+    let value = constant_under(alloc, names, needs, &t, d, known)?;
     Ok(Parameter {
         kind: Kind::Value(t),
         part: Part::Value(value),
@@ -129,7 +128,15 @@ fn declared_parameter<B: Base, C: Fn(u32, &mut Known) -> Result<u32, Halt>>(
             if is_unwritten(of) {
                 type_parameter(alloc, names, needs, d.name, &d.initial, known)
             } else {
-                value_parameter(alloc, names, needs, None, of, d, known)
+                value_parameter(
+                    alloc,
+                    names,
+                    needs,
+                    WrittenType::OfValue(None),
+                    of,
+                    d,
+                    known,
+                )
             }
         }
     }
@@ -169,7 +176,7 @@ fn parted(p: Result<Parameter, Halt>) -> (Kind, Result<Part, Halt>)
 {
     match p {
         Ok(Parameter { kind, part }) => (kind, Ok(part)),
-        Err(halt) => (Kind::Value(None), Err(halt)),
+        Err(halt) => (Kind::Value(WrittenType::OfValue(None)), Err(halt)),
     }
 }
 
@@ -186,12 +193,12 @@ fn all_parameters<'s, B: Base, C: Fn(u32, &mut Known) -> Result<u32, Halt>>(
     requires names { Surrounded AllSoundFunctions (context_of B.context front.scope) }
     requires written { bodies_written bodies.now ≡ true }
     requires ready { IsReady known.old }
-    ensures value { (row : Typed Described) → AheadBy true (declared front.entry) (statement.parameters (context_of B.context front.entry.scope) (statement.IsValue None) bodies.now) row known.old.functions → TypesTo (as_meant means result) row known.new.functions }
+    ensures value { (row : Typed Described) → AheadBy true (declared front.entry) (statement.parameters (context_of B.context front.entry.scope) (statement.IsValue (statement.OfValue None)) bodies.now) row known.old.functions → TypesTo (as_meant means result) row known.new.functions }
     ensures ready { IsReady known.new }
     ensures keeps { Extends known.old.functions known.new.functions }
 {
     let mut block = front;
-    let mut before = Kind::Value(None);
+    let mut before = Kind::Value(WrittenType::OfValue(None));
     let mut whole = true;
     for body in bodies {
         let p = one_parameter(alloc, &block.scope, needs, before, body, known);
@@ -215,7 +222,7 @@ pub fn parameters<B: Base, C: Fn(u32, &mut Known) -> Result<u32, Halt>>(
     requires names { Surrounded AllSoundFunctions (context_of B.context names.now) }
     requires written { bodies_written bodies.now ≡ true }
     requires ready { IsReady known.old }
-    ensures value { TypesTo (as_meant means result) (statement.parameters (context_of B.context names.now) (statement.IsValue None) bodies.now known.old.functions) known.new.functions }
+    ensures value { TypesTo (as_meant means result) (statement.parameters (context_of B.context names.now) (statement.IsValue (statement.OfValue None)) bodies.now known.old.functions) known.new.functions }
     ensures ready { IsReady known.new }
     ensures keeps { Extends known.old.functions known.new.functions }
 {

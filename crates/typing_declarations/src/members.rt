@@ -1,6 +1,6 @@
 //! Members of structs and unions, one text after the other (IEEE 1800-2017 clauses 7.2 and 7.3).
 
-ghost use Rattle.std.specs.Prelude.{◌≡◌, ◌∷◌, [], List, false, true, OnOk, IfOk};
+ghost use Rattle.std.specs.Prelude.{◌≡◌, ◌∷◌, [], List, false, true, Ok, OnOk, IfOk};
 ghost use Rattle.sv_types.specs.declared.statement.Function.{Function};
 ghost use Rattle.expr_type.specs.Answers.{Gives, source};
 ghost use Rattle.expr_type.specs.Types as means;
@@ -61,6 +61,41 @@ pub(crate) struct Made {
     pub quiet: bool,
 }
 
+// Members of a type, in whose dimensions the names that its text declares stand for their values.
+#[tactic(auto, using(crate::proofs::FieldJoining::members))]
+fn members_behind<B: Base, C: Fn(u32, &mut Known) -> Result<u32, Halt>>(
+    alloc: Global,
+    names: &Scope<'_, B>,
+    needs: &C,
+    inside_packed: bool,
+    found: TypeFound,
+    list: &[DimensionedName],
+    known: &mut Known,
+) -> Result<FieldsFound, Halt>
+    requires needs { MakesKnown _ ((n : _) (k : _) → IsReady k.now → C.pre needs.now n k) (λ k. k.now) (C.post needs.now) (context_of B.context names.now) }
+    requires names { Surrounded AllSoundFunctions (context_of B.context names.now) }
+    requires sound { AllValuesSound found.names }
+    requires written { fields_written list.now ≡ true }
+    requires ready { IsReady known.old }
+    ensures value { (x : Typing means.TypeFound) (fs : List Function) → TypesTo (Ok found) (x fs) known.old.functions → TypesTo result (member_by (context_of B.context names.now) inside_packed x list.now fs) known.new.functions }
+    ensures sound { IfOk result (λ f. AllValuesSound f.names) }
+    ensures ready { IsReady known.new }
+    ensures keeps { Extends known.old.functions known.new.functions }
+{
+    let TypeFound {
+        of,
+        names: declared,
+    } = found;
+    let mut inner = Scope::inside(alloc, names);
+    inner.add_values(declared)?;
+    let of = Some(&of);
+    let fields = named_fields(alloc, &inner, needs, inside_packed, of, list, known)?;
+    Ok(FieldsFound {
+        fields,
+        names: inner.into_values(),
+    })
+}
+
 /// Members of one type: where that isn't whole and breaks nothing, the dimensions behind the names are looked at.
 #[tactic(auto, using(crate::proofs::FieldJoining::members))]
 pub(crate) fn member_of<B: Base, C: Fn(u32, &mut Known) -> Result<u32, Halt>>(
@@ -83,18 +118,7 @@ pub(crate) fn member_of<B: Base, C: Fn(u32, &mut Known) -> Result<u32, Halt>>(
     ensures keeps { Extends known.old.functions known.new.functions }
 {
     match found {
-        Ok(found) => {
-            let TypeFound {
-                of,
-                names: declared,
-            } = found;
-            let of = Some(&of);
-            let fields = named_fields(alloc, names, needs, inside_packed, of, list, known)?;
-            Ok(FieldsFound {
-                fields,
-                names: declared,
-            })
-        }
+        Ok(found) => members_behind(alloc, names, needs, inside_packed, found, list, known),
         Err(Halt::Memory) => Err(Halt::Memory),
         Err(Halt::Breaks { at, rule }) => Err(Halt::Breaks { at, rule }),
         Err(Halt::Quiet) => {

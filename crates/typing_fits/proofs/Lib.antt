@@ -11,6 +11,7 @@ pub mod Joins
 pub mod Given
 pub mod Numbers
 pub mod Names
+pub mod Members
 pub mod Calls
 pub mod Patterns
 pub mod Same

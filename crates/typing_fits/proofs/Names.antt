@@ -1,12 +1,12 @@
 -- What names stand for in a sound text.
-use Rattle.std.proofs.Common.{ℕ, Bool, true, false, ◌&&◌, ◌==◌, cond, List, [], ◌∷◌, ◌++◌, Option, Some, None}
+use Rattle.std.proofs.Common.{◌≡◌, ℕ, Bool, true, false, ◌&&◌, ◌==◌, cond, refl, List, [], ◌∷◌, ◌++◌, Option, Some, None}
 use Rattle.std.specs.Prelude.{⊤}
 use Rattle.sv_tree.specs.declared.names.QualifiedName.{QualifiedName}
 use Rattle.sv_types.specs.declared.frame.ParamType.{ParamType}
 use Rattle.sv_types.specs.declared.frame.ParamValue.{ParamValue}
 use Rattle.sv_types.specs.declared.frame.SignalId.{SignalId}
 use Rattle.expr_type.specs.Names.{Context, LocalId, Thing, Signal, Local, Constant, TypeName, Interface, Other, or_thing, local_in, value_in, type_in, is_whole, signal_in, thing_of, found, thing, with_values, with_types, with_locals}
-use Rattle.typing_fits.specs.Operands.{SoundThing, AllValuesSound, AllTypesFull, AllSignalsNarrow, AllLocalsNarrow, SoundContext}
+use Rattle.typing_fits.specs.Operands.{SoundThing, AllValuesSound, AllTypesFull, AllSignalsSound, SoundSignal, AllLocalsNarrow, SoundContext}
 
 abbrev ThingIf : Option Thing → Type 0
 ThingIf None = ⊤
@@ -28,9 +28,14 @@ type-found : (n : ℕ) (ts : List ParamType) → AllTypesFull ts → ThingIf (ty
 type-found n [] s = tt
 type-found n (t ∷ ts) s = chosen (t.decl == n) (TypeName t.of) (type_in n ts) s.0 (type-found n ts s.1)
 
-signal-found : (n : ℕ) (ss : List SignalId) → AllSignalsNarrow ss → ThingIf (signal_in n ss)
+signal-chosen : (a b : Bool) (x : SignalId) (o : Option Thing) → is_whole x.member ≡ b → SoundSignal x → ThingIf o → ThingIf (cond (a && b) (Some (Signal x.signal x.of)) o)
+signal-chosen true true x o w s r = record { full = s.full; narrow = s.narrow w }
+signal-chosen true false x o w s r = r
+signal-chosen false b x o w s r = r
+
+signal-found : (n : ℕ) (ss : List SignalId) → AllSignalsSound ss → ThingIf (signal_in n ss)
 signal-found n [] s = tt
-signal-found n (x ∷ ss) s = chosen ((x.decl == n) && is_whole x.member) (Signal x.signal x.of) (signal_in n ss) s.0 (signal-found n ss s.1)
+signal-found n (x ∷ ss) s = signal-chosen (x.decl == n) (is_whole x.member) x (signal_in n ss) refl s.0 (signal-found n ss s.1)
 
 or-sound : (o : Option Thing) (t : Thing) → ThingIf o → SoundThing t → SoundThing (or_thing o t)
 or-sound None t s r = r

@@ -11,7 +11,7 @@ use Rattle.sv_types.specs.declared.types.Value.{Value}
 use Rattle.sv_types.specs.Layouts.{width_of}
 use Rattle.sv_types.specs.Values.{bits}
 use Rattle.expr_type.specs.declared.operand.Valued.{Valued}
-use Rattle.expr_type.specs.Names.{Called, Context, LocalId, Thing, Signal, Local, Constant, TypeName, Interface, Other, Nothing}
+use Rattle.expr_type.specs.Names.{Called, Context, LocalId, Thing, Signal, Local, Constant, TypeName, Interface, Other, Nothing, is_whole}
 use Rattle.expr_type.specs.Operands.{Operand, Plain, Pattern, Stream}
 use Rattle.typing_fits.specs.Types.{is_full}
 use Rattle.typing_fits.specs.Sound.{IsNarrowType, SoundExpr, Sound, SoundFor}
@@ -82,17 +82,22 @@ abbrev pub AllTypesFull : List ParamType → Type 0
 AllTypesFull [] = ⊤
 AllTypesFull (t ∷ ts) = (is_full t.of ≡ true) × AllTypesFull ts
 
-abbrev pub AllSignalsNarrow : List SignalId → Type 0
-AllSignalsNarrow [] = ⊤
-AllSignalsNarrow (s ∷ ss) = IsNarrowType s.of × AllSignalsNarrow ss
+-- A signal has at most 2^22 bits. Of a member of an interface that isn't asked: one with more isn't whole where it is named.
+pub record SoundSignal (s : SignalId) : Type 0 where
+  pub full : is_full s.of ≡ true
+  pub narrow : is_whole s.member ≡ true → width_of s.of ≤ 4194304
+
+abbrev pub AllSignalsSound : List SignalId → Type 0
+AllSignalsSound [] = ⊤
+AllSignalsSound (s ∷ ss) = SoundSignal s × AllSignalsSound ss
 
 abbrev pub AllLocalsNarrow : List LocalId → Type 0
 AllLocalsNarrow [] = ⊤
 AllLocalsNarrow (l ∷ ls) = IsNarrowType l.of × AllLocalsNarrow ls
 
--- a text in which signals, constants and locals have at most 2^22 bits, and each part of a type has one
+-- a text in which signals, but for members of interfaces, constants and locals have at most 2^22 bits, and each part of a type has one
 pub record SoundContext (k : Context) : Type 0 where
   pub values : AllValuesSound k.values
   pub types : AllTypesFull k.types
-  pub signals : AllSignalsNarrow k.signals
+  pub signals : AllSignalsSound k.signals
   pub locals : AllLocalsNarrow k.locals

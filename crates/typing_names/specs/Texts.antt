@@ -11,7 +11,7 @@ use Rattle.package_scope.specs.declared.table.Table.{Table}
 use Rattle.package_scope.specs.Rules.{is_interface_holder}
 use Rattle.expr_type.specs.Functions.{routine}
 use Rattle.expr_type.specs.Names.{Context, LocalId, Thing, Interface, Other, or_thing, signal_in}
-use Rattle.frame_texts.specs.Frames.{without_routines, without_signals, declared_before, how}
+use Rattle.frame_texts.specs.Frames.{without_routines, without_signals, declared_before, hidden_rule, how, key_rule}
 use Rattle.frame_things.specs.Finding.{local_id}
 use Rattle.typing_names.specs.declared.text.FrameText.{FrameText}
 use Rattle.typing_names.specs.declared.text.Start.{Start}
@@ -22,10 +22,14 @@ abbrev pub base_of : SourceTree → Table → ℕ → Start → ℕ
 base_of tree t at S.Items = declared_before tree t at - 1
 base_of tree t at (S.Routine n) = n
 
--- functions and tasks name nothing of a module
+-- functions and tasks name nothing of a module: keys of patterns that do are no constants there
 abbrev pub signals_in : Start → List SignalId → List SignalId
 signals_in S.Items ss = ss
 signals_in (S.Routine n) ss = []
+
+abbrev pub key_rule_in : SourceTree → Table → Start → ℕ → Option ℕ
+key_rule_in tree t S.Items = key_rule tree t
+key_rule_in tree t (S.Routine n) = hidden_rule tree t
 
 abbrev pub interfaces_in : Start → (ℕ → Bool) → ℕ → Bool
 interfaces_in S.Items p = p
@@ -45,9 +49,10 @@ text_context tree t f at depth start values types locals result =
       signals = signals_in start k.signals;
       locals = locals;
       is_interface = interfaces_in start k.is_interface;
+      key_rule = key_rule_in tree t start;
       result = result;
       base = base_of tree t at start;
-      routine = routine depth (without_signals k);
+      routine = routine depth (without_signals tree t k);
     }
 
 -- What a text of a frame is typed in: what was met in it stands before the frame's lists. Its functions are those of the frame's

@@ -105,8 +105,11 @@ impl<'a, 't> Names for FrameText<'a, 't> {
         self.source.formal_count(routine)
     }
 
-    fn stands(&self, declaration: u32) -> bool {
-        self.source.stands(declaration)
+    fn key_rule(&self, declaration: u32) -> Option<u16> {
+        match self.start {
+            Start::Items => self.source.key_rule(declaration),
+            Start::Routine(_) => self.source.hidden_rule(declaration),
+        }
     }
 }
 

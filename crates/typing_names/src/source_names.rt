@@ -101,6 +101,16 @@ fn is_interface(declaration: Option<&Declaration>) -> bool
     }
 }
 
+// Whether what is declared so is a signal or a port.
+fn is_signal_kind(what: DeclKind) -> bool
+    ensures { result ≡ rules.is_signal_kind what }
+{
+    match what {
+        DeclKind::Signal => true,
+        _ => false,
+    }
+}
+
 impl<'t> SourceNames<'t> {
     /// The names of a source text with the table of its names. It takes time by its tokens and the depth of its scopes.
     pub fn new(
@@ -237,13 +247,48 @@ impl<'t> SourceNames<'t> {
     }
 
     /// Whether a declaration stands for something unless it is broken.
-    pub fn stands(&self, declaration: u32) -> bool
+    fn stands(&self, declaration: u32) -> bool
         ensures { result ≡ means.is_kind self.now.tree.now self.now.names.now (means.names_thing self.now.tree.now self.now.names.now) declaration }
     {
         match self.names.declaration(declaration) {
             None => false,
             Some(declaration) => self.names_thing(declaration.what),
         }
+    }
+
+    /// The rule that a name which finds a declaration breaks as a pattern's key where it stands for nothing, or none where the
+    /// declaration is broken.
+    pub fn key_rule(&self, declaration: u32) -> Option<u16>
+        ensures { result ≡ means.key_rule self.now.tree.now self.now.names.now declaration }
+    {
+        if self.stands(declaration) {
+            None
+        } else {
+            Some(404)
+        }
+    }
+
+    /// Whether a declaration is a signal or a port.
+    fn is_signal(&self, declaration: u32) -> bool
+        ensures { result ≡ means.is_kind self.now.tree.now self.now.names.now rules.is_signal_kind declaration }
+    {
+        match self.names.declaration(declaration) {
+            None => false,
+            Some(declaration) => is_signal_kind(declaration.what),
+        }
+    }
+
+    /// The same in a function or a task, where signals and interfaces aren't seen: a signal breaks E406, an interface's port E404.
+    pub fn hidden_rule(&self, declaration: u32) -> Option<u16>
+        ensures { result ≡ means.hidden_rule self.now.tree.now self.now.names.now declaration }
+    {
+        if self.is_interface(declaration) {
+            return Some(404);
+        }
+        if self.is_signal(declaration) {
+            return Some(406);
+        }
+        self.key_rule(declaration)
     }
 
     /// The function or task with a declaration, if it is one.

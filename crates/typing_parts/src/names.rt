@@ -53,8 +53,8 @@ pub trait Names {
     fn formal_count(&self, routine: u32) -> Option<usize>
         ensures { Counts result ((context self.now).text routine) };
 
-    /// Whether a declaration stands for something unless it is broken: a signal, a constant, the name of an enum, a formal, a local
-    /// or a type.
-    fn stands(&self, declaration: u32) -> bool
-        ensures { result ≡ (context self.now).stands declaration };
+    /// The rule that a name which finds a declaration breaks as a pattern's key where it stands for nothing (E404 or E406), or none
+    /// where the declaration is broken (IEEE 1800-2017 clause 10.9).
+    fn key_rule(&self, declaration: u32) -> Option<u16>
+        ensures { result ≡ (context self.now).key_rule declaration };
 }

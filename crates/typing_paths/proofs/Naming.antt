@@ -1,12 +1,12 @@
 -- Names with the selects behind them, by what they stand for.
-use Rattle.std.proofs.Common.{◌≡◌, ◌≤◌, ◌∙◌, ◌-◌, ℕ, List, [], ◌∷◌, Bool, true, false, cond, Option, Some, None, arith, drop, get_or, length, map, rules, sym, ap, subst, take}
+use Rattle.std.proofs.Common.{◌≡◌, refl, ◌≤◌, ◌∙◌, ◌-◌, ℕ, List, [], ◌∷◌, arith, drop, get_or, length, map, rules, sym, ap, subst, take}
 use Rattle.std.proofs.lemmas.List.{take_rest}
-use Rattle.std.specs.Prelude.{◌&&◌, ◌==◌, IfOk, Result, Ok, Err}
-use Rattle.std.specs.Str.{bytes_eq}
+use Rattle.std.specs.Prelude.{IfOk, Result, Ok, Err}
 use Rattle.sv_tree.specs.Extents.{qualified_first}
 use Rattle.sv_tree.specs.declared.expressions.Select.{Select, Select-F, the_lemmas}
 use Rattle.sv_tree.specs.declared.expressions.Select.TheVariants as V
 use Rattle.sv_tree.specs.declared.names.QualifiedName.{QualifiedName}
+use Rattle.sv_types.specs.declared.expression.Form.TheVariants as T
 use Rattle.sv_types.specs.declared.frame.SignalId.{SignalId}
 use Rattle.sv_types.specs.declared.statement.Function.{Function}
 use Rattle.sv_types.specs.declared.types.SvType.{SvType}
@@ -14,39 +14,32 @@ use Rattle.sv_types.specs.declared.types.Value.{Value}
 use Rattle.sv_types.specs.Layouts.{width_of}
 use Rattle.operand_types.specs.Allowed.{IsNarrow}
 use Rattle.expr_type.specs.declared.halt.Halt.{Halt}
+use Rattle.expr_type.specs.declared.halt.Halt.TheVariants as H
 use Rattle.expr_type.specs.declared.operand.Valued.{Valued}
 use Rattle.expr_type.specs.Expressions as E
 use Rattle.expr_type.specs.Expressions.{select_meaning}
 use Rattle.expr_type.specs.Forms as F
 use Rattle.expr_type.specs.Forms.{SelectMeaning}
-use Rattle.expr_type.specs.Names.{Context, Thing, Signal, Local, Constant, member_in, thing}
-use Rattle.expr_type.specs.Typings.{rule}
-use Rattle.typing_fits.specs.Operands.{AllSignalsNarrow}
-use Rattle.typing_fits.specs.Sound.{IsNarrowType}
+use Rattle.expr_type.specs.Names.{Context, Thing, Signal, Local, Constant, thing, Source}
+use Rattle.expr_type.specs.Typings.{rule, Checked}
+use Rattle.typing_fits.proofs.Members.{narrow-is-whole, wide-is-quiet}
+use Rattle.expr_type.specs.Answers.{Gives}
+use Rattle.expr_type.specs.Operators.{by_itself}
 use Rattle.typing_steps.specs.Steps.{TypesTo}
 use Rattle.typing_paths.specs.TypingValues.{leaf_of}
 use Rattle.typing_paths.specs.TypingValuesParts as part
 use Rattle.typing_paths.specs.Paths.{member_of, member_path_of, path_of, value_path_of}
 
--- members of interfaces are narrow
-abbrev SignalIf : Option SignalId → Type 0
-SignalIf None = Unit {0}
-SignalIf (Some s) = IsNarrowType s.of
-
-signal-by : (b : Bool) (x : SignalId) (o : Option SignalId) → IsNarrowType x.of → SignalIf o → SignalIf (cond b (Some x) o)
-signal-by true x o s r = s
-signal-by false x o s r = r
-
-member-found : (n : ℕ) (name : List ℕ) (ss : List SignalId) → AllSignalsNarrow ss → SignalIf (member_in n name ss)
-member-found n name [] s = tt
-member-found n name (x ∷ ss) s = signal-by ((x.decl == n) && bytes_eq x.member name) x (member_in n name ss) s.0 (member-found n name ss s.1)
-
-pub member-narrow : (n : ℕ) (name : List ℕ) (ss : List SignalId) (s : SignalId) → AllSignalsNarrow ss → member_in n name ss ≡ Some s → width_of s.of ≤ 4194304
-member-narrow n name ss s h e = let k : IsNarrowType s.of = subst SignalIf e (member-found n name ss h) in k.narrow
-
 pub narrow-of : (r : Result Valued Halt) (t : SvType) → width_of t ≤ 4194304 → IfOk r (λ v. v.expr.of ≡ t) → IfOk r IsNarrow
 narrow-of (Ok v) t h e = subst (λ (u : SvType). width_of u ≤ 4194304) (sym e) h
 narrow-of (Err x) t h e = e
+
+-- a member of an interface
+pub member-whole : (k : Source) (first : ℕ) (s : SignalId) (r : Result Valued Halt) → width_of s.of ≤ 4194304 → Gives r (Ok (by_itself k first s.of (T.Signal s.signal))) → Gives r (F.member_signal k first s)
+member-whole k first s r h g = subst (λ (c : Checked Valued). Gives r c) (sym (narrow-is-whole s.of (Ok (by_itself k first s.of (T.Signal s.signal))) h)) g
+
+pub member-wide : (k : Source) (first : ℕ) (s : SignalId) → (width_of s.of ≤ 4194304 → ⊥) → Gives {A = Valued} (Err H.Quiet) (F.member_signal k first s)
+member-wide k first s h = subst (λ (c : Checked Valued). Gives {A = Valued} (Err H.Quiet) c) (sym (wide-is-quiet s.of (Ok (by_itself k first s.of (T.Signal s.signal))) h)) refl
 
 -- the first select names a member of an interface
 front : (ss : List Select) (s : Select) → 1 ≤ length ss → s ≡ get_or ss 0 s → ss ≡ s ∷ drop 1 ss
@@ -85,3 +78,5 @@ by-constant k of ss t v r fs gs e h =
     let P : Thing → Type 0 = λ x. TypesTo r (path_of k (rule (leaf_of k.source (qualified_first of) x)) ss fs) gs
     → TypesTo r (F.by_thing k (qualified_first of) (map select_meaning ss) x fs) gs in
     subst P (sym e) (λ p. p) h
+
+pub ruleset members = (member-whole, member-wide, narrow-of)

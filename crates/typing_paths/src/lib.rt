@@ -6,6 +6,7 @@
 mod asked_types;
 mod calls;
 mod dimension_types;
+mod members;
 mod names;
 mod nets;
 mod paths;

@@ -11,13 +11,13 @@ ghost use Rattle.typing_paths.specs.TypingValues.{in_selects};
 ghost use Rattle.typing_paths.specs.TypingValuesParts as part;
 ghost use Rattle.typing_paths.specs.Paths.{member_of, member_path_of, value_path_of};
 
+use crate::members::member_signal;
+use crate::named;
 use crate::paths::path;
-use crate::{leaf, named};
 use expr_type::{Halt, Valued};
 use pattern_types::Operand;
 use std::alloc::Global;
 use sv_tree::{Expr, QualifiedName, Select};
-use sv_types::Form;
 use typing_parts::{Known, Names, Thing};
 
 // The member of an interface's instance or port whose name stands at a token (E405).
@@ -28,12 +28,11 @@ fn member<S: Names>(
     interface: u32,
     at: u32,
 ) -> Result<Valued, Halt>
-    requires names { SoundContext (S.context names.now) }
     ensures value { Gives result (member_of (S.context names.now) first interface at) }
     ensures narrow { IfOk result IsNarrow }
 {
     match names.member(interface, at) {
-        Some(found) => leaf(alloc, names, first, &found.of, Form::Signal(found.signal)),
+        Some(found) => member_signal(alloc, names, first, found),
         None => Err(Halt::Breaks { at, rule: 405 }),
     }
 }

@@ -12,6 +12,7 @@ ghost use Rattle.typing_parts.specs.Typists.{AllCanType, IsReady};
 ghost use Rattle.typing_paths.specs.TypingValues.{in_selects};
 ghost use Rattle.typing_paths.specs.Names.{local_path_of, member_path_of, member_target_of, named_target_of, signal_path_of, signal_target_of};
 
+use crate::members::member_signal;
 use crate::nets::Nets;
 use crate::{leaf, path};
 use expr_type::{Halt, Valued};
@@ -64,7 +65,6 @@ fn member_target<S: Nets>(
     interface: u32,
     at: u32,
 ) -> Result<Valued, Halt>
-    requires names { SoundContext (S.context names.now) }
     ensures value { Gives result (member_target_of (S.context names.now) in_statement first interface at) }
     ensures narrow { IfOk result IsNarrow }
 {
@@ -77,7 +77,7 @@ fn member_target<S: Nets>(
             if found.input {
                 return Err(Halt::Breaks { at, rule: 410 });
             }
-            leaf(alloc, names, first, &found.of, Form::Signal(found.signal))
+            member_signal(alloc, names, first, found)
         }
     }
 }

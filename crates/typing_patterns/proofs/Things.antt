@@ -1,5 +1,5 @@
 -- Names as keys.
-use Rattle.std.proofs.Common.{◌≡◌, ℕ, Bool, true, false, cond, ℤ, List, Option, refl, sym, ap, ◌∙◌, subst}
+use Rattle.std.proofs.Common.{◌≡◌, ℕ, ℤ, List, Option, Some, None, refl, sym, ap, ◌∙◌, subst}
 use Rattle.std.specs.Prelude.{Result, Ok, Err}
 use Rattle.sv_tree.specs.Extents.{qualified_first}
 use Rattle.sv_tree.specs.declared.names.QualifiedName.{QualifiedName}
@@ -15,9 +15,7 @@ use Rattle.expr_type.specs.Breaks.{At, Quiet}
 use Rattle.expr_type.specs.Expressions.{is_key}
 use Rattle.expr_type.specs.Names.{Context, Thing, Signal, Local, Constant, TypeName, Interface, Other, Nothing, position, thing}
 use Rattle.expr_type.specs.Operators.{by_itself}
-use Rattle.expr_type.specs.Patterns.{named_key}
-use Rattle.expr_type.specs.Typings.{Checked}
-use Rattle.pattern_fit.specs.declared.pattern.Key.{Key}
+use Rattle.expr_type.specs.Patterns.{named_key, other_key}
 use Rattle.pattern_types.specs.declared.operand.NameKey.{NameKey}
 use Rattle.pattern_types.specs.declared.operand.NameKey.TheVariants as N
 use Rattle.pattern_types.specs.Meaning.{key_of_name}
@@ -47,13 +45,11 @@ type-stands k of at t is e = by-thing k of (TypeName t) (N.Breaks at 404) is (at
 pub interface-stands : (k : Context) (of : QualifiedName) (n at : ℕ) → thing k of ≡ Interface n → at ≡ qualified_first of → NameStandsFor k of (Ok (N.Breaks at 404))
 interface-stands k of n at is e = by-thing k of (Interface n) (N.Breaks at 404) is (at-first k of at 404 e)
 
-pub broken-stands : (k : Context) (of : QualifiedName) (n : ℕ) → thing k of ≡ Other n → k.stands n ≡ true → NameStandsFor k of (Ok N.Quiet)
-broken-stands k of n is s = by-thing k of (Other n) N.Quiet is (sym (ap (λ (b : Bool). cond {A = Checked (Option Key)} b (Err Quiet) (Err (At (position k.source (qualified_first of)) 404))) s))
+pub broken-stands : (k : Context) (of : QualifiedName) (n : ℕ) → thing k of ≡ Other n → k.key_rule n ≡ None → NameStandsFor k of (Ok N.Quiet)
+broken-stands k of n is s = by-thing k of (Other n) N.Quiet is (sym (ap (other_key k.source (qualified_first of)) s))
 
-pub other-stands : (k : Context) (of : QualifiedName) (n at : ℕ) → thing k of ≡ Other n → k.stands n ≡ false → at ≡ qualified_first of → NameStandsFor k of (Ok (N.Breaks at 404))
-other-stands k of n at is s e =
-    by-thing k of (Other n) (N.Breaks at 404) is
-    (at-first k of at 404 e ∙ sym (ap (λ (b : Bool). cond {A = Checked (Option Key)} b (Err Quiet) (Err (At (position k.source (qualified_first of)) 404))) s))
+pub other-stands : (k : Context) (of : QualifiedName) (n at rule : ℕ) → thing k of ≡ Other n → k.key_rule n ≡ Some rule → at ≡ qualified_first of → NameStandsFor k of (Ok (N.Breaks at rule))
+other-stands k of n at rule is s e = by-thing k of (Other n) (N.Breaks at rule) is (at-first k of at rule e ∙ sym (ap (other_key k.source (qualified_first of)) s))
 
 pub nothing-stands : (k : Context) (of : QualifiedName) → thing k of ≡ Nothing → NameStandsFor k of (Ok N.Nothing)
 nothing-stands k of is = by-thing k of Nothing N.Nothing is refl

@@ -109,13 +109,10 @@ pub fn name_key<S: Names>(
         Thing::Local(_, _) => Ok(NameKey::Breaks { at, rule: 406 }),
         Thing::TypeName(_) => Ok(NameKey::Breaks { at, rule: 404 }),
         Thing::Interface(_) => Ok(NameKey::Breaks { at, rule: 404 }),
-        Thing::Other(n) => {
-            if names.stands(n) {
-                Ok(NameKey::Quiet)
-            } else {
-                Ok(NameKey::Breaks { at, rule: 404 })
-            }
-        }
+        Thing::Other(n) => match names.key_rule(n) {
+            None => Ok(NameKey::Quiet),
+            Some(rule) => Ok(NameKey::Breaks { at, rule }),
+        },
         Thing::Nothing => Ok(NameKey::Nothing),
     }
 }

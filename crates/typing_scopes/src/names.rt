@@ -80,7 +80,7 @@ impl<'s, B: Base> Names for Scope<'s, B> {
         self.base.formal_count(routine)
     }
 
-    fn stands(&self, declaration: u32) -> bool {
-        self.base.stands(declaration)
+    fn key_rule(&self, declaration: u32) -> Option<u16> {
+        self.base.key_rule(declaration)
     }
 }

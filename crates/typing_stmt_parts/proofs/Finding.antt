@@ -1,8 +1,7 @@
 -- Items of `case` statements as they are found.
-use Rattle.std.proofs.Common.{◌≡◌, ◌≤◌, ℕ, true, false, List, [], length, min, take, Option, refl, arith, sym, ap, ◌∙◌, subst}
+use Rattle.std.proofs.Common.{◌≡◌, ℕ, true, false, List, [], length, Option, refl, sym, ap, ◌∙◌, subst}
 use Rattle.std.specs.Prelude.{Result, Ok, Err, Vec}
 use Rattle.std.specs.declared.alloc.Global.{Global}
-use Rattle.std.proofs.lemmas.List.{length-take}
 use Rattle.sv_tree.specs.declared.expressions.Expr.{Expr}
 use Rattle.sv_tree.specs.declared.statements.CaseItem.{CaseItem, CaseItem-F, roll-CaseItem}
 use Rattle.sv_tree.specs.declared.statements.Stmt as X
@@ -15,7 +14,7 @@ use Rattle.expr_type.specs.Names.{Context}
 use Rattle.expr_type.specs.Statements as D
 use Rattle.expr_type.specs.Typings.{Checked, Typed, Typing, known_behind, tried}
 use Rattle.known_functions.proofs.Laws.{cut-back}
-use Rattle.routine_fits.specs.Sound.{AllSoundFunctions}
+use Rattle.function_cuts.proofs.Before.{before-is}
 use Rattle.stmt_types.specs.Cases.{Found, Stops}
 use Rattle.stmt_types.specs.Lists.{listed}
 use Rattle.stmt_types.specs.declared.cases.CaseFound.{CaseFound}
@@ -174,17 +173,6 @@ module _ (k : Context) (x : CaseItem) (keyword : ℕ) (colon : Option ℕ) (body
   default-found (Err h) made hs js m e kept i = i
 
 -- the functions that were known before a statement stay known
-before-is : (gs hs : List Function) (n : ℕ) → n ≡ length gs → Extends gs hs → take n hs ≡ gs
-before-is gs hs n is e = ap (λ (m : ℕ). take m hs) is ∙ cut-back gs hs e
-
 pub kept-extends : {A : Type 0} (r : Result A Halt) (gs hs js : List Function) (n : ℕ) → n ≡ length gs → Extends gs hs → Kept r hs js n → Extends gs js
 kept-extends (Ok a) gs hs js n is e k = subst (λ (ls : List Function). Extends gs ls) (sym k) e
 kept-extends (Err h) gs hs js n is e k = subst (λ (ls : List Function). Extends gs ls) (sym (k ∙ before-is gs hs n is e)) (extends-same gs)
-
-pub within-longer : (gs hs : List Function) (n : ℕ) → n ≡ length gs → Extends gs hs → n ≤ length hs
-within-longer gs hs n is e =
-    let long : min n (length hs) ≡ n = sym (length-take n hs) ∙ ap length (before-is gs hs n is e) ∙ sym is in
-    omega arith
-
-pub sound-before : (gs hs : List Function) (n : ℕ) → n ≡ length gs → Extends gs hs → AllSoundFunctions gs → AllSoundFunctions (take n hs)
-sound-before gs hs n is e s = subst (λ (ls : List Function). AllSoundFunctions ls) (sym (before-is gs hs n is e)) s

@@ -333,9 +333,9 @@ module _ (p : ParameterDeclaration) (x : BlockItem) (is : x ≡ B.Parameters p) 
   pub parameters-written : item_written x ≡ true → bodies_written bs ≡ true
   parameters-written w = subst (λ (ys : List ParameterBody). bodies_written ys ≡ true) (sym same) (item-written (BlockItem-F.Parameters p) x parameters-are w)
 
-  pub parameters-meant : (k : Context) (fs gs : List Function) (r : Result BlockPart Halt) → TypesTo r (declared_part (D.parameters k (D.IsValue None) bs) fs) gs → TypesTo r (item_meaning x k fs) gs
+  pub parameters-meant : (k : Context) (fs gs : List Function) (r : Result BlockPart Halt) → TypesTo r (declared_part (D.parameters k (D.IsValue (D.OfValue None)) bs) fs) gs → TypesTo r (item_meaning x k fs) gs
   parameters-meant k fs gs r h =
-      item-meant (BlockItem-F.Parameters p) k x fs gs r parameters-are (subst (λ (ys : List ParameterBody). TypesTo r (declared_part (D.parameters k (D.IsValue None) ys) fs) gs) same h)
+      item-meant (BlockItem-F.Parameters p) k x fs gs r parameters-are (subst (λ (ys : List ParameterBody). TypesTo r (declared_part (D.parameters k (D.IsValue (D.OfValue None)) ys) fs) gs) same h)
 
 module _ (automatic «var» : Option ℕ) (of : TypeText) (declarators : List Declarator) (semicolon : ℕ) (x : BlockItem) (is : x ≡ B.Variables automatic «var» of declarators semicolon) (ds : List Declarator) (same : ds ≡ declarators) where
   abbrev variables_form : ItemLevel

@@ -1,6 +1,6 @@
 -- Casts, system functions, calls and the types that names and words stand for.
 use Rattle.std.proofs.Common.{◌≡◌, ℕ, ◌<◌, Bool, true, false, ◌||◌, ◌==◌, cond, List, [], ◌∷◌, length, Option, Some, None, refl, arith, ◌∙◌, subst}
-use Rattle.std.specs.Prelude.{pos, ◌^◌, nat_le, unsigned_abs, codes, Ok}
+use Rattle.std.specs.Prelude.{pos, ◌^◌, nat_le, unsigned_abs, codes, Ok, Err}
 use Rattle.std.proofs.lemmas.Bool.Decides.{nat_tests}
 use Rattle.sv_tree.specs.declared.names.QualifiedName.{QualifiedName}
 use Rattle.sv_tree.specs.declared.types.KeywordType.{KeywordType}
@@ -10,18 +10,18 @@ use Rattle.sv_types.specs.declared.statement.Function.{Function}
 use Rattle.sv_types.specs.declared.types.SvType.{SvType}
 use Rattle.sv_types.specs.declared.types.SvType.TheVariants as V
 use Rattle.sv_types.specs.Layouts.{width_of}
-use Rattle.expr_type.specs.Breaks.{At, Quiet}
+use Rattle.expr_type.specs.Breaks.{Position, At, Quiet}
 use Rattle.expr_type.specs.declared.operand.Valued.{Valued}
 use Rattle.expr_type.specs.Literals as D
 use Rattle.expr_type.specs.Typings.{Checked, Typing, whole, broken, rule, checked, all}
-use Rattle.expr_type.specs.Names.{Context, Source, Thing, Signal, Local, Constant, TypeName, Interface, Other, Nothing, position, word, thing}
+use Rattle.expr_type.specs.Names.{Called, Context, Source, Thing, Signal, Local, Constant, TypeName, Interface, Other, Nothing, position, word, thing}
 use Rattle.expr_type.specs.Shapes.{integer, is_unpacked}
 use Rattle.expr_type.specs.Operands.{Operand, value, bits_in, number_within, width}
 use Rattle.expr_type.specs.Operators.{by_itself}
 use Rattle.expr_type.specs.KeywordTypes as W
 use Rattle.expr_type.specs.KeywordTypes.{Dim, Word, word_of, signed_by, packed, named_type, keyword_type}
 use Rattle.expr_type.specs.Forms as R
-use Rattle.expr_type.specs.Forms.{Inside, bits_inside, not_pattern, by_size, by_written_size, written_size, by_sign, by_type, type_cast, size_cast, system_call, call, call_of, needed, needed_with, type_of_thing, under, dimensioned}
+use Rattle.expr_type.specs.Forms.{Inside, bits_inside, not_pattern, by_size, by_written_size, written_size, by_sign, by_type, type_cast, size_cast, system_call, call, call_of, counted_call, finds_count, miscounted, needed, with_other_count, type_of_thing, under, dimensioned}
 use Rattle.typing_fits.specs.Types.{is_full}
 use Rattle.typing_fits.specs.Sound.{Sound}
 use Rattle.typing_fits.specs.Operands.{SoundOperand, KnownCall, SoundThing, SoundContext}
@@ -159,20 +159,31 @@ module _ (Q : List Function → Type 0) where
       (K.checked-keeps Q Sound Sound (bits_in k x) f (O.bits-keeps Q k x h) (λ v js q s. other-by k name (R.is_word k name (codes "$clog2")) v js q s))
 
   -- calls
-  needed-keeps : (k : Context) (at : ℕ) (n : Option ℕ) → Surrounded Q k → Keeps Q KnownCall (needed k at n)
+  pub needed-keeps : (k : Context) (at : ℕ) (n : Option ℕ) → Surrounded Q k → Keeps Q KnownCall (needed k at n)
   needed-keeps k at None r = K.broken-keeps Q KnownCall Quiet
   needed-keeps k at (Some n) r = K.from-keeps Q KnownCall (position k.source at) (k.routine n) (r.routines n)
 
-  with-by : (k : Context) (at n : ℕ) (b : Bool) → Surrounded Q k → Keeps Q KnownCall (cond b (needed k at (Some n)) (broken (At (position k.source at) 405)))
-  with-by k at n true r = needed-keeps k at (Some n) r
-  with-by k at n false r = K.broken-keeps Q KnownCall (At (position k.source at) 405)
+  -- one with another number of actuals is never whole
+  never-whole : {A B : Type 0} (p : Position) (x : Checked Called) (y : Checked A) (b : B) → miscounted p x y ≡ Ok b → ⊥
+  never-whole p x (Ok a) b h = cc
+  never-whole p (Ok c) (Err e) b h = cc
+  never-whole p (Err d) (Err e) b h = cc
 
-  pub with-keeps : (k : Context) (at : ℕ) (n : Option ℕ) (count : ℕ) → Surrounded Q k → Keeps Q KnownCall (needed_with k at n count)
-  with-keeps k at None count r = K.broken-keeps Q KnownCall Quiet
-  with-keeps k at (Some n) count r = with-by k at n (R.has_count (k.text n) count) r
+  pub other-keeps : {A B : Type 0} (P : B → List Function → Type 0) (p : Position) (x : Typing Called) (y : Typing A) → Keeps Q KnownCall x → Keeps Q P (with_other_count p x y)
+  other-keeps P p x y h gs q =
+      let k = h gs q in
+      record { extends = k.extends; kept = k.kept; sound = λ b e. absurd (never-whole p (x gs).result (y gs).result b e) }
+
+  counted-keeps : (k : Context) (of : QualifiedName) (xs : List (Typing Operand)) → Surrounded Q k → AllKeep Q SoundOperand xs → Keeps Q Sound (counted_call k of xs)
+  counted-keeps k of xs r h =
+      K.both-keeps Q KnownCall (λ os gs. AllHold SoundOperand os gs) Sound (needed k of.name (k.finds of)) (all xs) (λ c os. rule (call_of k.source (qualified_first of) of.name c os)) call-lasts
+      (needed-keeps k of.name (k.finds of) r) (K.all-keeps Q SoundOperand xs operand-lasts h)
+      (λ c os js q s y. K.rule-kept Q Sound (call_of k.source (qualified_first of) of.name c os) js q (λ v e. call-sound k.source (qualified_first of) of.name c os v js e s (all-operands os js y)))
+
+  call-by : (k : Context) (of : QualifiedName) (xs : List (Typing Operand)) (b : Bool) → Surrounded Q k → AllKeep Q SoundOperand xs
+      → Keeps Q Sound (cond b (counted_call k of xs) (with_other_count (position k.source of.name) (needed k of.name (k.finds of)) (all xs)))
+  call-by k of xs true r h = counted-keeps k of xs r h
+  call-by k of xs false r h = other-keeps Sound (position k.source of.name) (needed k of.name (k.finds of)) (all xs) (needed-keeps k of.name (k.finds of) r)
 
   pub call-keeps : (k : Context) (of : QualifiedName) (xs : List (Typing Operand)) → Surrounded Q k → AllKeep Q SoundOperand xs → Keeps Q Sound (call k of xs)
-  call-keeps k of xs r h =
-      K.both-keeps Q KnownCall (λ os gs. AllHold SoundOperand os gs) Sound (needed_with k of.name (k.finds of) (length xs)) (all xs) (λ c os. rule (call_of k.source (qualified_first of) of.name c os)) call-lasts
-      (with-keeps k of.name (k.finds of) (length xs) r) (K.all-keeps Q SoundOperand xs operand-lasts h)
-      (λ c os js q s y. K.rule-kept Q Sound (call_of k.source (qualified_first of) of.name c os) js q (λ v e. call-sound k.source (qualified_first of) of.name c os v js e s (all-operands os js y)))
+  call-keeps k of xs r h = call-by k of xs (finds_count k (k.finds of) (length xs)) r h

@@ -19,11 +19,13 @@ use Rattle.expr_type.specs.Shapes.{element_of, members_of, is_indexed, is_unpack
 use Rattle.expr_type.specs.Operators.{by_itself, not_too_long}
 use Rattle.expr_type.specs.Selects as S
 use Rattle.expr_type.specs.Selects.{Place, part_type, goes_wrong, stepped, path}
-use Rattle.expr_type.specs.Forms.{SelectMeaning, steps, signal_or, of_interface, by_thing, named}
+use Rattle.expr_type.specs.Forms.{SelectMeaning, member_signal, steps, signal_or, of_interface, by_thing, named}
 use Rattle.expr_type.specs.TargetNames as N
 use Rattle.typing_fits.specs.Sound.{IsNarrowType}
-use Rattle.typing_fits.specs.Operands.{SoundFixed, AllSignalsNarrow, SoundThing}
+use Rattle.typing_fits.specs.Operands.{SoundFixed, AllSignalsSound, SoundThing}
 use Rattle.typing_fits.specs.Selects.{SoundStep}
+use Rattle.typing_fits.specs.Types.{is_full}
+use Rattle.typing_fits.proofs.Members.{narrow-if-whole, whole-if-narrow}
 use Rattle.typing_fits.proofs.Contexts.{refused-then}
 use Rattle.typing_fits.proofs.Operators.{ok-is}
 use Rattle.typing_fits.proofs.Selects.{signal-sound, local-sound, stepped-sound, long-then}
@@ -70,18 +72,18 @@ stepped-none k v u (T.Slide opening up i n) h =
 pub stepped-fixed : (k : Source) (v u : Valued) (t : Step) (gs : List Function) → stepped k v t ≡ Ok u → SoundFixed v gs → SoundStep t gs → SoundFixed u gs
 stepped-fixed k v u t gs h s x = record { none = stepped-none k v u t h; sound = stepped-sound k v u t gs h s.sound x }
 
--- members of interfaces are narrow
+-- members of interfaces, where they are whole
 abbrev SignalIf : Option SignalId → Type 0
 SignalIf None = Unit {0}
-SignalIf (Some s) = IsNarrowType s.of
+SignalIf (Some s) = is_full s.of ≡ true
 
-signal-by : (b : Bool) (x : SignalId) (o : Option SignalId) → IsNarrowType x.of → SignalIf o → SignalIf (cond b (Some x) o)
+signal-by : (b : Bool) (x : SignalId) (o : Option SignalId) → is_full x.of ≡ true → SignalIf o → SignalIf (cond b (Some x) o)
 signal-by true x o s r = s
 signal-by false x o s r = r
 
-member-found : (n : ℕ) (name : List ℕ) (ss : List SignalId) → AllSignalsNarrow ss → SignalIf (member_in n name ss)
+member-found : (n : ℕ) (name : List ℕ) (ss : List SignalId) → AllSignalsSound ss → SignalIf (member_in n name ss)
 member-found n name [] s = tt
-member-found n name (x ∷ ss) s = signal-by ((x.decl == n) && bytes_eq x.member name) x (member_in n name ss) s.0 (member-found n name ss s.1)
+member-found n name (x ∷ ss) s = signal-by ((x.decl == n) && bytes_eq x.member name) x (member_in n name ss) s.0.full (member-found n name ss s.1)
 
 fixed-signal : (k : Source) (first : ℕ) (t : SvType) (n : ℕ) (gs : List Function) → IsNarrowType t → SoundFixed (by_itself k first t (F.Signal n)) gs
 fixed-signal k first t n gs h = record { none = refl; sound = signal-sound k first t n gs h }
@@ -89,16 +91,21 @@ fixed-signal k first t n gs h = record { none = refl; sound = signal-sound k fir
 as-fixed : (a v : Valued) (gs : List Function) → valued_ok a ≡ Ok v → SoundFixed a gs → SoundFixed v gs
 as-fixed a v gs h s = subst (λ x. SoundFixed x gs) (ok-is a v h) s
 
+member-signal : (k : Source) (first : ℕ) (x : SignalId) (v : Valued) (gs : List Function) → member_signal k first x ≡ Ok v → is_full x.of ≡ true → SoundFixed v gs
+member-signal k first x v gs h full =
+    let a = by_itself k first x.of (F.Signal x.signal) in
+    as-fixed a v gs (whole-if-narrow x.of (valued_ok a) v h) (fixed-signal k first x.of x.signal gs (record { full = full; narrow = narrow-if-whole x.of (valued_ok a) v h }))
+
 signal-or : (k : Source) (first at : ℕ) (o : Option SignalId) (v : Valued) (gs : List Function) → signal_or k first at o ≡ Ok v → SignalIf o → SoundFixed v gs
 signal-or k first at None v gs h s = absurd (cc)
-signal-or k first at (Some x) v gs h s = as-fixed (by_itself k first x.of (F.Signal x.signal)) v gs h (fixed-signal k first x.of x.signal gs s)
+signal-or k first at (Some x) v gs h s = member-signal k first x v gs h s
 
 member-target : (k : Context) (inside : Bool) (first n at : ℕ) (o : Option SignalId) (v : Valued) (gs : List Function) → N.member_target k inside first n at o ≡ Ok v → SignalIf o → SoundFixed v gs
 member-target k inside first n at None v gs h s = absurd (cc)
 member-target k inside first n at (Some x) v gs h s =
-    let a = by_itself k.source first x.of (F.Signal x.signal) in
-    let rest = refused x.input (position k.source at) 410 (Ok a) in
-    as-fixed a v gs (refused-then x.input (position k.source at) 410 (Ok a) v (refused-then (inside && k.is_net_member n (word k.source at)) (position k.source at) 404 rest v h)) (fixed-signal k.source first x.of x.signal gs s)
+    let last = member_signal k.source first x in
+    let rest = refused x.input (position k.source at) 410 last in
+    member-signal k.source first x v gs (refused-then x.input (position k.source at) 410 last v (refused-then (inside && k.is_net_member n (word k.source at)) (position k.source at) 404 rest v h)) s
 
 module _ (Q : List Function → Type 0) where
   abbrev pub SelectsSound : List SelectMeaning → Type 0

@@ -50,7 +50,7 @@ values_by k (Some b) ns = name_values k b false [] None ns
 
 abbrev field_by : Context → Bool → Option TypeFound → DimensionedName → Typing Field
 field_by k inside None n = checked (dims k n.unpacked) (λ ds. broken Quiet)
-field_by k inside (Some f) n = field k inside f.of n
+field_by k inside (Some f) n = field (with_values f.names k) inside f.of n
 
 found-lasts : Lasts SoundFound
 found-lasts f gs hs e s = record { full = s.full; names = s.names }
@@ -156,14 +156,15 @@ module _ (Q : List Function → Type 0) where
   some-given g n ns s = O.some-keeps Q FullField (g n) (map g ns) field-lasts s.0 s.1
 
   names-of : (g : Option TypeFound → DimensionedName → Typing Field) (k : Context) (inside : Bool) (n : DimensionedName) (ns : List DimensionedName) → ((m : DimensionedName) → g None m ≡ Nothing_of k m)
-      → ((f : TypeFound) (m : DimensionedName) → g (Some f) m ≡ field k inside f.of m) → Surrounded Q k → Z.all (map name_written (n ∷ ns)) ≡ true → (o : Option TypeFound) (gs : List Function) → Q gs → IfKnown SoundFound o gs
+      → ((f : TypeFound) (m : DimensionedName) → g (Some f) m ≡ field (with_values f.names k) inside f.of m) → Surrounded Q k → Z.all (map name_written (n ∷ ns)) ≡ true → (o : Option TypeFound) (gs : List Function) → Q gs → IfKnown SoundFound o gs
       → Kept (List Field) Q (SomeHold Field FullField) gs (all (map (g o) (n ∷ ns)) gs)
   names-of g k inside n ns none some r w None gs q s = some-given (g None) n ns (each-given (g None) (Nothing_of k) (n ∷ ns) none (each-none k (n ∷ ns) r w)) gs q
   names-of g k inside n ns none some r w (Some f) gs q s =
-      some-given (g (Some f)) n ns (each-given (g (Some f)) (field k inside f.of) (n ∷ ns) (some f) (each-field k inside f.of (n ∷ ns) r w s.full)) gs q
+      let j = with_values f.names k in
+      some-given (g (Some f)) n ns (each-given (g (Some f)) (field j inside f.of) (n ∷ ns) (some f) (each-field j inside f.of (n ∷ ns) (X.names-known Q k f.names r s.names) w s.full)) gs q
 
   fields-of : (k : Context) (inside : Bool) (x : Typing TypeFound) (g : Option TypeFound → DimensionedName → Typing Field) (n : DimensionedName) (ns : List DimensionedName) → ((m : DimensionedName) → g None m ≡ Nothing_of k m)
-      → ((f : TypeFound) (m : DimensionedName) → g (Some f) m ≡ field k inside f.of m) → Surrounded Q k → Z.all (map name_written (n ∷ ns)) ≡ true → Keeps Q SoundFound x
+      → ((f : TypeFound) (m : DimensionedName) → g (Some f) m ≡ field (with_values f.names k) inside f.of m) → Surrounded Q k → Z.all (map name_written (n ∷ ns)) ≡ true → Keeps Q SoundFound x
       → Keeps Q SomeFields (both_by x (λ o. all (map (g o) (n ∷ ns))) (λ f fs. whole (record { fields = fs; names = f.names })))
   fields-of k inside x g n ns none some r w h =
       N.by-keeps Q SoundFound (SomeHold Field FullField) SomeFields x (λ o. all (map (g o) (n ∷ ns))) (λ f fs. whole (record { fields = fs; names = f.names })) found-lasts h (names-of g k inside n ns none some r w)

@@ -26,7 +26,7 @@ use Rattle.expr_type.specs.Breaks.{Quiet}
 use Rattle.expr_type.specs.Typings.{Checked, Typing, whole, broken, rule, by_functions, checked, refused}
 use Rattle.expr_type.specs.Shapes.{is_unpacked}
 use Rattle.expr_type.specs.Names.{Context, Source, position, thing, with_values}
-use Rattle.expr_type.specs.Operands.{constant_in, is_number_in}
+use Rattle.expr_type.specs.Operands.{constant_in}
 use Rattle.expr_type.specs.Operators.{not_too_long}
 use Rattle.expr_type.specs.KeywordTypes as D
 use Rattle.expr_type.specs.KeywordTypes.{Dim, keyword_type, implicit_type, unpacked}
@@ -188,10 +188,10 @@ module _ (Q : List Function → Type 0) where
   value-keeps k base at before None r w = K.rule-keeps Q Anything _ (λ gs n h. tt)
   value-keeps k base at before (Some i) r w =
       K.checked-keeps Q Sound Anything (constant_in k.source (operand k i.value))
-      (λ v. checked (by_functions (is_number_in k.source (T.least_value base) (T.most_value base) v)) (λ n. whole n.number)) (O.constant-keeps Q k.source (operand k i.value) ((expr-sound Q i.value w).typed k r))
+      (λ v. checked (by_functions (T.is_name_number k.source (T.least_value base) (T.most_value base) v)) (λ n. whole n.number)) (O.constant-keeps Q k.source (operand k i.value) ((expr-sound Q i.value w).typed k r))
       (λ v js q s.
-      K.checked-kept Q Anything Anything (by_functions (is_number_in k.source (T.least_value base) (T.most_value base) v)) (λ n. whole n.number) js
-      (K.rule-kept Q Anything (is_number_in k.source (T.least_value base) (T.most_value base) v js) js q (λ n h. tt)) (λ n hs p a. K.whole-kept Q Anything n.number hs p tt))
+      K.checked-kept Q Anything Anything (by_functions (T.is_name_number k.source (T.least_value base) (T.most_value base) v)) (λ n. whole n.number) js
+      (K.rule-kept Q Anything (T.is_name_number k.source (T.least_value base) (T.most_value base) v js) js q (λ n h. tt)) (λ n hs p a. K.whole-kept Q Anything n.number hs p tt))
 
   name-keeps : (k : Context) (base : SvType) (before : List NameValue) (last : Option ℤ) (n : W.EnumName) → Surrounded Q k → initial_written n.value ≡ true → Keeps Q (Short base) (name_value k base before last n)
   name-keeps k base before last n r w =

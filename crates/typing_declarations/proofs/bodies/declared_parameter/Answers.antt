@@ -1,6 +1,6 @@
 use Rattle.std.proofs.Common.{◌≡◌, Bool, None, cond, sym, ◌∙◌, subst}
 use Rattle.sv_tree.specs.declared.declarations.ParameterBody.TheVariants as P
-use Rattle.expr_type.specs.Statements.{parameter, type_parameter, value_parameter}
+use Rattle.expr_type.specs.Statements.{OfValue, parameter, type_parameter, value_parameter}
 use Rattle.stmt_laws.specs.Sound.{KindFull}
 use Rattle.typing_calls.specs.Lists.{as_meant}
 use Rattle.typing_fits.proofs.Full.{and-right}
@@ -29,7 +29,7 @@ returns-then-is_unwritten-clause-value g c =
     let of = c.args.of.now in
     let d = c.args.d.now in
     subst (λ (b : Kind). TypesTo (as_meant parameter_of c.type_parameter.result) (parameter k (kind_of b) (P.Value of d) c.args.known.now.functions) c.type_parameter.new.known.functions) (sym c.in-Type.is)
-    (subst (λ (b : Bool). TypesTo (as_meant parameter_of c.type_parameter.result) (cond b (type_parameter k d.name d.initial) (value_parameter k None of d) c.args.known.now.functions) c.type_parameter.new.known.functions)
+    (subst (λ (b : Bool). TypesTo (as_meant parameter_of c.type_parameter.result) (cond b (type_parameter k d.name d.initial) (value_parameter k (OfValue None) of d) c.args.known.now.functions) c.type_parameter.new.known.functions)
     (sym (sym c.is_unwritten.ensures ∙ c.if-is_unwritten.true)) c.type_parameter.ensures.value)
 
 pub returns-else-is_unwritten-clause-value : goal.returns-else-is_unwritten-clause-value
@@ -40,5 +40,5 @@ returns-else-is_unwritten-clause-value g c =
     let r = c.value_parameter-else-is_unwritten.result in
     let gs = c.value_parameter-else-is_unwritten.new.known.functions in
     subst (λ (b : Kind). TypesTo (as_meant parameter_of r) (parameter k (kind_of b) (P.Value of d) c.args.known.now.functions) gs) (sym c.in-Type.is)
-    (subst (λ (b : Bool). TypesTo (as_meant parameter_of r) (cond b (type_parameter k d.name d.initial) (value_parameter k None of d) c.args.known.now.functions) gs)
+    (subst (λ (b : Bool). TypesTo (as_meant parameter_of r) (cond b (type_parameter k d.name d.initial) (value_parameter k (OfValue None) of d) c.args.known.now.functions) gs)
     (sym (sym c.is_unwritten.ensures ∙ c.if-is_unwritten.false)) c.value_parameter-else-is_unwritten.ensures.value)

@@ -1,6 +1,5 @@
 use Rattle.std.proofs.Common.{◌≡◌, true, Option, Some, Ok, Err, ap, sym, ◌∙◌, subst}
 use Rattle.std.specs.Prelude.{Result}
-use Rattle.std.specs.Option.{option_copied}
 use Rattle.std.proofs.lemmas.Result.{err_from_is_err_and}
 use Rattle.sv_tree.specs.declared.declarations.Initializer.{Initializer}
 use Rattle.sv_types.specs.declared.frame.ParamValue.{ParamValue}
@@ -12,7 +11,6 @@ use Rattle.expr_type.specs.Operands.{Operand}
 use Rattle.expr_type.specs.Statements.{constant}
 use Rattle.pattern_types.specs.Meaning.{operand_of}
 use Rattle.routine_fits.specs.Sound.{AllSoundFunctions}
-use Rattle.routine_fits.proofs.Functions.{all-run}
 use Rattle.stmt_laws.proofs.Declared.{operand-keeps}
 use Rattle.typing_calls.specs.Lists.{as_meant}
 use Rattle.typing_fits.specs.Operands.{SoundOperand}
@@ -20,17 +18,14 @@ use Rattle.typing_scopes.specs.Scopes.{context_of}
 use Rattle.typing_steps.specs.Steps.{TypesTo}
 use Rattle.typing_walks.specs.WrittenTypes.{initial_written}
 use Rattle.constant_values.specs.declared.parameters.Place.{Place}
-use Rattle.constant_values.specs.Parameters.{parameter_value}
-use Rattle.typing_declarations.specs.Declaring.{as_value}
+use Rattle.typing_declarations.specs.Declaring.{as_value, written_param}
+use Rattle.typing_declarations.specs.Kinds.{written_of}
 use Rattle.typing_declarations.proofs.FoundTypes.{sound-then}
 use Rattle.typing_declarations.proofs.Making.{constant-stops, constant-types}
 use Rattle.typing_declarations.proofs.constants.constant.Goals as goal
 
-pub parameter_value-requires-clause-functions : goal.parameter_value-requires-clause-functions
-parameter_value-requires-clause-functions g c = all-run c.operand.new.known.functions c.operand.ensures.ready.sound
-
-pub parameter_value-requires-clause-sound : goal.parameter_value-requires-clause-sound
-parameter_value-requires-clause-sound g c =
+pub written_value-requires-clause-sound : goal.written_value-requires-clause-sound
+written_value-requires-clause-sound g c =
     let k = context_of g.B.Names.context c.args.names.now in
     let fs = c.args.known.now.functions in
     let gs = c.operand.new.known.functions in
@@ -42,7 +37,7 @@ parameter_value-requires-clause-sound g c =
 pub returns-in_err-o-clause-value : goal.returns-in_err-o-clause-value
 returns-in_err-o-clause-value g c =
     let k = context_of g.B.Names.context c.args.names.now in
-    let t = option_copied c.args.t in
+    let t = written_of c.args.t.now in
     let fs = c.args.known.now.functions in
     let gs = c.operand.new.known.functions in
     let e = err_from_is_err_and c.from_residual.result c.from_residual.ensures.1 in
@@ -53,11 +48,11 @@ returns-in_err-o-clause-value g c =
 pub returns-clause-value : goal.returns-clause-value
 returns-clause-value g c =
     let k = context_of g.B.Names.context c.args.names.now in
-    let t = option_copied c.args.t in
+    let t = written_of c.args.t.now in
     let fs = c.args.known.now.functions in
     let gs = c.operand.new.known.functions in
-    let r = c.parameter_value.result in
+    let r = c.written_value.result in
     let p : Place = record { name = c.args.at; declaration = c.declaration.result } in
-    let gives : Gives r (parameter_value k.source p t (operand_of k.source c.in_ok-o.o) gs) = subst (λ (s : Source). Gives r (parameter_value s p t (operand_of s c.in_ok-o.o) gs)) c.text.ensures c.parameter_value.ensures in
+    let gives : Gives r (written_param k.source p t (operand_of k.source c.in_ok-o.o) gs) = subst (λ (s : Source). Gives r (written_param s p t (operand_of s c.in_ok-o.o) gs)) c.text.ensures c.written_value.ensures in
     subst (λ (i : Option Initializer). TypesTo (as_meant as_value r) (constant k c.args.at t i fs) gs) (sym c.in-Some.is)
     (constant-types k c.args.at t c.in-Some.i (operand_of k.source c.in_ok-o.o) p r fs gs (ap (λ n. record { name = c.args.at; declaration = n }) c.declaration.ensures) c.in_ok-o.ensures.value gives)

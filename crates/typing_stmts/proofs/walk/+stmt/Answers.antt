@@ -14,6 +14,7 @@ use Rattle.expr_type.specs.Types.{typed_text}
 use Rattle.routine_fits.specs.Sound.{AllSoundFunctions}
 use Rattle.stmt_laws.specs.Written.{case_written, item_written, items_written, stmt_written}
 use Rattle.stmt_laws.proofs.Declared.{parameters-keep, selected-keeps, text-keeps, variables-keep}
+use Rattle.function_cuts.proofs.Before.{sound-before, within-longer}
 use Rattle.typing_calls.specs.Lists.{as_meant}
 use Rattle.typing_declarations.specs.Loops.{control_of, variable_of}
 use Rattle.typing_parts.proofs.Keeping.{extends-same, extends-then}
@@ -26,7 +27,7 @@ use Rattle.typing_stmt_parts.specs.Blocks.{MadeOf, made_row}
 use Rattle.typing_stmt_parts.specs.Items.{Kept}
 use Rattle.typing_stmt_parts.specs.Parts.{part_meant}
 use Rattle.typing_stmt_parts.proofs.Blocks.{block-begins, block-ends, joined-goes, joined-stops, left-at, row-stops}
-use Rattle.typing_stmt_parts.proofs.Finding.{default-found, kept-extends, listed-loud, sound-before, values-end, values-found, within-longer}
+use Rattle.typing_stmt_parts.proofs.Finding.{default-found, kept-extends, listed-loud, values-end, values-found}
 use Rattle.typing_stmt_parts.proofs.Making.{declared-types, statement-sound, statement-types}
 use Rattle.typing_stmt_parts.proofs.Rows.{all-found, found-loud, item-more, none-yet}
 use Rattle.typing_stmts.specs.Controls.{controlled}
@@ -408,15 +409,15 @@ part-returns-in-Parameters-clause-value g t c =
     let gs = c.parameters-declared.new.known.functions in
     let bs = c.as_slice-bodies.result.now in
     parameters-meant i.p c.args.item.now i.is bs c.as_slice-bodies.ensures k fs gs (as_meant part_meant c.of_declared.result)
-    (declared-types c.parameters-declared.result c.of_declared.result (D.parameters k (D.IsValue None) bs) fs gs c.of_declared.ensures c.parameters-declared.ensures.value)
+    (declared-types c.parameters-declared.result c.of_declared.result (D.parameters k (D.IsValue (D.OfValue None)) bs) fs gs c.of_declared.ensures c.parameters-declared.ensures.value)
 
 pub part-returns-in-Parameters-clause-sound : goal.part-returns-in-Parameters-clause-sound
 part-returns-in-Parameters-clause-sound g t c =
     let i = c.in-Parameters in
     let k = context_of g.B.Names.context c.args.names.now in
     let bs = c.as_slice-bodies.result.now in
-    part-sound c.parameters-declared.result c.of_declared.result (D.parameters k (D.IsValue None) bs) c.args.known.now.functions c.parameters-declared.new.known.functions c.of_declared.ensures c.parameters-declared.ensures.value
-    (parameters-keep AllSoundFunctions k (D.IsValue None) bs c.requires.names (parameters-written i.p c.args.item.now i.is bs c.as_slice-bodies.ensures c.requires.written) tt) c.requires.ready.sound
+    part-sound c.parameters-declared.result c.of_declared.result (D.parameters k (D.IsValue (D.OfValue None)) bs) c.args.known.now.functions c.parameters-declared.new.known.functions c.of_declared.ensures c.parameters-declared.ensures.value
+    (parameters-keep AllSoundFunctions k (D.IsValue (D.OfValue None)) bs c.requires.names (parameters-written i.p c.args.item.now i.is bs c.as_slice-bodies.ensures c.requires.written) tt) c.requires.ready.sound
 
 pub part-variables-declared-requires-clause-type_written : goal.part-variables-declared-requires-clause-type_written
 part-variables-declared-requires-clause-type_written g t c =
