@@ -1,0 +1,5 @@
+pub mod Lasts
+pub mod Lists
+pub mod Steps
+pub mod Walking
+pub mod NameLists

@@ -1,0 +1,57 @@
+-- What flattened select paths read and name (IEEE 1800-2017 clauses 9.4.2.2 and 11.5.1, IEEE 1364-2005 clause 5.4).
+use Rattle.std.specs.Prelude.{◌≡◌, ℕ, Bool, true, List, [], ◌∷◌, ◌++◌, length, Option}
+use Rattle.row_machine.specs.Valuation.{Valuation}
+use Rattle.sv_types.specs.declared.expression.Expr.{Expr}
+use Rattle.sv_types.specs.declared.expression.Form.{out-Form}
+use Rattle.sv_types.specs.declared.expression.Form.TheVariants as V
+use Rattle.sv_types.specs.Surroundings.{Around}
+use Rattle.sv_types.specs.Expressions.{meaning}
+use Rattle.v_tree.specs.declared.names.Helper.{Helper}
+use Rattle.v_tree.specs.declared.names.NameMap.{NameMap}
+use Rattle.v_meaning.specs.Scopes.{Scope}
+use Rattle.v_meaning.specs.Values as T
+use Rattle.eval_parts.specs.Steps.{is_path}
+use Rattle.lowering_laws.specs.Same.{Same}
+use Rattle.lowering_laws.specs.Steps.{IsPath}
+use Rattle.path_flatten.specs.declared.readings.Reading.{Reading}
+use Rattle.path_flatten.specs.Helping.{EachHelps}
+use Rattle.path_flatten.specs.Naming.{SameNumbers, root_names}
+use Rattle.path_flatten.specs.Reading.{Reads}
+use Rattle.path_walk.specs.declared.indices.StepIndex.{StepIndex}
+use Rattle.path_walk.specs.Bases.{stand_of, HoldsBits, stand_names}
+use Rattle.path_walk.specs.Indices.{AreIndices, all_names}
+use Rattle.path_walk.specs.Selects.{Select, Index, IsPathOn, indices_of}
+
+-- The text holds what a path stands on, has the values of its indices in order, and has the helpers.
+pub record Stands (names : NameMap) (value : Option T.Meaning) (base : Expr) (ss : List Select) (xs : List StepIndex) (hs : List Helper) (a : Around) (sc : Scope) (v : Valuation) : Type 0 where
+  pub holds : HoldsBits (stand_of names value base) (meaning base) ss a sc v
+  pub indices : AreIndices (indices_of ss) xs a sc v
+  pub helps : EachHelps hs sc
+
+-- what a path stands on and its indices name
+abbrev pub path_names : NameMap → Option T.Meaning → Expr → List StepIndex → Scope → List ℕ
+path_names names value base xs sc = stand_names (stand_of names value base) sc ++ all_names xs sc
+
+-- A reading reads a path wherever the text stands for it, and names what the path stands on and its indices name.
+pub record Found (names : NameMap) (value : Option T.Meaning) (base : Expr) (ss : List Select) (e : Expr) (xs : List StepIndex) (hs : List Helper) (r : Reading) : Type 0 where
+  pub reads : (a : Around) (sc : Scope) (v : Valuation) → Stands names value base ss xs hs a sc v → Reads r (meaning e) a sc v
+  pub names : (sc : Scope) → SameNumbers (path_names names value base xs sc) (root_names r.root sc)
+  pub path : is_path (out-Form e.form) ≡ true → (a : Around) → IsPath (meaning e) a
+
+-- so it is whatever the selects are, if there are as many indices
+abbrev pub Finds : NameMap → Option T.Meaning → Expr → List StepIndex → List Helper → Reading → Type 0
+Finds names value e xs hs r = (base : Expr) (ss : List Select) → IsPathOn base ss e → length xs ≡ length (indices_of ss) → Found names value base ss e xs hs r
+
+-- a reading of an element with an index of what selects of the other indices select
+abbrev pub FindsElement : NameMap → Option T.Meaning → Expr → StepIndex → List StepIndex → List Helper → Reading → Type 0
+FindsElement names value from x rest hs r = (e i : Expr) → e.form ≡ V.Index from i → (meaning e).misfits ≡ 0 → Finds names value e (rest ++ x ∷ []) hs r
+
+-- An expression of the text has the path's value at each width and sign of a context wherever the text stands for the path, and
+-- names what the path stands on and its indices name, all of it and nothing else.
+pub record Flattened (names : NameMap) (value : Option T.Meaning) (base : Expr) (ss : List Select) (e : Expr) (xs : List StepIndex) (hs : List Helper) (m : T.Meaning) : Type 0 where
+  pub same : (a : Around) (sc : Scope) (v : Valuation) → Stands names value base ss xs hs a sc v → (w : ℕ) (s : Bool) → Same (meaning e) w s a m sc v
+  pub names : (sc : Scope) → SameNumbers (path_names names value base xs sc) (m.names sc)
+
+-- so it does for a select path, whatever its selects are, if there are as many indices
+abbrev pub Flattens : NameMap → Option T.Meaning → Expr → List StepIndex → List Helper → T.Meaning → Type 0
+Flattens names value e xs hs m = (base : Expr) (ss : List Select) → is_path (out-Form e.form) ≡ true → IsPathOn base ss e → length xs ≡ length (indices_of ss) → Flattened names value base ss e xs hs m
