@@ -39,7 +39,7 @@ use Rattle.path_walk.specs.declared.indices.StepIndex.{StepIndex}
 use Rattle.path_walk.specs.Bases.{signal_name, local_name, is_memory, IsMemoryAt, Stand, Vector, Memory, Value, value_stand, signal_stand, stand_in, stand_of, HoldsBits, stand_names, ReadsStand, NamesStand}
 use Rattle.path_walk.specs.Indices.{index_names, all_names, ReadsElementBy, ReadsSlideBy, ReadsWordBy, NamesStep, NamesWordBy}
 use Rattle.path_walk.specs.Selects.{Select, Member, Index, Part, Slide, Last, Signal, Local, Other, Selected, last, IsRoot, IsPathOn, indices_of, BeginsAtElement}
-use Rattle.path_walk.specs.Flattening.{Stands, path_names, Found, Finds, FindsElement, Flattens}
+use Rattle.path_walk.specs.Flattening.{TextHolds, path_names, Found, Finds, FindsElement, Flattens}
 use Rattle.path_walk.proofs.Lasts.{last-Signal, last-Local, last-Member, last-Index, last-Part, last-Slide, last-plain, at-root, at-select}
 use Rattle.path_walk.proofs.Lists.{count-last, none-last, no-items, names-last, indices-last, begins-Member, begins-Part, begins-Slide}
 use Rattle.path_walk.proofs.Steps.{member-path, index-path, part-path, slide-path}

@@ -23,7 +23,7 @@ use Rattle.path_walk.specs.Indices.{AreIndices, all_names}
 use Rattle.path_walk.specs.Selects.{Select, Index, IsPathOn, indices_of}
 
 -- The text holds what a path stands on, has the values of its indices in order, and has the helpers.
-pub record Stands (names : NameMap) (value : Option T.Meaning) (base : Expr) (ss : List Select) (xs : List StepIndex) (hs : List Helper) (a : Around) (sc : Scope) (v : Valuation) : Type 0 where
+pub record TextHolds (names : NameMap) (value : Option T.Meaning) (base : Expr) (ss : List Select) (xs : List StepIndex) (hs : List Helper) (a : Around) (sc : Scope) (v : Valuation) : Type 0 where
   pub holds : HoldsBits (stand_of names value base) (meaning base) ss a sc v
   pub indices : AreIndices (indices_of ss) xs a sc v
   pub helps : EachHelps hs sc
@@ -34,7 +34,7 @@ path_names names value base xs sc = stand_names (stand_of names value base) sc +
 
 -- A reading reads a path wherever the text stands for it, and names what the path stands on and its indices name.
 pub record Found (names : NameMap) (value : Option T.Meaning) (base : Expr) (ss : List Select) (e : Expr) (xs : List StepIndex) (hs : List Helper) (r : Reading) : Type 0 where
-  pub reads : (a : Around) (sc : Scope) (v : Valuation) → Stands names value base ss xs hs a sc v → Reads r (meaning e) a sc v
+  pub reads : (a : Around) (sc : Scope) (v : Valuation) → TextHolds names value base ss xs hs a sc v → Reads r (meaning e) a sc v
   pub names : (sc : Scope) → SameNumbers (path_names names value base xs sc) (root_names r.root sc)
   pub path : is_path (out-Form e.form) ≡ true → (a : Around) → IsPath (meaning e) a
 
@@ -49,7 +49,7 @@ FindsElement names value from x rest hs r = (e i : Expr) → e.form ≡ V.Index 
 -- An expression of the text has the path's value at each width and sign of a context wherever the text stands for the path, and
 -- names what the path stands on and its indices name, all of it and nothing else.
 pub record Flattened (names : NameMap) (value : Option T.Meaning) (base : Expr) (ss : List Select) (e : Expr) (xs : List StepIndex) (hs : List Helper) (m : T.Meaning) : Type 0 where
-  pub same : (a : Around) (sc : Scope) (v : Valuation) → Stands names value base ss xs hs a sc v → (w : ℕ) (s : Bool) → Same (meaning e) w s a m sc v
+  pub same : (a : Around) (sc : Scope) (v : Valuation) → TextHolds names value base ss xs hs a sc v → (w : ℕ) (s : Bool) → Same (meaning e) w s a m sc v
   pub names : (sc : Scope) → SameNumbers (path_names names value base xs sc) (m.names sc)
 
 -- so it does for a select path, whatever its selects are, if there are as many indices
