@@ -110,7 +110,7 @@ module _ (names : NameMap) (value : Option T.Meaning) where
             (let path = W.signal-path (layout e.of) e.spot.at n a in
             let window = subst (λ (m : S.Meaning). m.window a ≡ whole (S.wide m)) (sym (E.same-Signal e n is)) (path.window ∙ ap whole (sym path.wide)) in
             whole-reads (meaning e) w name r a sc v width window reads (signal-vector b name (meaning e) a sc v (subst (λ s. HoldsBits s (meaning e) [] a sc v) stand st.holds)));
-        names = λ sc. root-named e xs r name sc (ap (λ s. stand_names s sc) stand ∙ signal-names b name sc) (no-items xs count) root;
+        named = λ sc. root-named e xs r name sc (ap (λ s. stand_names s sc) stand ∙ signal-names b name sc) (no-items xs count) root;
         path = λ kind a. W.step-path e (Q.Signal n) a is;
       })
 
@@ -124,7 +124,7 @@ module _ (names : NameMap) (value : Option T.Meaning) where
             (let path = W.local-path (layout e.of) e.spot.at n a in
             let window = subst (λ (m : S.Meaning). m.window a ≡ whole (S.wide m)) (sym (E.same-Local e n is)) (path.window ∙ ap whole (sym path.wide)) in
             whole-reads (meaning e) w name r a sc v width window reads (subst (λ s. HoldsBits s (meaning e) [] a sc v) stand st.holds));
-        names = λ sc. root-named e xs r name sc (ap (λ s. stand_names s sc) stand) (no-items xs count) root;
+        named = λ sc. root-named e xs r name sc (ap (λ s. stand_names s sc) stand) (no-items xs count) root;
         path = λ kind a. W.step-path e (Q.Local n) a is;
       })
 
@@ -136,7 +136,7 @@ module _ (names : NameMap) (value : Option T.Meaning) where
       let stand : stand_of names value e ≡ value_stand value = ap (stand_in names value) last_is in
       at-root e (subst IsRoot (sym last_is) tt) (Counted e xs hs r) (λ count. record {
         reads = λ a sc v st. value-reads value e w r a sc v valued width reads (subst (λ s. HoldsBits s (meaning e) [] a sc v) stand st.holds);
-        names = λ sc.
+        named = λ sc.
             (let none : stand_names (value_stand value) sc ≡ path_names names value e xs sc =
             sym (append-nil (stand_names (value_stand value) sc)) ∙ (λ i. stand_names (sym stand i) sc ++ all_names (sym (no-items xs count) i) sc) in
             subst (λ l. SameNumbers l (root_names r.root sc)) none (named_all sc));
@@ -160,7 +160,7 @@ module _ (names : NameMap) (value : Option T.Meaning) where
               indices = st.indices;
               helps = st.helps;
             })));
-        names = λ sc. subst (λ (y : Root). SameNumbers (path_names names value base xs sc) (root_names y sc)) (sym root) (from.names sc);
+        named = λ sc. subst (λ (y : Root). SameNumbers (path_names names value base xs sc) (root_names y sc)) (sym root) (from.named sc);
         path = λ kind a. subst (λ (m : S.Meaning). IsPath m a) (sym level) (member-path (layout e.of) e.spot.at (meaning x) k a);
       })
 
@@ -180,7 +180,7 @@ module _ (names : NameMap) (value : Option T.Meaning) where
               indices = st.indices;
               helps = st.helps;
             })));
-        names = λ sc. subst (λ (y : Root). SameNumbers (path_names names value base xs sc) (root_names y sc)) (sym root) (from.names sc);
+        named = λ sc. subst (λ (y : Root). SameNumbers (path_names names value base xs sc) (root_names y sc)) (sym root) (from.named sc);
         path = λ kind a. subst (λ (m : S.Meaning). IsPath m a) (sym level) (part-path (layout e.of) e.spot.at (meaning x) left right a);
       })
 
@@ -203,7 +203,7 @@ module _ (names : NameMap) (value : Option T.Meaning) where
               indices = given.0;
               helps = helps-before old_hs hs sc grows st.helps;
             }))));
-        names = λ sc. names-ended (stand_names (stand_of names value base) sc) xs x old r sc (from.names sc) step;
+        named = λ sc. names-ended (stand_names (stand_of names value base) sc) xs x old r sc (from.named sc) step;
         path = λ kind a. subst (λ (m : S.Meaning). IsPath m a) (sym level) (slide-path (layout e.of) e.spot.at (meaning y) (meaning i) n up a);
       })
 
@@ -247,7 +247,7 @@ module _ (names : NameMap) (value : Option T.Meaning) where
               indices = given.0;
               helps = helps-before old_hs hs sc grows st.helps;
             }))));
-        names = λ sc. names-ended (stand_names (stand_of names value base) sc) xs x old r sc (from.names sc) step;
+        named = λ sc. names-ended (stand_names (stand_of names value base) sc) xs x old r sc (from.named sc) step;
         path = λ kind a. subst (λ (m : S.Meaning). IsPath m a) (sym level) (index-path (layout e.of) e.spot.at (meaning y) (meaning i) a);
       })
 
@@ -276,7 +276,7 @@ module _ (names : NameMap) (value : Option T.Meaning) where
             subst (λ (m : S.Meaning). Reads r m a sc v) (sym level)
             (reads (P.index (layout e.of) e.spot.at (meaning y) (meaning i)) (meaning y) (meaning i) a sc v (heads y).kind (index-path (layout e.of) e.spot.at (meaning y) (meaning i) a)
             (W.index-step (layout e.of) e.spot.at (meaning y) (meaning i) a) (W.index-wide (layout e.of) e.spot.at (meaning y) (meaning i) typed_at) (all-elements y typed_y) holds.0 given.1));
-        names = λ sc.
+        named = λ sc.
             (let all : path_names names value y (xs ++ x ∷ []) sc ≡ (named sc.names name).number ∷ index_names x sc =
             (λ d. stand_names (stand d) sc ++ names-last xs x sc d) ∙ ap (λ l. (named sc.names name).number ∷ all_names l sc ++ index_names x sc) none in
             subst (λ l. SameNumbers l (root_names r.root sc)) (sym all) (named_all sc));
@@ -301,5 +301,5 @@ module _ (names : NameMap) (value : Option T.Meaning) where
         same = λ a sc v st.
             reads (meaning e) a sc v (heads e).kind (found.path kind a) (has-bits e typed)
             (found.reads a sc v (record { holds = st.holds; indices = st.indices; helps = helps-before old_hs hs sc grows st.helps })) st.helps;
-        names = λ sc. same-then (path_names names value base xs sc) (root_names r.root sc) (m.names sc) (found.names sc) (named_all sc);
+        named = λ sc. same-then (path_names names value base xs sc) (root_names r.root sc) (m.names sc) (found.named sc) (named_all sc);
       }

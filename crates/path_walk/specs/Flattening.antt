@@ -35,7 +35,7 @@ path_names names value base xs sc = stand_names (stand_of names value base) sc +
 -- A reading reads a path wherever the text stands for it, and names what the path stands on and its indices name.
 pub record Found (names : NameMap) (value : Option T.Meaning) (base : Expr) (ss : List Select) (e : Expr) (xs : List StepIndex) (hs : List Helper) (r : Reading) : Type 0 where
   pub reads : (a : Around) (sc : Scope) (v : Valuation) → TextHolds names value base ss xs hs a sc v → Reads r (meaning e) a sc v
-  pub names : (sc : Scope) → SameNumbers (path_names names value base xs sc) (root_names r.root sc)
+  pub named : (sc : Scope) → SameNumbers (path_names names value base xs sc) (root_names r.root sc)
   pub path : is_path (out-Form e.form) ≡ true → (a : Around) → IsPath (meaning e) a
 
 -- so it is whatever the selects are, if there are as many indices
@@ -50,7 +50,7 @@ FindsElement names value from x rest hs r = (e i : Expr) → e.form ≡ V.Index 
 -- names what the path stands on and its indices name, all of it and nothing else.
 pub record Flattened (names : NameMap) (value : Option T.Meaning) (base : Expr) (ss : List Select) (e : Expr) (xs : List StepIndex) (hs : List Helper) (m : T.Meaning) : Type 0 where
   pub same : (a : Around) (sc : Scope) (v : Valuation) → TextHolds names value base ss xs hs a sc v → (w : ℕ) (s : Bool) → Same (meaning e) w s a m sc v
-  pub names : (sc : Scope) → SameNumbers (path_names names value base xs sc) (m.names sc)
+  pub named : (sc : Scope) → SameNumbers (path_names names value base xs sc) (m.names sc)
 
 -- so it does for a select path, whatever its selects are, if there are as many indices
 abbrev pub Flattens : NameMap → Option T.Meaning → Expr → List StepIndex → List Helper → T.Meaning → Type 0

@@ -19,7 +19,8 @@ pub(crate) fn based(alloc: Global, base: Option<&VExpr>, width: u32) -> Result<R
         None => Ok(whole_name(Text::new(alloc), width)),
         Some(value) => {
             let copy = copy_expr(alloc, value)?;
-            whole_value(alloc, copy, width)
+            let whole = whole_value(alloc, copy, width)?;
+            Ok(whole)
         }
     }
 }

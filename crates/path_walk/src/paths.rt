@@ -39,7 +39,10 @@ fn follow(
     ensures finds { IfOk result (Finds names.now (value_of base) e.now indices.now helpers.new) }
 {
     match step_of(e) {
-        None => based(alloc, base, own_width(e)),
+        None => {
+            let whole = based(alloc, base, own_width(e))?;
+            Ok(whole)
+        }
         Some(Step::Signal(n)) => {
             let name = signal_text(alloc, names.signals.as_slice(), n)?;
             Ok(whole_name(name, own_width(e)))
@@ -58,7 +61,10 @@ fn follow(
         }
         Some(Step::Index(from, _)) => match indices.split_last() {
             None => Ok(whole_name(Text::new(alloc), own_width(e))),
-            Some((at, rest)) => element(alloc, names, from, base, at, rest, helpers),
+            Some((at, rest)) => {
+                let found = element(alloc, names, from, base, at, rest, helpers)?;
+                Ok(found)
+            }
         },
         Some(
             Step::Slide {
@@ -76,7 +82,8 @@ fn follow(
                     bits: own_width(e),
                 };
                 let found = follow(alloc, names, from, base, rest, helpers)?;
-                steps::slide(alloc, found, &from.of, part, at, helpers)
+                let made = steps::slide(alloc, found, &from.of, part, at, helpers)?;
+                Ok(made)
             }
         },
     }
@@ -102,10 +109,14 @@ fn element(
     ensures finds { IfOk result (FindsElement names.now (value_of base) from.now at.now rest.now helpers.new) }
 {
     match memory_at(names.signals.as_slice(), from) {
-        Some(n) => steps::word(alloc, names.signals.as_slice(), n, &from.of, at),
+        Some(n) => {
+            let read = steps::word(alloc, names.signals.as_slice(), n, &from.of, at)?;
+            Ok(read)
+        }
         None => {
             let found = follow(alloc, names, from, base, rest, helpers)?;
-            steps::element(alloc, found, &from.of, at, helpers)
+            let made = steps::element(alloc, found, &from.of, at, helpers)?;
+            Ok(made)
         }
     }
 }
@@ -128,5 +139,6 @@ pub fn flatten(
     ensures flattens { IfOk result (λ m. Flattens names.now (value_of base) e.now indices.now helpers.new (means.meaning m)) }
 {
     let reading = follow(alloc, names, e, base, indices, helpers)?;
-    read(alloc, reading, &e.of, helpers)
+    let made = read(alloc, reading, &e.of, helpers)?;
+    Ok(made)
 }

@@ -37,7 +37,8 @@ pub(crate) fn element(
         StepIndex::Known(number) => Ok(element_step(reading, of, *number)),
         StepIndex::Lowered(index) => {
             let (reading, index) = both(Ok(reading), copy_index(alloc, index))?;
-            index_step(alloc, reading, of, index, helpers)
+            let made = index_step(alloc, reading, of, index, helpers)?;
+            Ok(made)
         }
     }
 }
@@ -63,7 +64,8 @@ pub(crate) fn slide(
         StepIndex::Known(number) => { Ok(sliding_step(reading, of, part.up, part.count, *number)) }
         StepIndex::Lowered(index) => {
             let (reading, index) = both(Ok(reading), copy_index(alloc, index))?;
-            slide_step(alloc, reading, of, part, index, helpers)
+            let made = slide_step(alloc, reading, of, part, index, helpers)?;
+            Ok(made)
         }
     }
 }
@@ -85,7 +87,8 @@ fn lowered_word(
 {
     let memory = signal_text(alloc, names, n);
     let (memory, word) = both(memory, word_number(alloc, index, of))?;
-    word_reading(alloc, memory, of, word)
+    let made = word_reading(alloc, memory, of, word)?;
+    Ok(made)
 }
 
 /// The element with an index, of a signal of this type that is a memory: the word of the index.
@@ -106,11 +109,13 @@ pub(crate) fn word(
     match at {
         StepIndex::Known(number) => {
             let memory = signal_text(alloc, names, n)?;
-            known_reading(alloc, memory, of, *number)
+            let known = known_reading(alloc, memory, of, *number)?;
+            Ok(known)
         }
         StepIndex::Lowered(index) => {
             let index = copy_index(alloc, index)?;
-            lowered_word(alloc, names, n, of, index)
+            let lowered = lowered_word(alloc, names, n, of, index)?;
+            Ok(lowered)
         }
     }
 }
