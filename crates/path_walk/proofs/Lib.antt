@@ -1,6 +1,6 @@
 pub mod Lasts
 pub mod Lists
-pub mod Steps
+pub mod Typed
 pub mod Walking
 pub mod Memories
 pub mod NameLists

@@ -42,7 +42,7 @@ use Rattle.path_walk.specs.Selects.{Select, Member, Index, Part, Slide, Last, Si
 use Rattle.path_walk.specs.Flattening.{TextHolds, path_names, Found, Finds, FindsElement, Flattens}
 use Rattle.path_walk.proofs.Lasts.{last-Signal, last-Local, last-Member, last-Index, last-Part, last-Slide, last-plain, at-root, at-select}
 use Rattle.path_walk.proofs.Lists.{count-last, none-last, no-items, names-last, indices-last, begins-Member, begins-Part, begins-Slide}
-use Rattle.path_walk.proofs.Steps.{member-path, index-path, part-path, slide-path}
+use Rattle.path_walk.proofs.Typed.{member-path, index-path, part-path, slide-path}
 
 length-bits : (v : Valuation) (n k w : ℕ) → length (bits_from v n k w) ≡ w
 length-bits v n k zero = refl
