@@ -1,12 +1,9 @@
 -- Lists of indices by their last one, and of selects by the first one of all.
 use Rattle.std.proofs.Common.{◌≡◌, ℕ, Bool, ℤ, List, [], ◌∷◌, ◌++◌, length, append-nil, append_assoc, length-append, refl, arith, ap, sym, ◌∙◌}
-use Rattle.row_machine.specs.Valuation.{Valuation}
 use Rattle.sv_types.specs.declared.expression.Expr.{Expr}
-use Rattle.sv_types.specs.Surroundings.{Around}
-use Rattle.sv_types.specs.Expressions.{meaning}
 use Rattle.v_meaning.specs.Scopes.{Scope}
 use Rattle.path_walk.specs.declared.indices.StepIndex.{StepIndex}
-use Rattle.path_walk.specs.Indices.{IsIndexBy, AreIndices, index_names, all_names, IsShort, AllShort}
+use Rattle.path_walk.specs.Indices.{Pairwise, index_names, all_names, IsShort, AllShort}
 use Rattle.path_walk.specs.Selects.{Select, Member, Index, Part, Slide, BeginsAtElement}
 
 -- a last one more
@@ -28,20 +25,20 @@ pub short-last : (xs : List StepIndex) (x : StepIndex) → AllShort (xs ++ x ∷
 short-last [] x h = (tt, h.0)
 short-last (y ∷ xs) x h = (let rest = short-last xs x h.1 in ((h.0, rest.0), rest.1))
 
-module _ (a : Around) (sc : Scope) (v : Valuation) where
-  none-left : (xs : List StepIndex) (x : StepIndex) → AreIndices [] (xs ++ x ∷ []) a sc v → ⊥
+module _ (F : Expr → StepIndex → Type 0) where
+  none-left : (xs : List StepIndex) (x : StepIndex) → Pairwise F [] (xs ++ x ∷ []) → ⊥
   none-left [] x h = h
   none-left (y ∷ xs) x h = h
 
-  none-right : (is : List Expr) (i : Expr) → AreIndices (is ++ i ∷ []) [] a sc v → ⊥
+  none-right : (is : List Expr) (i : Expr) → Pairwise F (is ++ i ∷ []) [] → ⊥
   none-right [] i h = h
   none-right (j ∷ is) i h = h
 
-  pub indices-last : (is : List Expr) (i : Expr) (xs : List StepIndex) (x : StepIndex) → AreIndices (is ++ i ∷ []) (xs ++ x ∷ []) a sc v → AreIndices is xs a sc v × IsIndexBy x (meaning i) a sc v
-  indices-last [] i [] x h = (tt, h.0)
-  indices-last [] i (y ∷ xs) x h = absurd (none-left xs x h.1)
-  indices-last (j ∷ is) i [] x h = absurd (none-right is i h.1)
-  indices-last (j ∷ is) i (y ∷ xs) x h = (let rest = indices-last is i xs x h.1 in ((h.0, rest.0), rest.1))
+  pub pairs-last : (is : List Expr) (i : Expr) (xs : List StepIndex) (x : StepIndex) → Pairwise F (is ++ i ∷ []) (xs ++ x ∷ []) → Pairwise F is xs × F i x
+  pairs-last [] i [] x h = (tt, h.0)
+  pairs-last [] i (y ∷ xs) x h = absurd (none-left xs x h.1)
+  pairs-last (j ∷ is) i [] x h = absurd (none-right is i h.1)
+  pairs-last (j ∷ is) i (y ∷ xs) x h = (let rest = pairs-last is i xs x h.1 in ((h.0, rest.0), rest.1))
 
 -- the first select of all stays so above others
 pub begins-Member : (k : ℕ) (ss : List Select) → BeginsAtElement (Member k ∷ ss) → BeginsAtElement ss

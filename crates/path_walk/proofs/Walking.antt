@@ -24,6 +24,7 @@ use Rattle.eval_parts.specs.Steps.{is_path, IsValued}
 use Rattle.eval_parts.proofs.Selecting as E
 use Rattle.lowering_laws.specs.Steps.{IsPath}
 use Rattle.lowering_laws.proofs.Wholes.{type-whole}
+use Rattle.lowering_laws.specs.NamedImages.{AreImages}
 use Rattle.path_flatten.specs.declared.readings.Root.{Root}
 use Rattle.path_flatten.specs.declared.readings.Root.TheVariants as R
 use Rattle.path_flatten.specs.declared.readings.Reading.{Reading}
@@ -33,15 +34,17 @@ use Rattle.path_flatten.specs.Reading.{IsVector, Reads}
 use Rattle.path_flatten.specs.Stepping.{ReadsMember, ReadsBetween, ReadsName, ReadsValue}
 use Rattle.path_flatten.specs.Storing.{ReadsPath}
 use Rattle.path_flatten.proofs.Helping.{helps-before}
-use Rattle.path_flatten.proofs.Naming.{same-itself, same-by, same-then, same-joined}
+use Rattle.path_flatten.proofs.Naming.{same-itself, same-by, same-turned, same-then, same-joined}
+use Rattle.path_steps.specs.Stands.{stand_names}
+use Rattle.path_steps.proofs.PathNames.{IsNamed, NamedStep, images-like, images-of, step-images, fixed-images, step-named, stands-named}
 use Rattle.path_steps.proofs.PathSteps as W
 use Rattle.path_walk.specs.declared.indices.StepIndex.{StepIndex}
-use Rattle.path_walk.specs.Bases.{signal_name, local_name, is_memory, IsMemoryAt, Stand, Vector, Memory, Value, value_stand, signal_stand, stand_in, stand_of, HoldsBits, stand_names, ReadsStand, NamesStand}
-use Rattle.path_walk.specs.Indices.{index_names, all_names, ReadsElementBy, ReadsSlideBy, ReadsWordBy, NamesStep, NamesWordBy}
+use Rattle.path_walk.specs.Bases.{signal_name, local_name, is_memory, IsMemoryAt, Stand, Vector, Memory, Value, value_stand, signal_stand, stand_in, stand_of, HoldsBits, stand_numbers, ReadsStand, NamesStand}
+use Rattle.path_walk.specs.Indices.{IsIndexBy, NameImages, index_names, all_names, ReadsElementBy, ReadsSlideBy, ReadsWordBy, NamesStep, NamesWordBy}
 use Rattle.path_walk.specs.Selects.{Select, Member, Index, Part, Slide, Last, Signal, Local, Other, Selected, last, IsRoot, IsPathOn, indices_of, BeginsAtElement}
-use Rattle.path_walk.specs.Flattening.{TextHolds, path_names, Found, Finds, FindsElement, Flattens}
+use Rattle.path_walk.specs.Flattening.{TextHolds, path_names, Found, Finds, FindsElement, Flattens, StandsFor}
 use Rattle.path_walk.proofs.Lasts.{last-Signal, last-Local, last-Member, last-Index, last-Part, last-Slide, last-plain, at-root, at-select}
-use Rattle.path_walk.proofs.Lists.{count-last, none-last, no-items, names-last, indices-last, begins-Member, begins-Part, begins-Slide}
+use Rattle.path_walk.proofs.Lists.{count-last, none-last, no-items, names-last, pairs-last, begins-Member, begins-Part, begins-Slide}
 use Rattle.path_walk.proofs.Typed.{member-path, index-path, part-path, slide-path}
 
 length-bits : (v : Valuation) (n k w : ℕ) → length (bits_from v n k w) ≡ w
@@ -60,7 +63,7 @@ signal-vector : (b : Bool) (name : Name) (e : S.Meaning) (a : Around) (sc : Scop
 signal-vector true name e a sc v h = absurd h.1
 signal-vector false name e a sc v h = h
 
-signal-names : (b : Bool) (name : Name) (sc : Scope) → stand_names (signal_stand b name) sc ≡ (named sc.names name).number ∷ []
+signal-names : (b : Bool) (name : Name) (sc : Scope) → stand_numbers (signal_stand b name) sc ≡ (named sc.names name).number ∷ []
 signal-names true name sc = refl
 signal-names false name sc = refl
 
@@ -79,20 +82,30 @@ holds-below (Vector name) e above below a sc v begins h = h
 holds-below (Memory name) e above below a sc v begins h = (h.0, begins h.1)
 holds-below (Value m) e above below a sc v begins h = h
 
+all-ended : (ns : List ℕ) (xs : List StepIndex) (x : StepIndex) (sc : Scope) → ns ++ all_names (xs ++ x ∷ []) sc ≡ (ns ++ all_names xs sc) ++ index_names x sc
+all-ended ns xs x sc = ap (λ l. ns ++ l) (names-last xs x sc) ∙ sym (append_assoc ns (all_names xs sc) (index_names x sc))
+
 names-ended : (ns : List ℕ) (xs : List StepIndex) (x : StepIndex) (old r : Reading) (sc : Scope) → SameNumbers (ns ++ all_names xs sc) (root_names old.root sc) → NamesStep old x r
     → SameNumbers (ns ++ all_names (xs ++ x ∷ []) sc) (root_names r.root sc)
 names-ended ns xs x old r sc before step =
-    let all : ns ++ all_names (xs ++ x ∷ []) sc ≡ (ns ++ all_names xs sc) ++ index_names x sc =
-    ap (λ l. ns ++ l) (names-last xs x sc) ∙ sym (append_assoc ns (all_names xs sc) (index_names x sc)) in
-    subst (λ l. SameNumbers l (root_names r.root sc)) (sym all)
+    subst (λ l. SameNumbers l (root_names r.root sc)) (sym (all-ended ns xs x sc))
     (same-then ((ns ++ all_names xs sc) ++ index_names x sc) (root_names old.root sc ++ index_names x sc) (root_names r.root sc)
     (same-joined (ns ++ all_names xs sc) (root_names old.root sc) (index_names x sc) (index_names x sc) before (same-itself (index_names x sc))) (step sc))
+
+-- so do the images of what is named
+images-ended : (image : ℕ → ℕ) (e from : S.Meaning) (ix : List S.Named) (ns : List ℕ) (xs : List StepIndex) (x : StepIndex) (sc : Scope) → NamedStep e from ix
+    → AreImages image (stand_names from) (ns ++ all_names xs sc) → AreImages image ix (index_names x sc) → AreImages image (stand_names e) (ns ++ all_names (xs ++ x ∷ []) sc)
+images-ended image e from ix ns xs x sc step h g =
+    step-images image e from ix (ns ++ all_names xs sc) (index_names x sc) (ns ++ all_names (xs ++ x ∷ []) sc) step h g (same-by _ _ (sym (all-ended ns xs x sc)))
+
+images-of-root : (image : ℕ → ℕ) (e : S.Meaning) (ns : List ℕ) (xs : List StepIndex) (sc : Scope) → xs ≡ [] → AreImages image (stand_names e) ns → AreImages image (stand_names e) (ns ++ all_names xs sc)
+images-of-root image e ns xs sc none h = subst (AreImages image (stand_names e)) (sym (append-nil ns) ∙ ap (λ l. ns ++ all_names l sc) (sym none)) h
 
 module _ (names : NameMap) (value : Option T.Meaning) where
   abbrev Counted : Expr → List StepIndex → List Helper → Reading → Expr → List Select → Type 0
   Counted e xs hs r base ss = length xs ≡ length (indices_of ss) → Found names value base ss e xs hs r
 
-  root-named : (e : Expr) (xs : List StepIndex) (r : Reading) (name : Name) (sc : Scope) → stand_names (stand_of names value e) sc ≡ (named sc.names name).number ∷ [] → xs ≡ [] → r.root ≡ R.Name name
+  root-named : (e : Expr) (xs : List StepIndex) (r : Reading) (name : Name) (sc : Scope) → stand_numbers (stand_of names value e) sc ≡ (named sc.names name).number ∷ [] → xs ≡ [] → r.root ≡ R.Name name
       → SameNumbers (path_names names value e xs sc) (root_names r.root sc)
   root-named e xs r name sc stand none root =
       same-by (path_names names value e xs sc) (root_names r.root sc)
@@ -110,8 +123,10 @@ module _ (names : NameMap) (value : Option T.Meaning) where
             (let path = W.signal-path (layout e.of) e.spot.at n a in
             let window = subst (λ (m : S.Meaning). m.window a ≡ whole (S.wide m)) (sym (E.same-Signal e n is)) (path.window ∙ ap whole (sym path.wide)) in
             whole-reads (meaning e) w name r a sc v width window reads (signal-vector b name (meaning e) a sc v (subst (λ s. HoldsBits s (meaning e) [] a sc v) stand st.holds)));
-        named = λ sc. root-named e xs r name sc (ap (λ s. stand_names s sc) stand ∙ signal-names b name sc) (no-items xs count) root;
+        named = λ sc. root-named e xs r name sc (ap (λ s. stand_numbers s sc) stand ∙ signal-names b name sc) (no-items xs count) root;
+        images = λ image sc h g. images-of-root image (meaning e) (stand_numbers (stand_of names value e) sc) xs sc (no-items xs count) h;
         path = λ kind a. W.step-path e (Q.Signal n) a is;
+        kept = λ kind. stands-named (meaning e) (W.path-named e (Q.Signal n) is);
       })
 
   pub finds-Local : (e : Expr) (xs : List StepIndex) (hs : List Helper) (n w : ℕ) (name : Name) (r : Reading) → e.form ≡ V.Local n → name ≡ local_name names.locals n → w ≡ S.wide (meaning e)
@@ -124,8 +139,10 @@ module _ (names : NameMap) (value : Option T.Meaning) where
             (let path = W.local-path (layout e.of) e.spot.at n a in
             let window = subst (λ (m : S.Meaning). m.window a ≡ whole (S.wide m)) (sym (E.same-Local e n is)) (path.window ∙ ap whole (sym path.wide)) in
             whole-reads (meaning e) w name r a sc v width window reads (subst (λ s. HoldsBits s (meaning e) [] a sc v) stand st.holds));
-        named = λ sc. root-named e xs r name sc (ap (λ s. stand_names s sc) stand) (no-items xs count) root;
+        named = λ sc. root-named e xs r name sc (ap (λ s. stand_numbers s sc) stand) (no-items xs count) root;
+        images = λ image sc h g. images-of-root image (meaning e) (stand_numbers (stand_of names value e) sc) xs sc (no-items xs count) h;
         path = λ kind a. W.step-path e (Q.Local n) a is;
+        kept = λ kind. stands-named (meaning e) (W.path-named e (Q.Local n) is);
       })
 
   -- what has another form
@@ -137,10 +154,12 @@ module _ (names : NameMap) (value : Option T.Meaning) where
       at-root e (subst IsRoot (sym last_is) tt) (Counted e xs hs r) (λ count. record {
         reads = λ a sc v st. value-reads value e w r a sc v valued width reads (subst (λ s. HoldsBits s (meaning e) [] a sc v) stand st.holds);
         named = λ sc.
-            (let none : stand_names (value_stand value) sc ≡ path_names names value e xs sc =
-            sym (append-nil (stand_names (value_stand value) sc)) ∙ (λ i. stand_names (sym stand i) sc ++ all_names (sym (no-items xs count) i) sc) in
+            (let none : stand_numbers (value_stand value) sc ≡ path_names names value e xs sc =
+            sym (append-nil (stand_numbers (value_stand value) sc)) ∙ (λ i. stand_numbers (sym stand i) sc ++ all_names (sym (no-items xs count) i) sc) in
             subst (λ l. SameNumbers l (root_names r.root sc)) none (named_all sc));
+        images = λ image sc h g. images-of-root image (meaning e) (stand_numbers (stand_of names value e) sc) xs sc (no-items xs count) h;
         path = λ kind a. absurd (true≢false (sym kind ∙ plain));
+        kept = λ kind. absurd (true≢false (sym kind ∙ plain));
       })
 
   -- selects without an index
@@ -161,7 +180,11 @@ module _ (names : NameMap) (value : Option T.Meaning) where
               helps = st.helps;
             })));
         named = λ sc. subst (λ (y : Root). SameNumbers (path_names names value base xs sc) (root_names y sc)) (sym root) (from.named sc);
+        images = λ image sc h g.
+            subst (λ (m : S.Meaning). AreImages image (stand_names m) (path_names names value base xs sc)) (sym level)
+            (fixed-images image (P.member (layout e.of) e.spot.at (meaning x) k) (meaning x) (path_names names value base xs sc) (W.member-named (layout e.of) e.spot.at (meaning x) k) (from.images image sc h g));
         path = λ kind a. subst (λ (m : S.Meaning). IsPath m a) (sym level) (member-path (layout e.of) e.spot.at (meaning x) k a);
+        kept = λ kind. stands-named (meaning e) (subst IsNamed (sym level) (step-named _ (meaning x) [] (W.member-named (layout e.of) e.spot.at (meaning x) k)));
       })
 
   pub finds-Part : (e x : Expr) (left right : ℤ) (xs : List StepIndex) (hs : List Helper) (old r : Reading) → e.form ≡ V.Part x left right → (meaning e).misfits ≡ 0 → Finds names value x xs hs old
@@ -181,7 +204,11 @@ module _ (names : NameMap) (value : Option T.Meaning) where
               helps = st.helps;
             })));
         named = λ sc. subst (λ (y : Root). SameNumbers (path_names names value base xs sc) (root_names y sc)) (sym root) (from.named sc);
+        images = λ image sc h g.
+            subst (λ (m : S.Meaning). AreImages image (stand_names m) (path_names names value base xs sc)) (sym level)
+            (fixed-images image (P.part_select (layout e.of) e.spot.at (meaning x) left right) (meaning x) (path_names names value base xs sc) (W.part-named (layout e.of) e.spot.at (meaning x) left right) (from.images image sc h g));
         path = λ kind a. subst (λ (m : S.Meaning). IsPath m a) (sym level) (part-path (layout e.of) e.spot.at (meaning x) left right a);
+        kept = λ kind. stands-named (meaning e) (subst IsNamed (sym level) (step-named _ (meaning x) [] (W.part-named (layout e.of) e.spot.at (meaning x) left right)));
       })
 
   -- by an index
@@ -194,7 +221,7 @@ module _ (names : NameMap) (value : Option T.Meaning) where
       let from = found base ss on (count-last xs x (indices_of ss) i count) in
       record {
         reads = λ a sc v st.
-            (let given = indices-last a sc v (indices_of ss) i xs x st.indices in
+            (let given = pairs-last (λ j z. IsIndexBy z (meaning j) a sc v) (indices_of ss) i xs x st.indices in
             subst (λ (m : S.Meaning). Reads r m a sc v) (sym level)
             (reads (P.sliding (layout e.of) e.spot.at (meaning y) (meaning i) n up) (meaning y) (meaning i) a sc v (heads y).kind (W.slide-step (layout e.of) e.spot.at (meaning y) (meaning i) n up a)
             (W.slide-wide (layout e.of) e.spot.at (meaning y) (meaning i) n up typed_at) (subst (λ (m : S.Meaning). 1 ≤ S.wide m) level (has-bits e typed)) (has-bits y typed_y) given.1 st.helps
@@ -203,8 +230,14 @@ module _ (names : NameMap) (value : Option T.Meaning) where
               indices = given.0;
               helps = helps-before old_hs hs sc grows st.helps;
             }))));
-        named = λ sc. names-ended (stand_names (stand_of names value base) sc) xs x old r sc (from.named sc) step;
+        named = λ sc. names-ended (stand_numbers (stand_of names value base) sc) xs x old r sc (from.named sc) step;
+        images = λ image sc h g.
+            (let given = pairs-last (λ j z. AreImages image (meaning j).names (index_names z sc)) (indices_of ss) i xs x g in
+            subst (λ (m : S.Meaning). AreImages image (stand_names m) (path_names names value base (xs ++ x ∷ []) sc)) (sym level)
+            (images-ended image (P.sliding (layout e.of) e.spot.at (meaning y) (meaning i) n up) (meaning y) (meaning i).names (stand_numbers (stand_of names value base) sc) xs x sc
+            (W.slide-named (layout e.of) e.spot.at (meaning y) (meaning i) n up) (from.images image sc h given.0) given.1));
         path = λ kind a. subst (λ (m : S.Meaning). IsPath m a) (sym level) (slide-path (layout e.of) e.spot.at (meaning y) (meaning i) n up a);
+        kept = λ kind. stands-named (meaning e) (subst IsNamed (sym level) (step-named _ (meaning y) _ (W.slide-named (layout e.of) e.spot.at (meaning y) (meaning i) n up)));
       })
 
   -- a memory is no plain root, so that the first select of all stands above it
@@ -238,7 +271,7 @@ module _ (names : NameMap) (value : Option T.Meaning) where
       let from = found base ss on (count-last xs x (indices_of ss) i count) in
       record {
         reads = λ a sc v st.
-            (let given = indices-last a sc v (indices_of ss) i xs x st.indices in
+            (let given = pairs-last (λ j z. IsIndexBy z (meaning j) a sc v) (indices_of ss) i xs x st.indices in
             subst (λ (m : S.Meaning). Reads r m a sc v) (sym level)
             (reads (P.index (layout e.of) e.spot.at (meaning y) (meaning i)) (meaning y) (meaning i) a sc v (heads y).kind (W.index-step (layout e.of) e.spot.at (meaning y) (meaning i) a)
             (W.index-wide (layout e.of) e.spot.at (meaning y) (meaning i) typed_at) (subst (λ (m : S.Meaning). 1 ≤ S.wide m) level (has-bits e typed)) (has-bits y typed_y) given.1 st.helps
@@ -247,8 +280,14 @@ module _ (names : NameMap) (value : Option T.Meaning) where
               indices = given.0;
               helps = helps-before old_hs hs sc grows st.helps;
             }))));
-        named = λ sc. names-ended (stand_names (stand_of names value base) sc) xs x old r sc (from.named sc) step;
+        named = λ sc. names-ended (stand_numbers (stand_of names value base) sc) xs x old r sc (from.named sc) step;
+        images = λ image sc h g.
+            (let given = pairs-last (λ j z. AreImages image (meaning j).names (index_names z sc)) (indices_of ss) i xs x g in
+            subst (λ (m : S.Meaning). AreImages image (stand_names m) (path_names names value base (xs ++ x ∷ []) sc)) (sym level)
+            (images-ended image (P.index (layout e.of) e.spot.at (meaning y) (meaning i)) (meaning y) (meaning i).names (stand_numbers (stand_of names value base) sc) xs x sc
+            (W.index-named (layout e.of) e.spot.at (meaning y) (meaning i)) (from.images image sc h given.0) given.1));
         path = λ kind a. subst (λ (m : S.Meaning). IsPath m a) (sym level) (index-path (layout e.of) e.spot.at (meaning y) (meaning i) a);
+        kept = λ kind. stands-named (meaning e) (subst IsNamed (sym level) (step-named _ (meaning y) _ (W.index-named (layout e.of) e.spot.at (meaning y) (meaning i))));
       })
 
   -- all elements of what has bits
@@ -271,16 +310,22 @@ module _ (names : NameMap) (value : Option T.Meaning) where
       let none = no-items xs (count-last xs x [] i count) in
       record {
         reads = λ a sc v st.
-            (let given = indices-last a sc v [] i xs x st.indices in
+            (let given = pairs-last (λ j z. IsIndexBy z (meaning j) a sc v) [] i xs x st.indices in
             let holds = subst (λ s. HoldsBits s (meaning y) (Index i ∷ []) a sc v) stand st.holds in
             subst (λ (m : S.Meaning). Reads r m a sc v) (sym level)
             (reads (P.index (layout e.of) e.spot.at (meaning y) (meaning i)) (meaning y) (meaning i) a sc v (heads y).kind (index-path (layout e.of) e.spot.at (meaning y) (meaning i) a)
             (W.index-step (layout e.of) e.spot.at (meaning y) (meaning i) a) (W.index-wide (layout e.of) e.spot.at (meaning y) (meaning i) typed_at) (all-elements y typed_y) holds.0 given.1));
         named = λ sc.
             (let all : path_names names value y (xs ++ x ∷ []) sc ≡ (named sc.names name).number ∷ index_names x sc =
-            (λ d. stand_names (stand d) sc ++ names-last xs x sc d) ∙ ap (λ l. (named sc.names name).number ∷ all_names l sc ++ index_names x sc) none in
+            (λ d. stand_numbers (stand d) sc ++ names-last xs x sc d) ∙ ap (λ l. (named sc.names name).number ∷ all_names l sc ++ index_names x sc) none in
             subst (λ l. SameNumbers l (root_names r.root sc)) (sym all) (named_all sc));
+        images = λ image sc h g.
+            (let given = pairs-last (λ j z. AreImages image (meaning j).names (index_names z sc)) [] i xs x g in
+            subst (λ (m : S.Meaning). AreImages image (stand_names m) (path_names names value y (xs ++ x ∷ []) sc)) (sym level)
+            (images-ended image (P.index (layout e.of) e.spot.at (meaning y) (meaning i)) (meaning y) (meaning i).names (stand_numbers (stand_of names value y) sc) xs x sc
+            (W.index-named (layout e.of) e.spot.at (meaning y) (meaning i)) (images-of-root image (meaning y) (stand_numbers (stand_of names value y) sc) xs sc none h) given.1));
         path = λ kind a. subst (λ (m : S.Meaning). IsPath m a) (sym level) (index-path (layout e.of) e.spot.at (meaning y) (meaning i) a);
+        kept = λ kind. stands-named (meaning e) (subst IsNamed (sym level) (step-named _ (meaning y) _ (W.index-named (layout e.of) e.spot.at (meaning y) (meaning i))));
       }))
 
   -- a path lacks an index
@@ -302,4 +347,15 @@ module _ (names : NameMap) (value : Option T.Meaning) where
             reads (meaning e) a sc v (heads e).kind (found.path kind a) (has-bits e typed)
             (found.reads a sc v (record { holds = st.holds; indices = st.indices; helps = helps-before old_hs hs sc grows st.helps })) st.helps;
         named = λ sc. same-then (path_names names value base xs sc) (root_names r.root sc) (m.names sc) (found.named sc) (named_all sc);
+      }
+
+  pub stands-found : (e : Expr) (xs : List StepIndex) (old_hs hs : List Helper) (r : Reading) (m : T.Meaning) → (meaning e).misfits ≡ 0 → Grows old_hs hs → Finds names value e xs old_hs r
+      → ReadsPath r e.of hs m → NamesRoot r.root m → StandsFor names value e xs hs m
+  stands-found e xs old_hs hs r m typed grows finds reads named_all base ss im a sc kind on count all =
+      let found = finds base ss on count in
+      let flat = flattens-found e xs old_hs hs r m typed grows finds reads named_all base ss kind on count in
+      let images = images-like im.number (stand_names (meaning e)) (path_names names value base xs sc) (m.names sc) (found.images im.number sc all.base_images all.index_images) (flat.named sc) in
+      record {
+        stands = λ w s now v agree. flat.same (record a { now = now }) sc v (all.holds now v agree) w s;
+        named = images-of im.number (stand_names (meaning e)) (meaning e).names (m.names sc) images (same-turned _ _ (found.kept kind));
       }

@@ -73,10 +73,10 @@ HoldsBits (Memory name) e ss a sc v = IsMemory e a (named sc.names name) v × Be
 HoldsBits (Value m) e ss a sc v = SameAlone e a m sc v
 
 -- what it names
-abbrev pub stand_names : Stand → Scope → List ℕ
-stand_names (Vector name) sc = (named sc.names name).number ∷ []
-stand_names (Memory name) sc = (named sc.names name).number ∷ []
-stand_names (Value m) sc = m.names sc
+abbrev pub stand_numbers : Stand → Scope → List ℕ
+stand_numbers (Vector name) sc = (named sc.names name).number ∷ []
+stand_numbers (Memory name) sc = (named sc.names name).number ∷ []
+stand_numbers (Value m) sc = m.names sc
 
 -- the reading of all of its bits, if it is no memory
 abbrev pub ReadsStand : Stand → ℕ → Reading → Type 0
@@ -85,4 +85,4 @@ ReadsStand (Memory name) w r = ⊤
 ReadsStand (Value m) w r = ReadsValue m w r
 
 abbrev pub NamesStand : Stand → Reading → Type 0
-NamesStand s r = (sc : Scope) → SameNumbers (stand_names s sc) (root_names r.root sc)
+NamesStand s r = (sc : Scope) → SameNumbers (stand_numbers s sc) (root_names r.root sc)

@@ -13,6 +13,7 @@ use Rattle.v_tree.specs.Names.{Name}
 use Rattle.v_tree.specs.declared.names.Helper.{Helper}
 use Rattle.v_meaning.specs.Scopes.{Scope, named}
 use Rattle.v_meaning.specs.Values as T
+use Rattle.lowering_laws.specs.NamedImages.{AreImages}
 use Rattle.lowering_laws.specs.Steps.{IsPath}
 use Rattle.lowering_laws.specs.Words.{IsMemory}
 use Rattle.path_flatten.specs.declared.readings.Reading.{Reading}
@@ -30,11 +31,14 @@ IsIndexBy (I.Known z) i a sc v = P.index_of i a ≡ z
 IsIndexBy (I.Lowered x) i a sc v = IsIndexOf x i a sc v
 
 -- one by one
+abbrev pub Pairwise : (Expr → StepIndex → Type 0) → List Expr → List StepIndex → Type 0
+Pairwise F [] [] = ⊤
+Pairwise F [] (x ∷ xs) = ⊥
+Pairwise F (i ∷ is) [] = ⊥
+Pairwise F (i ∷ is) (x ∷ xs) = F i x × Pairwise F is xs
+
 abbrev pub AreIndices : List Expr → List StepIndex → Around → Scope → Valuation → Type 0
-AreIndices [] [] a sc v = ⊤
-AreIndices [] (x ∷ xs) a sc v = ⊥
-AreIndices (i ∷ is) [] a sc v = ⊥
-AreIndices (i ∷ is) (x ∷ xs) a sc v = IsIndexBy x (meaning i) a sc v × AreIndices is xs a sc v
+AreIndices is xs a sc v = Pairwise (λ i x. IsIndexBy x (meaning i) a sc v) is xs
 
 -- what it names, and what all of them do
 abbrev pub index_names : StepIndex → Scope → List ℕ
@@ -44,6 +48,10 @@ index_names (I.Lowered x) sc = (T.meaning x.expr).names sc
 abbrev pub all_names : List StepIndex → Scope → List ℕ
 all_names [] sc = []
 all_names (x ∷ xs) sc = index_names x sc ++ all_names xs sc
+
+-- each names the images of what the index of the source names
+abbrev pub NameImages : (ℕ → ℕ) → List Expr → List StepIndex → Scope → Type 0
+NameImages image is xs sc = Pairwise (λ i x. AreImages image (meaning i).names (index_names x sc)) is xs
 
 -- it has at most 64 bits
 abbrev pub IsShort : StepIndex → Type 0
