@@ -359,3 +359,11 @@ module _ (names : NameMap) (value : Option T.Meaning) where
         stands = λ w s now v agree. flat.same (record a { now = now }) sc v (all.holds now v agree) w s;
         named = images-of im.number (stand_names (meaning e)) (meaning e).names (m.names sc) images (same-turned _ _ (found.kept kind));
       }
+
+  -- how many bits an indexed part-select has
+  pub slide-size : (e x i : Expr) (n : ℕ) (up : Bool) → e.form ≡ V.Slide x i n up → (meaning e).misfits ≡ 0 → S.wide (meaning e) ≡ n * length (layout x.of).element.two_state
+  slide-size e x i n up is typed =
+      let level = E.same-Slide e x i n up is in
+      ap (λ (m : S.Meaning). S.wide m) level
+      ∙ W.slide-wide (layout e.of) e.spot.at (meaning x) (meaning i) n up (subst (λ (m : S.Meaning). m.misfits ≡ 0) level typed)
+      ∙ ap (λ (l : Layout). n * length l.element.two_state) (heads x).kind

@@ -1,11 +1,11 @@
 //! Whole select paths, from their last step down to what they stand on.
 
-ghost use Rattle.std.specs.Prelude.{◌≡◌, ◌≤◌, IfOk, OnOk};
+ghost use Rattle.std.specs.Prelude.{◌≡◌, ◌≤◌, option_copied, IfOk, OnOk};
 ghost use Rattle.sv_types.specs.Expressions.{meaning};
 ghost use Rattle.v_meaning.specs.Values as means;
 ghost use Rattle.path_flatten.specs.Helping.{Grows};
 ghost use Rattle.path_flatten.specs.Stepping.{IsSound};
-ghost use Rattle.path_walk.specs.Bases.{value_of, IsMemoryAt};
+ghost use Rattle.path_walk.specs.Bases.{value_of};
 ghost use Rattle.path_walk.specs.Indices.{IsShort, AllShort};
 ghost use Rattle.path_walk.specs.Flattening.{Finds, FindsElement, Flattens, StandsFor};
 
@@ -36,7 +36,7 @@ fn follow(
     requires short { AllShort indices.now }
     ensures grows { OnOk result (Grows helpers.old helpers.new) }
     ensures sound { IfOk result IsSound }
-    ensures finds { IfOk result (Finds names.now (value_of base) e.now indices.now helpers.new) }
+    ensures finds { IfOk result (Finds names.now (value_of (option_copied base.entry)) e.now indices.now helpers.new) }
 {
     match step_of(e) {
         None => {
@@ -106,7 +106,7 @@ fn element(
     requires short { AllShort rest.now }
     ensures grows { OnOk result (Grows helpers.old helpers.new) }
     ensures sound { IfOk result IsSound }
-    ensures finds { IfOk result (FindsElement names.now (value_of base) from.now at.now rest.now helpers.new) }
+    ensures finds { IfOk result (FindsElement names.now (value_of (option_copied base.entry)) from.now at.now rest.now helpers.new) }
 {
     match memory_at(names.signals.as_slice(), from) {
         Some(n) => {
@@ -136,8 +136,8 @@ pub fn flatten(
     requires narrow { (meaning e.now).widest ≤ 4194304 }
     requires short { AllShort indices.now }
     ensures grows { OnOk result (Grows helpers.old helpers.new) }
-    ensures flattens { IfOk result (λ m. Flattens names.now (value_of base) e.now indices.now helpers.new (means.meaning m)) }
-    ensures stands { IfOk result (λ m. StandsFor names.now (value_of base) e.now indices.now helpers.new (means.meaning m)) }
+    ensures flattens { IfOk result (λ m. Flattens names.now (value_of (option_copied base.entry)) e.now indices.now helpers.new (means.meaning m)) }
+    ensures stands { IfOk result (λ m. StandsFor names.now (value_of (option_copied base.entry)) e.now indices.now helpers.new (means.meaning m)) }
 {
     let reading = follow(alloc, names, e, base, indices, helpers)?;
     let made = read(alloc, reading, &e.of, helpers)?;

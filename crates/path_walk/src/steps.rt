@@ -5,6 +5,7 @@ ghost use Rattle.sv_types.specs.Layouts.{layout, width_of};
 ghost use Rattle.path_flatten.specs.Helping.{Grows};
 ghost use Rattle.path_flatten.specs.Stepping.{IsSound};
 ghost use Rattle.path_walk.specs.Bases.{signal_name};
+ghost use Rattle.path_walk.specs.declared.indices.StepIndex.TheVariants as kinds;
 ghost use Rattle.path_walk.specs.Indices.{IsShort, ReadsElementBy, ReadsSlideBy, ReadsWordBy, NamesStep, NamesWordBy};
 
 use crate::indices::{StepIndex, copy_index};
@@ -82,8 +83,8 @@ fn lowered_word(
     requires some { 1 ≤ width_of of.now }
     requires short { index.width ≤ 64 }
     ensures sound { IfOk result IsSound }
-    ensures reads { IfOk result (ReadsWordBy (signal_name names.now n) of.now (StepIndex::Lowered index)) }
-    ensures names { IfOk result (NamesWordBy (signal_name names.now n) (StepIndex::Lowered index)) }
+    ensures reads { IfOk result (ReadsWordBy (signal_name names.now n) of.now (kinds.Lowered index)) }
+    ensures names { IfOk result (NamesWordBy (signal_name names.now n) (kinds.Lowered index)) }
 {
     let memory = signal_text(alloc, names, n);
     let (memory, word) = both(memory, word_number(alloc, index, of))?;
