@@ -1,9 +1,12 @@
 //! The texts that expressions are lowered to.
 
+use crate::designs::{ARITHMETIC, DESIGNS};
 use crate::forms::{CASTS, OPERATORS};
 use crate::lowered::text_of;
 use crate::memories::WORDS;
 use crate::paths::{BASES, INDICES, STEPS};
+use crate::targets::{KNOWN, OTHERS};
+use crate::written::targets_of;
 use std::alloc::{AllocError, Global};
 use std::test::Fail;
 use tree_words::{Word, expression};
@@ -13,6 +16,21 @@ fn first_wrong(alloc: Global, table: &[(&[Word], u32, &str)]) -> Result<Option<u
     for (i, (words, width, wanted)) in table.iter().enumerate() {
         let e = expression(alloc, words)?;
         let text = text_of(alloc, &e, *width, false)?;
+        if text.as_bytes() != wanted.as_bytes() {
+            return Ok(Some(i));
+        }
+    }
+    Ok(None)
+}
+
+/// The place of the first path that has other targets.
+fn first_wrong_target(
+    alloc: Global,
+    table: &[(&[Word], &str)],
+) -> Result<Option<usize>, AllocError> {
+    for (i, (words, wanted)) in table.iter().enumerate() {
+        let e = expression(alloc, words)?;
+        let text = targets_of(alloc, &e)?;
         if text.as_bytes() != wanted.as_bytes() {
             return Ok(Some(i));
         }
@@ -53,5 +71,29 @@ fn operators(rt: HostRuntime) -> Result<(), Fail> {
 #[test]
 fn casts(rt: HostRuntime) -> Result<(), Fail> {
     assert_eq!(rt; first_wrong(rt.alloc(), CASTS)?, None);
+    Ok(())
+}
+
+#[test]
+fn designs(rt: HostRuntime) -> Result<(), Fail> {
+    assert_eq!(rt; first_wrong(rt.alloc(), DESIGNS)?, None);
+    Ok(())
+}
+
+#[test]
+fn arithmetic(rt: HostRuntime) -> Result<(), Fail> {
+    assert_eq!(rt; first_wrong(rt.alloc(), ARITHMETIC)?, None);
+    Ok(())
+}
+
+#[test]
+fn known_targets(rt: HostRuntime) -> Result<(), Fail> {
+    assert_eq!(rt; first_wrong_target(rt.alloc(), KNOWN)?, None);
+    Ok(())
+}
+
+#[test]
+fn other_targets(rt: HostRuntime) -> Result<(), Fail> {
+    assert_eq!(rt; first_wrong_target(rt.alloc(), OTHERS)?, None);
     Ok(())
 }

@@ -11,7 +11,7 @@ use sv_types::Expr;
 use v_tree::{FunctionNames, LocalName, LocalNames, NameMap, SignalName, SignalNames};
 
 /// Names of signals and locals: a, b, c and so on, the memory m, and t.
-fn names(alloc: Global) -> Result<NameMap, AllocError> {
+pub fn names(alloc: Global) -> Result<NameMap, AllocError> {
     let mut signals = SignalNames::new(alloc);
     for (signal, letter) in (0u32..).zip("abcdefgh".bytes()) {
         let name = Text::from_bytes(alloc, &[letter])?;
