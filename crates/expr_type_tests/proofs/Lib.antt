@@ -1,0 +1,4 @@
+mod Full
+mod Lists
+mod Sound
+mod Trees
