@@ -6,7 +6,7 @@ use crate::printing::{Printer, Shown};
 use crate::typing::{Answer, Lines, answers};
 use crate::written::parts_of;
 use package_scope::{NameTable, scopes};
-use plain_text::read_text;
+use plain_text::read_tree;
 use std::alloc::{AllocError, Global};
 use sv_source::Fail;
 use sv_tree::SourceTree;
@@ -124,8 +124,8 @@ pub fn answers_of(
     if text.len() > LONGEST {
         return refused(alloc, &Fail::Memory, lines);
     }
-    match read_text(alloc, text) {
-        Ok(tree) => named_rows(alloc, &tree, lines, shown),
+    match read_tree(alloc, text) {
+        Ok(read) => named_rows(alloc, &read.tree, lines, shown),
         Err(fail) => refused(alloc, &fail, lines),
     }
 }

@@ -1,7 +1,6 @@
 //! What declarations bring into a frame.
 
-ghost use Rattle.std.specs.Prelude.{◌≡◌, true, IfOk};
-ghost use Rattle.plain_text.specs.Trees.{IsRead};
+ghost use Rattle.std.specs.Prelude.{◌≡◌, true};
 ghost use Rattle.routine_fits.specs.Sound.{AllSoundFunctions};
 ghost use Rattle.typing_parts.specs.Typists.{CalledTo, IsReady, MakesKnown};
 ghost use Rattle.typing_scopes.specs.Scopes.{context_of};
@@ -84,6 +83,32 @@ fn brought<B: Base, C: Fn(u32, &mut Known) -> Result<u32, Halt>>(
 }
 
 // What a declaration of the text of a frame brings in.
+fn declared_in(
+    alloc: Global,
+    source: &SourceNames<'_>,
+    frame: FrameThings<'_>,
+    declaration: Declaration<'_>,
+    known: &mut Known,
+) -> Result<Declared, Halt>
+    requires sound { SoundAround source.now.tree.now frame.frame.now }
+    requires written { declaration_written declaration ≡ true }
+    requires ready { IsReady known.old }
+    ensures { IsReady known.new }
+{
+    let text = FrameText::new(alloc, source, frame, 0);
+    let depth = source.names.table().declared.len();
+    let needs = |inner: u32, k: &mut Known| -> Result<u32, Halt>
+        requires sound { SoundAround source.now.tree.now frame.frame.now }
+        requires ready { IsReady k.old }
+        ensures value { CalledTo result (means.routine depth (around source.entry.now.tree.now source.entry.now.names.now frame.entry.frame.now 0) inner k.old.functions) k.new.functions }
+        ensures ready { IsReady k.new }
+        ensures keeps { Extends k.old.functions k.new.functions }
+    { routine(alloc, source, frame, 0, depth, inner, k) };
+    let names = Scope::over(alloc, &text);
+    brought(alloc, &names, &needs, declaration, known)
+}
+
+// The same, with the places of what the frame has.
 fn declared(
     alloc: Global,
     source: &SourceNames<'_>,
@@ -98,17 +123,7 @@ fn declared(
 {
     let index = index_of(alloc, frame)?;
     let things = FrameThings::new(frame, &index);
-    let text = FrameText::new(alloc, source, things, 0);
-    let depth = source.names.table().declared.len();
-    let needs = |inner: u32, k: &mut Known| -> Result<u32, Halt>
-        requires sound { SoundAround source.now.tree.now things.frame.now }
-        requires ready { IsReady k.old }
-        ensures value { CalledTo result (means.routine depth (around source.entry.now.tree.now source.entry.now.names.now things.entry.frame.now 0) inner k.old.functions) k.new.functions }
-        ensures ready { IsReady k.new }
-        ensures keeps { Extends k.old.functions k.new.functions }
-    { routine(alloc, source, things, 0, depth, inner, k) };
-    let names = Scope::over(alloc, &text);
-    brought(alloc, &names, &needs, declaration, known)
+    declared_in(alloc, source, things, declaration, known)
 }
 
 // Puts values behind others, the latest one first.
@@ -190,8 +205,9 @@ pub fn declare(
     ensures { AllSoundFunctions frame.new.functions }
 {
     let mut known = known_of(alloc, &mut frame.functions)?;
-    let declared = declared(alloc, source, frame, declaration, &mut known);
+    let brought_in = declared(alloc, source, frame, declaration, &mut known);
     put_back(frame, known);
-    take(alloc, frame, declared?)?;
+    let brought_in = brought_in?;
+    take(alloc, frame, brought_in)?;
     Ok(())
 }

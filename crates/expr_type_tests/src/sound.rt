@@ -8,7 +8,7 @@ ghost use Rattle.sv_types.specs.Values.{bits};
 ghost use Rattle.typing_fits.specs.Operands.{AllSignalsSound, AllTypesFull, AllValuesSound, SoundConstant};
 ghost use Rattle.typing_fits.specs.Sound.{IsNarrowType};
 ghost use Rattle.typing_fits.specs.Types as types;
-ghost use Rattle.expr_type_tests.specs.Sound.{IfSo};
+ghost use Rattle.expr_type_tests.specs.Sound.{IfSo, members_full};
 
 use sv_types::{Frame, Member, ParamType, ParamValue, SignalId, SvType, Value, is_narrow, width};
 
@@ -57,9 +57,12 @@ fn is_full(t: &SvType) -> bool
 #[cycle(full)]
 #[tactic(auto, using(crate::proofs::Full::some))]
 fn are_members(members: &[Member]) -> bool
-    ensures { result ≡ are_members members.now }
+    ensures { result ≡ members_full members.now }
 {
-    !members.is_empty() && are_full(members)
+    if members.is_empty() {
+        return false;
+    }
+    are_full(members)
 }
 
 #[cycle(full)]
@@ -75,18 +78,26 @@ fn are_full(members: &[Member]) -> bool
     true
 }
 
+// Whether a type has at most 2^22 bits, and each part of it has one.
 #[tactic(auto, using(crate::proofs::Sound::types))]
 fn is_type(of: &SvType) -> bool
     ensures { IfSo result (IsNarrowType of.now) }
 {
-    is_full(of) && is_narrow(of)
+    if !is_full(of) {
+        return false;
+    }
+    is_narrow(of)
 }
 
+// Whether a value has as many bits as its type.
 #[tactic(auto, using(crate::proofs::Sound::constants))]
 fn is_constant(value: &ParamValue) -> bool
     ensures { IfSo result (SoundConstant value.now.of value.now.value) }
 {
-    is_type(&value.of) && bits_in(&value.value) == u64::from(width(&value.of))
+    if !is_type(&value.of) {
+        return false;
+    }
+    bits_in(&value.value) == u64::from(width(&value.of))
 }
 
 fn are_constants(values: &[ParamValue]) -> bool
@@ -127,7 +138,11 @@ fn are_signals(signals: &[SignalId]) -> bool
 pub fn is_sound(frame: &Frame) -> bool
     ensures { IfSo result (SoundFrame frame.now) }
 {
-    are_constants(frame.values.as_slice())
-        && are_types(frame.types.as_slice())
-        && are_signals(frame.signals.as_slice())
+    if !are_constants(frame.values.as_slice()) {
+        return false;
+    }
+    if !are_types(frame.types.as_slice()) {
+        return false;
+    }
+    are_signals(frame.signals.as_slice())
 }

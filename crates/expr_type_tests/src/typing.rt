@@ -66,11 +66,11 @@ impl Answer {
     }
 
     /// Prints a process.
-    fn print(&mut self, stmt: &Stmt, shown: Shown) {
+    fn print(&mut self, stmt: Stmt, shown: Shown) {
         self.printed.separate("; ");
         match shown {
-            Shown::Types => print_types(stmt, &mut self.printed),
-            Shown::Trees => print_stmt(stmt, &mut self.printed),
+            Shown::Types => print_types(&stmt, &mut self.printed),
+            Shown::Trees => print_stmt(&stmt, &mut self.printed),
         }
     }
 }
@@ -128,7 +128,7 @@ fn typed(
         Part::Process { first, body } => {
             match stmt_of(alloc, source, frame, first, body)? {
                 Some(stmt) => {
-                    row.print(&stmt, shown);
+                    row.print(stmt, shown);
                     Ok(true)
                 }
                 None => Ok(false),
@@ -225,8 +225,54 @@ fn begins(part: Part<'_>) -> bool {
     }
 }
 
-/// What comes of each row of a text, and behind these what comes of the text around them. Where a unit begins in another row than the
-/// one before, nothing is known of that.
+// Types the parts of a text in a frame, each for its row. Where a unit begins in another row than the one before, nothing is known of
+// that.
+fn take_all(
+    alloc: Global,
+    source: &SourceNames<'_>,
+    frame: &mut Frame,
+    parts: &[Part<'_>],
+    lines: Lines,
+    shown: Shown,
+    rows: &mut [Answer],
+)
+    requires read { IsRead source.now.tree.now }
+    requires functions { AllSoundFunctions frame.old.functions }
+    requires written { AllWritten parts.now }
+    ensures { AllSoundFunctions frame.new.functions }
+{
+    let mut last = lines.count as usize;
+    for part in parts {
+        let part = *part;
+        let at = lines.row(line_of(source, part.token()));
+        if begins(part) && at != last {
+            clear(alloc, frame);
+            last = at;
+        }
+        enter(source, frame, part);
+        if let Some(row) = rows.get_mut(at) {
+            take(alloc, source, frame, part, shown, row);
+        }
+    }
+}
+
+// The same in a frame of its own.
+fn take_in_frame(
+    alloc: Global,
+    source: &SourceNames<'_>,
+    parts: &[Part<'_>],
+    lines: Lines,
+    shown: Shown,
+    rows: &mut [Answer],
+)
+    requires read { IsRead source.now.tree.now }
+    requires written { AllWritten parts.now }
+{
+    let mut frame = nothing(alloc);
+    take_all(alloc, source, &mut frame, parts, lines, shown, rows);
+}
+
+/// What comes of each row of a text, and behind these what comes of the text around them.
 pub fn answers(
     alloc: Global,
     source: &SourceNames<'_>,
@@ -242,19 +288,6 @@ pub fn answers(
         rows.push(Answer::new(alloc))?;
     }
     rows.push(Answer::new(alloc))?;
-    let mut frame = nothing(alloc);
-    let mut last = lines.count as usize;
-    for part in parts {
-        let part = *part;
-        let at = lines.row(line_of(source, part.token()));
-        if begins(part) && at != last {
-            clear(alloc, &mut frame);
-            last = at;
-        }
-        enter(source, &mut frame, part);
-        if let Some(row) = rows.get_mut(at) {
-            take(alloc, source, &mut frame, part, shown, row);
-        }
-    }
+    take_in_frame(alloc, source, parts, lines, shown, rows.as_mut_slice());
     Ok(rows)
 }

@@ -77,3 +77,24 @@ pub fn read_text(alloc: Global, bytes: &[u8]) -> Result<SourceTree, Fail>
     let end = end_of(alloc, bytes)?;
     read_source(alloc, ended(tokens, end)?)
 }
+
+/// A tree that was read. It is let go here, so that a crate above that owns one proves a call alone.
+pub struct ReadTree {
+    /// The tree.
+    pub tree: SourceTree,
+}
+
+impl Drop for ReadTree {
+    fn drop(self) {
+        let ReadTree { tree: _ } = self;
+    }
+}
+
+/// The same tree, for crates that own one.
+pub fn read_tree(alloc: Global, bytes: &[u8]) -> Result<ReadTree, Fail>
+    requires { length bytes.now < 2 ^ 32 - 2 }
+    ensures { IfOk result (λ read. IsRead read.tree) }
+{
+    let tree = read_text(alloc, bytes)?;
+    Ok(ReadTree { tree })
+}

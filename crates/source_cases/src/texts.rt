@@ -5,7 +5,7 @@ use crate::events::print_events;
 use crate::tree::print_tree;
 use case_files::escaped;
 use package_scope::scopes;
-use plain_text::read_text;
+use plain_text::read_tree;
 use std::io;
 use sv_source::{Fail, Refusal};
 use sv_tree::SourceTree;
@@ -77,8 +77,8 @@ pub fn show_text(rt: &HostRuntime, text: &[u8], shown: Shown) -> io::Result<()> 
     if text.len() > LONGEST {
         return println!(rt; "too long");
     }
-    match read_text(rt.alloc(), text) {
-        Ok(tree) => show_tree(rt, &tree, shown),
+    match read_tree(rt.alloc(), text) {
+        Ok(read) => show_tree(rt, &read.tree, shown),
         Err(Fail::Memory) => println!(rt; "out of memory"),
         Err(Fail::Refused(refusal)) => print_refusal(rt, &refusal),
     }
