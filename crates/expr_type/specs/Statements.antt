@@ -59,7 +59,7 @@ use Rattle.expr_type.specs.Expressions.{Meaning, meaning, operand, select_meanin
 use Rattle.expr_type.specs.Types.{TypeFound, dims, typed_text, declared_type}
 use Rattle.expr_type.specs.KeywordTypes.{unpacked, implicit_type}
 use Rattle.expr_type.specs.TargetNames.{named_target}
-use Rattle.expr_type.specs.Targets.{Target, ToPath, ToParts, ToStream, target, parts_of, assigned, simple_name}
+use Rattle.expr_type.specs.Targets.{Target, has_enum_part, ToPath, ToParts, ToStream, target, parts_of, assigned, simple_name}
 
 -- Assignments. `a op= b` is `a = a op b`.
 abbrev pub operator_of : AssignmentOperator → Option BinaryOperator
@@ -524,10 +524,14 @@ actuals k ws [] = []
 actuals k [] (e ∷ es) = actual_by k None e ∷ actuals k [] es
 actuals k (w ∷ ws) (e ∷ es) = actual_by k (Some w) e ∷ actuals k ws es
 
+-- an enum takes its own type alone, and none as a part of a concatenation
+abbrev pub is_other_enum : SvType → Expr → Bool
+is_other_enum t e = is_plain_to_enum e.of t || has_enum_part e
+
 abbrev pub takes_result : Context → Bool → SvType → Valued → Checked Expr
 takes_result k back t v =
     refused (not (is_assignable v.expr.of t) || (back && not (is_assignable t v.expr.of))) (position k.source v.first) 501
-    (refused (is_plain_to_enum v.expr.of t || (back && is_plain_to_enum t v.expr.of)) (position k.source v.first) 503 (Ok v.expr))
+    (refused (is_other_enum t v.expr || (back && is_plain_to_enum t v.expr.of)) (position k.source v.first) 503 (Ok v.expr))
 
 abbrev pub is_inout : Way → Bool
 is_inout W.Input = false

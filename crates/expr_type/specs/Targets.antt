@@ -1,10 +1,12 @@
 -- What is assigned to (IEEE 1800-2017 clauses 10.3, 10.4, 11.4.12 and 11.4.14).
-use Rattle.std.specs.Prelude.{ℕ, ◌%◌, Bool, ◌&&◌, ◌==◌, nat_lt, not, List, [], ◌∷◌, map, Option, Some, None, Ok, Err}
+use Rattle.std.specs.Prelude.{ℕ, ◌%◌, Bool, false, ◌&&◌, ◌||◌, ◌==◌, nat_lt, not, List, [], ◌∷◌, map, Option, Some, None, Ok, Err}
 use Rattle.std.specs.List.{list_any}
 use Rattle.sv_tree.specs.declared.expressions.SliceSize.{SliceSize}
 use Rattle.sv_tree.specs.declared.names.QualifiedName.{QualifiedName}
 use Rattle.sv_tree.specs.declared.statements.Lvalue.{Lvalue, Lvalue-F, fold-Lvalue}
-use Rattle.sv_types.specs.declared.expression.Expr.{Expr}
+use Rattle.sv_types.specs.declared.expression.Choice.{Choice-F}
+use Rattle.sv_types.specs.declared.expression.Expr.{Expr, Expr-F, fold-Expr}
+use Rattle.sv_types.specs.declared.expression.Form.{Form-F}
 use Rattle.expr_type.specs.Breaks.{At}
 use Rattle.expr_type.specs.Typings.{Checked, Typing, whole, rule, checked, both, all, lesser, where_whole, refused}
 use Rattle.sv_types.specs.declared.types.SvType.{SvType}
@@ -101,3 +103,20 @@ abbrev pub assigned : Context → Target → Operand → Checked Expr
 assigned k (ToPath v) o = given k.source v.expr.of o
 assigned k (ToParts v vs e) o = given_to_parts k.source v.expr.of e o
 assigned k (ToStream v) o = has_enough k v o
+
+-- Whether an expression is an enum or a concatenation with one, and whether it is a concatenation with one.
+abbrev pub choice_enum : Choice-F Bool Bool Bool → Bool
+choice_enum c = false
+
+abbrev pub form_enum : Form-F Bool Bool Bool → Bool
+form_enum (Form-F.Concat es) = list_any (λ b. b) es
+form_enum _ = false
+
+abbrev pub expr_enum : Expr-F Bool Bool Bool → Bool
+expr_enum e = is_enum e.of || e.form
+
+abbrev pub has_enum : Expr → Bool
+has_enum = fold-Expr Bool Bool Bool choice_enum form_enum expr_enum
+
+abbrev pub has_enum_part : Expr → Bool
+has_enum_part e = not (is_enum e.of) && has_enum e

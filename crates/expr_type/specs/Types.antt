@@ -24,8 +24,12 @@ use Rattle.sv_types.specs.declared.types.SvType.{SvType}
 use Rattle.sv_types.specs.declared.types.SvType.TheVariants.{Scalar, PackedArray, Struct, Union, Enum}
 use Rattle.sv_types.specs.Layouts.{width_of}
 use Rattle.sv_types.specs.Values.{value_of_bits}
+use Rattle.sv_types.specs.declared.statement.Function.{Function}
+use Rattle.expr_type.specs.declared.operand.Number.{Number}
+use Rattle.expr_type.specs.declared.operand.Valued.{Valued}
 use Rattle.expr_type.specs.Breaks.{Quiet}
-use Rattle.expr_type.specs.Typings.{Checked, Typing, whole, broken, rule, by_functions, checked, both, both_by, all, refused}
+use Rattle.expr_type.specs.Uses.{names_any}
+use Rattle.expr_type.specs.Typings.{Checked, Typing, whole, broken, rule, by_functions, checked, both, both_by, all, refused, where_whole}
 use Rattle.expr_type.specs.Shapes.{sign_of, is_unpacked}
 use Rattle.expr_type.specs.Names.{Context, Source, position, thing, word, with_values}
 use Rattle.expr_type.specs.Operands.{constant_in, is_number_in}

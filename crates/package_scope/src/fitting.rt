@@ -1,6 +1,6 @@
 //! Which declarations fit a use.
 
-ghost use Rattle.std.specs.Prelude.{◌≡◌, ◌||◌, ◌&&◌, codes, filter, length};
+ghost use Rattle.std.specs.Prelude.{◌≡◌, ◌||◌, ◌&&◌, codes, filter, length, not};
 ghost use Rattle.std.specs.List.{list_any};
 ghost use Rattle.std.specs.Str.{bytes_eq};
 ghost use Rattle.package_scope.specs.Finding.{is_loop_of, Kept};
@@ -285,6 +285,15 @@ impl<'t> NamedText<'t> {
         self.is_result(found_by, declaration)
     }
 
+    /// Whether a declaration is a genvar, and no loop around its use runs over it.
+    #[tactic(auto, using(crate::proofs::Around::valuing))]
+    fn is_free_genvar(&self, found_by: Use, declaration: &Declaration) -> bool
+        requires kept { Kept self.now.tokens.now self.now.names.now self.now.found.now self.now.loops.now }
+        ensures { result ≡ (means.is_genvar declaration.now.how && not (means.has_value self.now.tokens.now self.now.names.now found_by declaration.now)) }
+    {
+        is_genvar(declaration.how) && !self.has_value(found_by, declaration)
+    }
+
     /// Whether a use fits as a value.
     fn is_value(&self, found_by: Use, declaration: &Declaration) -> bool
         requires kept { Kept self.now.tokens.now self.now.names.now self.now.found.now self.now.loops.now }
@@ -343,7 +352,7 @@ impl<'t> NamedText<'t> {
             Role::Interface => is_interface_kind(declaration.what),
             Role::Instantiated => is_instantiated(declaration.what),
             Role::Edge => self.is_signal_or_member(found_by, declaration),
-            Role::LoopGenvar => is_genvar(how) && !self.has_value(found_by, declaration),
+            Role::LoopGenvar => self.is_free_genvar(found_by, declaration),
             Role::Step => true,
             Role::ModportPort => self.is_signal(how),
             Role::Key => true,

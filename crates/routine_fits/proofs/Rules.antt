@@ -22,7 +22,7 @@ use Rattle.expr_type.specs.Names.{Called, Context, position, spot}
 use Rattle.expr_type.specs.Operands.{Operand, too_wide, width, given}
 use Rattle.expr_type.specs.Operators.{exprs, by_itself}
 use Rattle.expr_type.specs.Shapes.{is_assignable, is_plain_to_enum}
-use Rattle.expr_type.specs.Statements.{BlockPart, IsStatement, IsDeclared, in_block, Block, built, result, return_value, CaseFound, CaseItem, whole_item, case_items, default_body, item_at, selector_at, values_at, wide_in, widest, case_stmt, Actual, takes_result, is_inout, value_passed, actual_expr, all_actuals, call_stmt_of}
+use Rattle.expr_type.specs.Statements.{BlockPart, IsStatement, IsDeclared, in_block, Block, built, result, return_value, CaseFound, CaseItem, whole_item, case_items, default_body, item_at, selector_at, values_at, wide_in, widest, case_stmt, Actual, is_other_enum, takes_result, is_inout, value_passed, actual_expr, all_actuals, call_stmt_of}
 use Rattle.typing_fits.specs.Types.{is_full}
 use Rattle.typing_fits.specs.Sound.{IsNarrowType, LimitedAt, Sound, AllSound, SoundFor}
 use Rattle.typing_fits.specs.Operands.{SoundFixed, SoundOperand, AllSoundFor, AllFormalsFull, KnownCall}
@@ -330,7 +330,7 @@ value-for k t (Some o) e gs h full s = passed-sound k.source t o e gs h full s
 
 result-for : (k : Context) (back : Bool) (t : SvType) (v : Valued) (e : Expr) (gs : List Function) → takes_result k back t v ≡ Ok e → SoundFixed v gs → SoundFor e t gs
 result-for k back t v e gs h s =
-    let second = is_plain_to_enum v.expr.of t || (back && is_plain_to_enum t v.expr.of) in
+    let second = is_other_enum t v.expr || (back && is_plain_to_enum t v.expr.of) in
     let rest = refused-then (not (is_assignable v.expr.of t) || (back && not (is_assignable t v.expr.of))) (position k.source v.first) 501 (refused second (position k.source v.first) 503 (Ok v.expr)) e h in
     for-is v.expr e t gs (refused-then second (position k.source v.first) 503 (Ok v.expr) e rest) (fixed-for v t gs s)
 

@@ -37,7 +37,7 @@ use Rattle.expr_type.specs.Expressions.{operand, select_meaning}
 use Rattle.expr_type.specs.TargetNames.{named_target}
 use Rattle.expr_type.specs.Targets as X
 use Rattle.expr_type.specs.Targets.{Target, ToPath, target, parts_of, simple_name}
-use Rattle.expr_type.specs.Statements.{operator_of, is_later, combined, assign, assignment, one, step_operator, counted, Declared, BlockPart, IsStatement, IsDeclared, PartMeaning, behind_part, block_parts, in_block, built, block, empty, result, return_value, returned, condition, Branches, branches, else_if, case_kind, CaseFound, CaseItem, CaseMeaning, whole_item, case_items, default_body, widest, selector_at, item_at, case_stmt, LoopVariable, loop_variable, in_loop, id_of, loop_step, control, Turns, turns, loop_stmt, Actual, as_value, actual_by, ways, actuals, takes_result, is_inout, value_passed, actual_expr, all_actuals, call_stmt_of, counted_call, call_stmt, StmtMeaning}
+use Rattle.expr_type.specs.Statements.{operator_of, is_later, combined, assign, assignment, one, step_operator, counted, Declared, BlockPart, IsStatement, IsDeclared, PartMeaning, behind_part, block_parts, in_block, built, block, empty, result, return_value, returned, condition, Branches, branches, else_if, case_kind, CaseFound, CaseItem, CaseMeaning, whole_item, case_items, default_body, widest, selector_at, item_at, case_stmt, LoopVariable, loop_variable, in_loop, id_of, loop_step, control, Turns, turns, loop_stmt, Actual, as_value, actual_by, ways, actuals, is_other_enum, takes_result, is_inout, value_passed, actual_expr, all_actuals, call_stmt_of, counted_call, call_stmt, StmtMeaning}
 use Rattle.typing_fits.specs.Sound.{Sound}
 use Rattle.typing_fits.specs.Operands.{SoundFixed, SoundOperand, KnownCall}
 use Rattle.typing_fits.proofs.Calls.{all-front, none-all}
@@ -217,7 +217,7 @@ expr_ok e = Ok e
 
 result-local : (k : Context) (back : Bool) (t : SvType) (v : Valued) (e : Expr) → takes_result k back t v ≡ Ok e → LocalValued v → LocalExpr e
 result-local k back t v e h s =
-    let second = is_plain_to_enum v.expr.of t || (back && is_plain_to_enum t v.expr.of) in
+    let second = is_other_enum t v.expr || (back && is_plain_to_enum t v.expr.of) in
     let rest = refused-then (not (is_assignable v.expr.of t) || (back && not (is_assignable t v.expr.of))) (position k.source v.first) 501 (refused second (position k.source v.first) 503 (Ok v.expr)) e h in
     one-whole LocalExpr v.expr e (refused-then second (position k.source v.first) 503 (expr_ok v.expr) e rest) s
 

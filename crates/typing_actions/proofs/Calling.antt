@@ -40,7 +40,7 @@ module _ (k : Context) (back : Bool) (t : SvType) (v : Valued) where
   unfit = not (is_assignable v.expr.of t) || (back && not (is_assignable t v.expr.of))
 
   abbrev other_enum : Bool
-  other_enum = is_plain_to_enum v.expr.of t || (back && is_plain_to_enum t v.expr.of)
+  other_enum = D.is_other_enum t v.expr || (back && is_plain_to_enum t v.expr.of)
 
   abbrev second : Bool → Checked Expr
   second b = refused b (position k.source v.first) 503 (Ok v.expr)

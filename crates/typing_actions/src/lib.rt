@@ -10,6 +10,7 @@ mod actuals;
 mod assigns;
 mod calls;
 mod conditions;
+mod enum_parts;
 mod loops;
 mod lvalues;
 mod ones;

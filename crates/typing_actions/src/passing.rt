@@ -9,6 +9,7 @@ ghost use Rattle.expr_type.specs.Typings.{all_of};
 ghost use Rattle.sv_types.specs.declared.statement.Stmt.TheVariants as made;
 ghost use Rattle.typing_actions.specs.Calls.{CallsTask, actual_of, pair_expr};
 
+use crate::enum_parts::has_enum_part;
 use expr_type::{Halt, Source, Valued};
 use given_types::is_assignable;
 use operand_types::spot_at;
@@ -45,11 +46,18 @@ fn is_unfit(back: bool, t: &SvType, u: &SvType) -> bool
     !is_assignable(u, t) || (back && !is_assignable(t, u))
 }
 
-// Whether one of both is an enum and the other isn't of its type, where it is assigned to.
-fn is_unfit_enum(back: bool, t: &SvType, u: &SvType) -> bool
-    ensures { result ≡ (shape.is_plain_to_enum u.now t.now || (back && shape.is_plain_to_enum t.now u.now)) }
+// Whether what is given to a target isn't of the type of an enum that takes it, as no bits are where an enum is a part of it.
+fn is_other_enum(t: &SvType, e: &Expr) -> bool
+    ensures { result ≡ statement.is_other_enum t.now e.now }
 {
-    is_plain_to_enum(u, t) || (back && is_plain_to_enum(t, u))
+    is_plain_to_enum(&e.of, t) || has_enum_part(e)
+}
+
+// Whether one of both is an enum and the other isn't of its type, where it is assigned to.
+fn is_unfit_enum(back: bool, t: &SvType, e: &Expr) -> bool
+    ensures { result ≡ (statement.is_other_enum t.now e.now || (back && shape.is_plain_to_enum t.now e.now.of)) }
+{
+    is_other_enum(t, e) || (back && is_plain_to_enum(t, &e.of))
 }
 
 // A target that takes the value of a formal of a type (E501, E503), which takes the target's value before where it passes both ways.
@@ -62,7 +70,7 @@ fn takes_result(back: bool, t: &SvType, v: Valued) -> Result<Expr, Halt>
             rule: 501,
         });
     }
-    if is_unfit_enum(back, t, &v.expr.of) {
+    if is_unfit_enum(back, t, &v.expr) {
         return Err(Halt::Breaks {
             at: v.first,
             rule: 503,
