@@ -20,15 +20,23 @@ fn print_value(value: &Value, to: &mut Printer) {
     }
 }
 
-// What an operator whose name is printed has as its type, and what it is applied to.
-#[cycle(trees)]
-fn print_operands(of: &Expr, operands: &[&Expr], to: &mut Printer) {
+// Prints the type of an operator behind its name.
+fn print_type(of: &Expr, to: &mut Printer) {
     to.push(":");
     print_shape(&of.of, to);
-    for operand in operands {
-        to.push(" ");
-        print_expr(operand, to);
-    }
+}
+
+// Prints an operand.
+#[cycle(trees)]
+fn print_operand(operand: &Expr, to: &mut Printer) {
+    to.push(" ");
+    print_expr(operand, to);
+}
+
+// Prints the last operand of an operator.
+#[cycle(trees)]
+fn print_last(operand: &Expr, to: &mut Printer) {
+    print_operand(operand, to);
     to.push(")");
 }
 
@@ -115,35 +123,46 @@ pub fn print_expr(e: &Expr, to: &mut Printer) {
         Form::Unary(op, of) => {
             to.push("(");
             to.name(op);
-            print_operands(e, &[of.get()], to);
+            print_type(e, to);
+            print_last(of.get(), to);
         }
         Form::Reduce(op, of) => {
             to.push("(reduce ");
             to.name(op);
-            print_operands(e, &[of.get()], to);
+            print_type(e, to);
+            print_last(of.get(), to);
         }
         Form::Negate(of) => {
             to.push("(!");
-            print_operands(e, &[of.get()], to);
+            print_type(e, to);
+            print_last(of.get(), to);
         }
         Form::Binary(op, left, right) => {
             to.push("(");
             to.name(op);
-            print_operands(e, &[left.get(), right.get()], to);
+            print_type(e, to);
+            print_operand(left.get(), to);
+            print_last(right.get(), to);
         }
         Form::Shift(op, left, right) => {
             to.push("(");
             to.name(op);
-            print_operands(e, &[left.get(), right.get()], to);
+            print_type(e, to);
+            print_operand(left.get(), to);
+            print_last(right.get(), to);
         }
         Form::Power(left, right) => {
             to.push("(**");
-            print_operands(e, &[left.get(), right.get()], to);
+            print_type(e, to);
+            print_operand(left.get(), to);
+            print_last(right.get(), to);
         }
         Form::Order(op, left, right) => {
             to.push("(");
             to.name(op);
-            print_operands(e, &[left.get(), right.get()], to);
+            print_type(e, to);
+            print_operand(left.get(), to);
+            print_last(right.get(), to);
         }
         Form::Equal {
             op,
@@ -153,19 +172,28 @@ pub fn print_expr(e: &Expr, to: &mut Printer) {
         } => {
             to.push(if *negated { "(not " } else { "(" });
             to.name(op);
-            print_operands(e, &[left.get(), right.get()], to);
+            print_type(e, to);
+            print_operand(left.get(), to);
+            print_last(right.get(), to);
         }
         Form::Both(left, right) => {
             to.push("(&&");
-            print_operands(e, &[left.get(), right.get()], to);
+            print_type(e, to);
+            print_operand(left.get(), to);
+            print_last(right.get(), to);
         }
         Form::Either(left, right) => {
             to.push("(||");
-            print_operands(e, &[left.get(), right.get()], to);
+            print_type(e, to);
+            print_operand(left.get(), to);
+            print_last(right.get(), to);
         }
         Form::Choose(on, then, other) => {
             to.push("(?");
-            print_operands(e, &[on.get(), then.get(), other.get()], to);
+            print_type(e, to);
+            print_operand(on.get(), to);
+            print_operand(then.get(), to);
+            print_last(other.get(), to);
         }
         Form::Concat(list) => {
             to.push("{");
@@ -189,11 +217,13 @@ pub fn print_expr(e: &Expr, to: &mut Printer) {
         }
         Form::Cast(of) => {
             to.push("(cast");
-            print_operands(e, &[of.get()], to);
+            print_type(e, to);
+            print_last(of.get(), to);
         }
         Form::Clog2(of) => {
             to.push("(clog2");
-            print_operands(e, &[of.get()], to);
+            print_type(e, to);
+            print_last(of.get(), to);
         }
         Form::Pattern(list) => {
             to.push("'{");
