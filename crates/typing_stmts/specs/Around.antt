@@ -12,7 +12,7 @@ use Rattle.source_laws.specs.Frames.{SoundFrame}
 
 -- what stands around each function of the text of a frame: no signal
 abbrev pub around : SourceTree → Table → Frame → ℕ → Context
-around tree t f at = without_signals (without_routines tree t f at)
+around tree t f at = without_signals tree t (without_routines tree t f at)
 
 -- that, with functions in which calls lie one in another so deep
 abbrev pub with_depth : SourceTree → Table → Frame → ℕ → ℕ → Context
