@@ -1,4 +1,4 @@
 mod Full
 mod Lists
-mod Sound
-mod Trees
+mod Found
+mod Units

@@ -79,7 +79,6 @@ fn are_full(members: &[Member]) -> bool
 }
 
 // Whether a type has at most 2^22 bits, and each part of it has one.
-#[tactic(auto, using(crate::proofs::Sound::types))]
 fn is_type(of: &SvType) -> bool
     ensures { IfSo result (IsNarrowType of.now) }
 {
@@ -90,14 +89,13 @@ fn is_type(of: &SvType) -> bool
 }
 
 // Whether a value has as many bits as its type.
-#[tactic(auto, using(crate::proofs::Sound::constants))]
 fn is_constant(value: &ParamValue) -> bool
     ensures { IfSo result (SoundConstant value.now.of value.now.value) }
 {
     if !is_type(&value.of) {
         return false;
     }
-    bits_in(&value.value) == u64::from(width(&value.of))
+    bits_in(&value.value) == width(&value.of) as u64
 }
 
 fn are_constants(values: &[ParamValue]) -> bool
@@ -134,7 +132,6 @@ fn are_signals(signals: &[SignalId]) -> bool
 }
 
 /// Whether signals and values of a frame have at most 2^22 bits, a value as many as its type, and each type a bit in each part.
-#[tactic(auto, using(crate::proofs::Sound::frames))]
 pub fn is_sound(frame: &Frame) -> bool
     ensures { IfSo result (SoundFrame frame.now) }
 {

@@ -11,7 +11,7 @@ use std::alloc::{AllocError, Global};
 use sv_tree::{Always, Item, PackageItem, SourceTree, Unit};
 
 // A process, by its statement.
-#[tactic(auto, using(crate::proofs::Trees::processes))]
+#[tactic(auto, using(crate::proofs::Units::processes))]
 fn process_part(process: &Always) -> Part<'_>
     requires { always_written process.now ≡ true }
     ensures { part_written result ≡ true }
@@ -37,7 +37,7 @@ fn process_part(process: &Always) -> Part<'_>
 }
 
 // An item of a module, if it is typed.
-#[tactic(auto, using(crate::proofs::Trees::items))]
+#[tactic(auto, using(crate::proofs::Units::items))]
 fn item_part(item: &Item) -> Option<Part<'_>>
     requires { item_written item.now ≡ true }
     ensures { IfSome result (λ p. part_written p ≡ true) }
@@ -60,7 +60,7 @@ fn item_part(item: &Item) -> Option<Part<'_>>
 }
 
 // An item of a package, if it is typed.
-#[tactic(auto, using(crate::proofs::Trees::package_items))]
+#[tactic(auto, using(crate::proofs::Units::package_items))]
 fn package_part(item: &PackageItem) -> Option<Part<'_>>
     requires { package_item_written item.now ≡ true }
     ensures { IfSome result (λ p. part_written p ≡ true) }
@@ -132,7 +132,7 @@ fn add_single<'t>(parts: &mut Vec<Part<'t>>, part: Part<'t>) -> Result<(), Alloc
 }
 
 // Puts the parts of a unit behind others.
-#[tactic(auto, using(crate::proofs::Trees::units))]
+#[tactic(auto, using(crate::proofs::Units::units))]
 fn add_unit<'t>(parts: &mut Vec<Part<'t>>, unit: &'t Unit) -> Result<(), AllocError>
     requires before { AllWritten parts.old.items }
     requires written { unit_written unit.now ≡ true }

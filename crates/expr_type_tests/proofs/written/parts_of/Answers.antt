@@ -1,7 +1,7 @@
 use Rattle.std.proofs.Common.{arith}
 use Rattle.written_laws.specs.Trees.{unit_written}
 use Rattle.expr_type_tests.proofs.Lists.{all-at}
-use Rattle.expr_type_tests.proofs.Trees.{all-units}
+use Rattle.expr_type_tests.proofs.Units.{all-units}
 use Rattle.expr_type_tests.proofs.written.parts_of.Goals as goal
 
 pub add_unit-requires-clause-written : goal.add_unit-requires-clause-written
