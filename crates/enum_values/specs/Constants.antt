@@ -1,5 +1,5 @@
 -- The bits of constants that are written for names of enums.
-use Rattle.std.specs.Prelude.{◌≡◌, ℕ, ℤ, List, Unit, Result, Ok, Err}
+use Rattle.std.specs.Prelude.{◌≡◌, ℕ, ℤ, List, Result, Ok, Err}
 use Rattle.b4_core.specs.declared.bit.Bit4.{Bit4}
 use Rattle.sv_types.specs.declared.statement.Function.{Function}
 use Rattle.sv_types.specs.Expressions.{meaning}

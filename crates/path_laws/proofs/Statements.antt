@@ -1,6 +1,6 @@
 -- What assignments in statements of a text write is typed.
 use Rattle.std.proofs.Common.{◌≡◌, ℕ, ◌==◌, Bool, true, false, cond, not, List, [], ◌∷◌, ◌++◌, length, map, Option, Some, None, refl, ap, sym, ◌∙◌, subst, rules}
-use Rattle.std.specs.Prelude.{Ok}
+use Rattle.std.specs.Prelude.{Ok, Err}
 use Rattle.sv_source.specs.declared.token.Spot.{Spot}
 use Rattle.sv_tree.specs.declared.expressions.Expr as X
 use Rattle.sv_tree.specs.declared.expressions.Select.{Select}
@@ -396,7 +396,7 @@ never-whole p (Err d) (Err e) b h = cc
 call-by : (k : Context) (of : QualifiedName) (es : List E.Meaning) (b : Bool)
     → Gives AssignsTyped (cond b (counted_call k of es) (with_other_count (position k.source of.name) (needed k of.name (k.finds of)) (all (actuals k [] es))))
 call-by k of es true = counted-call-gives k of es
-call-by k of es false fs s h = absurd (never-whole (position k.source of.name) (needed k of.name (k.finds of) fs).result (all (actuals k [] es) fs).result s h)
+call-by k of es false = λ fs s h. absurd (never-whole (position k.source of.name) (needed k of.name (k.finds of) fs).result (all (actuals k [] es) fs).result s h)
 
 call-gives : (k : Context) (of : QualifiedName) (es : List E.Meaning) → Gives AssignsTyped (call_stmt k of es)
 call-gives k of es = call-by k of es (finds_count k (k.finds of) (length es))
@@ -464,8 +464,8 @@ stmt-case (Stmt-F.Continue keyword semicolon) k p = whole-gives AssignsTyped V.C
 stmt-case (Stmt-F.Return keyword e semicolon) k p = returned-gives k keyword e
 stmt-case (Stmt-F.Call of opening arguments closing semicolon) k p = call-gives k of (map E.meaning arguments)
 stmt-case (Stmt-F.Assign to op at e semicolon) k p = assign-gives k true to op at e p.names
-stmt-case (Stmt-F.Postfix name ss op at semicolon) k p = counted-call-gives k name op at ss p.names
-stmt-case (Stmt-F.Prefix op at name ss semicolon) k p = counted-call-gives k name op at ss p.names
+stmt-case (Stmt-F.Postfix name ss op at semicolon) k p = counted-gives k name op at ss p.names
+stmt-case (Stmt-F.Prefix op at name ss semicolon) k p = counted-gives k name op at ss p.names
 stmt-case (Stmt-F.Empty semicolon) k p = whole-gives AssignsTyped empty empty-typed
 
 item-level : (y : BlockItem-F AnItem ACase AStmt AnElse) → OfPart (item_meaning (roll-BlockItem (item_in y)))

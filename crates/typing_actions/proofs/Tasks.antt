@@ -121,7 +121,7 @@ other-call k of es fs hs r is p = by-number k of es false fs hs r is p
 -- another number of whole actuals
 pub count-breaks : (k : Context) (of : QualifiedName) (es : List Expr) (fs gs : List Function) (as' : List D.Actual) → TypesTo (Ok as') (actuals_of k [] es fs) gs
     → TypesTo {A = Stmt} (Err (H.Breaks of.name 405)) (other_call_of k of es fs) gs
-count-breaks k of es fs gs as' p = count-alone (position k.source of.name) (needed_of k of fs).result (actuals_of k [] es fs).result as' (ap (λ (t : Typed (List D.Actual)). t.result) p)
+count-breaks k of es fs gs as' p = count-alone Stmt (position k.source of.name) (needed_of k of fs).result (actuals_of k [] es fs).result as' (ap (λ (t : Typed (List D.Actual)). t.result) p)
 
 pub ruleset either = (counted-call, other-call)
 

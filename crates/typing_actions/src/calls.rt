@@ -69,6 +69,16 @@ fn counted_task<S: Nets, C: Fn(u32, &mut Known) -> Result<u32, Halt>>(
     called(alloc, names, of, place, passed, known)
 }
 
+// Whole actuals of another number than there are formals break E405 at the name.
+fn miscounted(_actuals: Vec<Actual>, name: u32) -> Halt
+    ensures { result ≡ Halt.Breaks name 405 }
+{
+    Halt::Breaks {
+        at: name,
+        rule: 405,
+    }
+}
+
 // A call of another number of actuals than there are formals, which are looked at as values: E405 at the name where these are whole, else
 // what they or the task break.
 #[tactic(auto, using(crate::proofs::Tasks::counts))]
@@ -90,10 +100,7 @@ fn other_task<S: Nets, C: Fn(u32, &mut Known) -> Result<u32, Halt>>(
 {
     let before = known.functions.len();
     match actuals(alloc, names, needs, &[], arguments, known) {
-        Ok(_) => Err(Halt::Breaks {
-            at: of.name,
-            rule: 405,
-        }),
+        Ok(passed) => Err(miscounted(passed, of.name)),
         Err(halt) => Err(uncounted(alloc, names, needs, of, before, halt, known)),
     }
 }

@@ -46,7 +46,7 @@ calls-then k of place f o os r e c = subst (λ (p : Option Function). CallsAt k.
 
 -- a function that is known, with actuals that are whole
 pub call-types : (k : Context) (of : QualifiedName) (es : List E.Expr) (fs gs hs : List Function) (place : ℕ) (os : List Operand) (r : Result Valued Halt)
-    → CalledTo (Ok place) (needed_of k of (length es) fs) gs → TypesTo (Ok os) (actuals_of k es gs) hs → Extends gs hs → CallsAt k.source of place (slice_get hs place) os r
+    → CalledTo (Ok place) (needed_of k of fs) gs → TypesTo (Ok os) (actuals_of k es gs) hs → Extends gs hs → CallsAt k.source of place (slice_get hs place) os r
     → TypesTo r (counted_call_of k of es fs) hs
 call-types k of es fs gs hs place os r c p e d =
     let called : Called = record { place = place; of = c.of } in
@@ -59,16 +59,16 @@ stopped : (k : Context) (of : QualifiedName) (es : List E.Expr) (fs hs : List Fu
     → TypesTo {A = Valued} (Err h) (counted_call_of k of es fs) hs
 stopped k of es fs hs h p = by-count k of es fs hs (Err h) (checked-stops (parts k of es) (λ q. with_actuals k of q.0 q.1) fs hs h p)
 
-pub call-breaks : (k : Context) (of : QualifiedName) (es : List E.Expr) (fs gs : List Function) (at n : ℕ) → CalledTo (Err (H.Breaks at n)) (needed_of k of (length es) fs) gs
+pub call-breaks : (k : Context) (of : QualifiedName) (es : List E.Expr) (fs gs : List Function) (at n : ℕ) → CalledTo (Err (H.Breaks at n)) (needed_of k of fs) gs
     → TypesTo {A = Valued} (Err (H.Breaks at n)) (counted_call_of k of es fs) gs
 call-breaks k of es fs gs at n c = stopped k of es fs gs (H.Breaks at n) (beside-breaks (needed_of k of) (actuals_of k es) fs gs gs at n c)
 
-pub actuals-stop : (k : Context) (of : QualifiedName) (es : List E.Expr) (fs gs hs : List Function) (place : ℕ) (h : Halt) → CalledTo (Ok place) (needed_of k of (length es) fs) gs
+pub actuals-stop : (k : Context) (of : QualifiedName) (es : List E.Expr) (fs gs hs : List Function) (place : ℕ) (h : Halt) → CalledTo (Ok place) (needed_of k of fs) gs
     → TypesTo {A = List Operand} (Err h) (actuals_of k es gs) hs → TypesTo {A = Valued} (Err h) (counted_call_of k of es fs) hs
 actuals-stop k of es fs gs hs place h c p =
     stopped k of es fs hs h (beside-second (needed_of k of) (actuals_of k es) fs gs hs (record { place = place; of = c.of }) h c.gives p)
 
-pub call-quiet : (k : Context) (of : QualifiedName) (es : List E.Expr) (fs gs hs : List Function) (r : Result (List Operand) Halt) → CalledTo (Err H.Quiet) (needed_of k of (length es) fs) gs
+pub call-quiet : (k : Context) (of : QualifiedName) (es : List E.Expr) (fs gs hs : List Function) (r : Result (List Operand) Halt) → CalledTo (Err H.Quiet) (needed_of k of fs) gs
     → TypesTo r (actuals_of k es gs) hs → TypesTo {A = Valued} (Err (behind r)) (counted_call_of k of es fs) hs
 call-quiet k of es fs gs hs (Ok os) c p = stopped k of es fs hs H.Quiet (beside-quiet (needed_of k of) (actuals_of k es) fs gs hs os c p)
 call-quiet k of es fs gs hs (Err h) c p = stopped k of es fs hs h (beside-behind-quiet (needed_of k of) (actuals_of k es) fs gs hs h c p)
@@ -103,7 +103,7 @@ other-call k of es fs hs r is p = written k of es fs hs r (by-number k of (map (
 -- another number of whole actuals
 pub count-breaks : (k : Context) (of : QualifiedName) (es : List E.Expr) (fs gs : List Function) (os : List Operand) → TypesTo (Ok os) (actuals_of k es fs) gs
     → TypesTo {A = Valued} (Err (H.Breaks of.name 405)) (other_call_of k of es fs) gs
-count-breaks k of es fs gs os p = count-alone (position k.source of.name) (needed_of k of fs).result (actuals_of k es fs).result os (ap (λ (t : Typed (List Operand)). t.result) p)
+count-breaks k of es fs gs os p = count-alone Valued (position k.source of.name) (needed_of k of fs).result (actuals_of k es fs).result os (ap (λ (t : Typed (List Operand)). t.result) p)
 
 pub ruleset either = (counted-call, other-call)
 

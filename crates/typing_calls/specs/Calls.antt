@@ -15,6 +15,7 @@ use Rattle.expr_type.specs.Forms.{call, call_of, counted_call, finds_count, need
 use Rattle.expr_type.specs.Names.{Called, Context, Source, position}
 use Rattle.expr_type.specs.Operands.{Operand}
 use Rattle.expr_type.specs.Typings.{Checked, Typing, all, all_of}
+use Rattle.typing_parts.specs.Typists.{CalledTo}
 use Rattle.typing_values.specs.Values.{unstreamed_of}
 
 -- the function that a name finds, and whether a call of it has as many actuals as it has formals
@@ -36,6 +37,12 @@ first_halt (Err H.Quiet) (H.Breaks at rule) = H.Breaks at rule
 first_halt (Err (H.Breaks a n)) (H.Breaks at rule) = H.Breaks a n
 first_halt (Ok n) H.Quiet = H.Quiet
 first_halt (Err h) H.Quiet = h
+
+-- what a call of another number of actuals stops by, where these stop by a halt
+pub record Uncounted (k : Context) (of : QualifiedName) (fs hs : List Function) (halt result : Halt) : Type 0 where
+  pub place : Result ℕ Halt
+  pub called : CalledTo place (needed_of k of fs) hs
+  pub is : result ≡ first_halt place halt
 
 -- what is passed to formals, as far as there are both
 abbrev pub passed_in : Source → List Formal → List Operand → Checked (List Expr)

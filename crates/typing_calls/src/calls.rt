@@ -1,5 +1,6 @@
 //! Calls.
 
+ghost use Rattle.std.specs.Prelude.{◌≡◌};
 ghost use Rattle.typing_fits.specs.Sound.{Extends};
 ghost use Rattle.typing_steps.specs.Steps.{TypesTo};
 ghost use Rattle.typing_parts.specs.Typists.{AllCanType, IsReady, MakesKnown};
@@ -50,6 +51,16 @@ fn counted_call<
     }
 }
 
+// Whole actuals of another number than there are formals break E405 at the name.
+fn miscounted(_operands: Vec<Operand>, name: u32) -> Halt
+    ensures { result ≡ Halt.Breaks name 405 }
+{
+    Halt::Breaks {
+        at: name,
+        rule: 405,
+    }
+}
+
 // A call of another number of actuals than there are formals: E405 at the name where these are whole, else what they or the function
 // break.
 #[tactic(auto, using(crate::proofs::Calling::counts))]
@@ -75,10 +86,7 @@ fn other_call<
 {
     let before = known.functions.len();
     match actuals(alloc, names, typed, arguments, known) {
-        Ok(_) => Err(Halt::Breaks {
-            at: of.name,
-            rule: 405,
-        }),
+        Ok(operands) => Err(miscounted(operands, of.name)),
         Err(halt) => Err(uncounted(alloc, names, needs, of, before, halt, known)),
     }
 }

@@ -1,12 +1,10 @@
 //! Calls with another number of actuals than their functions have formals.
 
-ghost use Rattle.std.specs.Prelude.{◌≡◌, ◌≤◌, List, length, take};
-ghost use Rattle.expr_type.specs.Typings.{Typing};
+ghost use Rattle.std.specs.Prelude.{◌≡◌, ◌≤◌, length, take};
 ghost use Rattle.routine_fits.specs.Sound.{AllSoundFunctions};
 ghost use Rattle.typing_fits.specs.Sound.{Extends};
 ghost use Rattle.typing_parts.specs.Typists.{IsReady, MakesKnown};
-ghost use Rattle.typing_steps.specs.Steps.{StopsBy};
-ghost use Rattle.typing_calls.specs.Calls.{first_halt, other_count_of};
+ghost use Rattle.typing_calls.specs.Calls.{first_halt, Uncounted};
 
 use crate::needing::needed;
 use expr_type::Halt;
@@ -36,7 +34,6 @@ fn first_halt(place: Result<u32, Halt>, halt: Halt) -> Halt
 
 /// What a call breaks whose actuals aren't whole and of which there are more or fewer than its function has formals: the first break of
 /// the function, which is looked at from the name on where so many functions were known, or else that of the actuals.
-#[tactic(auto, using(crate::proofs::Counting::counting))]
 pub fn uncounted<S: Names, C: Fn(u32, &mut Known) -> Result<u32, Halt>>(
     alloc: Global,
     names: &S,
@@ -50,7 +47,7 @@ pub fn uncounted<S: Names, C: Fn(u32, &mut Known) -> Result<u32, Halt>>(
     requires ready { IsReady known.old }
     requires within { before ≤ length known.old.functions }
     requires sound { AllSoundFunctions (take before known.old.functions) }
-    ensures value { {A B : Type 0} (y : Typing A) → StopsBy halt (y (take before known.old.functions)) known.old.functions → StopsBy {A = B} result (other_count_of (S.context names.now) of y (take before known.old.functions)) known.new.functions }
+    ensures value { Uncounted (S.context names.now) of (take before known.old.functions) known.new.functions halt result }
     ensures ready { IsReady known.new }
     ensures keeps { Extends (take before known.old.functions) known.new.functions }
 {

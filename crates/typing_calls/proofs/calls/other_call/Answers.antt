@@ -1,8 +1,9 @@
 use Rattle.std.proofs.Common.{◌≡◌, List, sym, subst}
-use Rattle.std.specs.Prelude.{Result, Err, Vec, take}
+use Rattle.std.specs.Prelude.{Result, Vec, take}
 use Rattle.std.specs.declared.alloc.Global.{Global}
 use Rattle.sv_types.specs.declared.statement.Function.{Function}
 use Rattle.expr_type.specs.declared.halt.Halt.{Halt}
+use Rattle.expr_type.specs.declared.operand.Valued.{Valued}
 use Rattle.pattern_types.specs.declared.operand.Operand.{Operand}
 use Rattle.pattern_types.specs.Meaning.{operand_of}
 use Rattle.typing_calls.specs.Calls.{actuals_of, other_call_of}
@@ -10,6 +11,7 @@ use Rattle.function_cuts.proofs.Before.{before-is, sound-before, within-longer}
 use Rattle.typing_fits.specs.Sound.{Extends}
 use Rattle.typing_steps.specs.Steps.{StopsBy, TypesTo}
 use Rattle.typing_calls.specs.Lists.{all_meant}
+use Rattle.typing_calls.proofs.Counting.{count-stops}
 use Rattle.typing_calls.proofs.calls.other_call.Goals as goal
 
 pub uncounted-requires-clause-within : goal.uncounted-requires-clause-within
@@ -26,10 +28,11 @@ returns-in-Err-clause-value g c =
     let fs = c.args.known.now.functions in
     let gs = c.actuals.new.known.functions in
     let hs = c.uncounted.new.known.functions in
+    let u = c.uncounted.ensures.value in
     let before : take c.len-before.result gs ≡ fs = before-is fs gs c.len-before.result c.len-before.ensures c.actuals.ensures.keeps in
     let stops = subst (λ (r : Result (Vec Operand Global) Halt). TypesTo (all_meant (operand_of k.source) r) (actuals_of k es fs) gs) c.in-Err.is c.actuals.ensures.value in
     subst (λ (ls : List Function). StopsBy c.uncounted.result (other_call_of k c.args.of es ls) hs) before
-    (c.uncounted.ensures.value (actuals_of k es) (subst (λ (ls : List Function). StopsBy c.in-Err.halt (actuals_of k es ls) gs) (sym before) stops))
+    (count-stops Valued k c.args.of (actuals_of k es) (take c.len-before.result gs) gs hs u.place c.in-Err.halt c.uncounted.result u.called (subst (λ (ls : List Function). StopsBy c.in-Err.halt (actuals_of k es ls) gs) (sym before) stops) u.is)
 
 pub returns-in-Err-clause-keeps : goal.returns-in-Err-clause-keeps
 returns-in-Err-clause-keeps g c =

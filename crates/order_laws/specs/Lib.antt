@@ -1,0 +1,3 @@
+pub mod Ordered
+pub mod Meanings
+pub mod Laws
