@@ -2,6 +2,7 @@
 use Rattle.std.proofs.Common.{◌≡◌, ◌≤◌, ℕ, Bool, true, false, List, length, min, refl, arith, sym, subst}
 use Rattle.std.specs.Prelude.{IsTrue, nat_eq}
 use Rattle.std.proofs.lemmas.Bool.Decides.{nat_tests}
+use Rattle.sv_tree.specs.declared.units.SourceTree.{SourceTree}
 use Rattle.sv_types.specs.declared.frame.Frame.{Frame}
 use Rattle.sv_types.specs.declared.frame.ParamType.{ParamType}
 use Rattle.sv_types.specs.declared.frame.ParamValue.{ParamValue}
@@ -9,10 +10,12 @@ use Rattle.sv_types.specs.declared.frame.SignalId.{SignalId}
 use Rattle.sv_types.specs.declared.types.SvType.{SvType}
 use Rattle.sv_types.specs.Layouts.{width_of}
 use Rattle.sv_types.specs.Values.{bits}
+use Rattle.plain_text.specs.Trees.{IsRead}
 use Rattle.source_laws.specs.Frames.{SoundFrame}
 use Rattle.typing_fits.specs.Operands.{AllSignalsSound, AllTypesFull, AllValuesSound, SoundConstant}
 use Rattle.typing_fits.specs.Sound.{IsNarrowType}
 use Rattle.typing_fits.specs.Types.{is_full}
+use Rattle.typing_stmts.specs.Around.{SoundAround}
 use Rattle.expr_type_tests.specs.Sound.{IfSo}
 
 pub narrow : (b : Bool) (t : SvType) → true ≡ is_full t → (IsTrue b → width_of t ≤ 4194304) → IfSo b (IsNarrowType t)
@@ -31,3 +34,6 @@ constant n w v e f t = by (nat_eq n w) refl
 pub framed : (b : Bool) (f : Frame) (vs : List ParamValue) (ts : List ParamType) (ss : List SignalId) → vs ≡ f.values → ts ≡ f.types → ss ≡ f.signals → AllValuesSound vs → AllTypesFull ts → IfSo b (AllSignalsSound ss) → IfSo b (SoundFrame f)
 framed true f vs ts ss e g h v t s = record { values = subst AllValuesSound e v; types = subst AllTypesFull g t; signals = subst AllSignalsSound h s }
 framed false f vs ts ss e g h v t s = tt
+
+pub around : (tree : SourceTree) (f : Frame) → IsRead tree → SoundFrame f → SoundAround tree f
+around tree f r s = record { tokens = r.tokens; reads = r.reads; frame = s }

@@ -122,7 +122,7 @@ fn typed(
             declared(alloc, source, came)
         }
         Part::Routine { name, .. } => {
-            let number = source.declared(name) as u32;
+            let number = source.number(name);
             Ok(function_of(alloc, source, frame, number)?.is_some())
         }
         Part::Process { first, body } => {
@@ -185,7 +185,7 @@ fn scope_of(source: &SourceNames<'_>, name: Option<u32>) -> u32 {
     let Some(name) = name else {
         return 0;
     };
-    match source.names.declaration(source.declared(name) as u32) {
+    match source.names.declaration(source.number(name)) {
         Some(declaration) => declaration.inner,
         None => 0,
     }

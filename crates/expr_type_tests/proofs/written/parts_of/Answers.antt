@@ -6,4 +6,4 @@ use Rattle.expr_type_tests.proofs.written.parts_of.Goals as goal
 
 pub add_unit-requires-clause-written : goal.add_unit-requires-clause-written
 add_unit-requires-clause-written c =
-    all-at unit_written c.as_slice.result.now c.loop-unit.unit-index c.unit-item.result (all-units c.args.tree.now c.as_slice.result.now c.as_slice.ensures c.requires) (omega arith) c.unit-item.is
+    all-at unit_written c.as_slice-unit-items.result.now c.loop-unit.unit-index c.unit-item.result (all-units c.args.tree.now c.as_slice-unit-items.result.now c.as_slice-unit-items.ensures c.requires) (omega arith) c.unit-item.is
