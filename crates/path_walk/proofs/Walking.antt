@@ -17,6 +17,7 @@ use Rattle.sv_types.proofs.Widths.{has-bits}
 use Rattle.v_tree.specs.Names.{Name}
 use Rattle.v_tree.specs.declared.names.Helper.{Helper}
 use Rattle.v_tree.specs.declared.names.NameMap.{NameMap}
+use Rattle.name_maps.specs.Named.{signal_name, local_name, is_memory, OneSignal, OneLocal}
 use Rattle.v_meaning.specs.Scopes.{Scope, named}
 use Rattle.v_meaning.specs.Values as T
 use Rattle.eval_parts.specs.declared.path_steps.Step.TheVariants as Q
@@ -39,7 +40,7 @@ use Rattle.path_steps.specs.Stands.{stand_names}
 use Rattle.path_steps.proofs.PathNames.{IsNamed, NamedStep, images-like, images-of, step-images, fixed-images, step-named, stands-named}
 use Rattle.path_steps.proofs.PathSteps as W
 use Rattle.path_walk.specs.declared.indices.StepIndex.{StepIndex}
-use Rattle.path_walk.specs.Bases.{signal_name, local_name, is_memory, IsMemoryAt, Stand, Vector, Memory, Value, value_stand, signal_stand, stand_in, stand_of, HoldsBits, stand_numbers, ReadsStand, NamesStand}
+use Rattle.path_walk.specs.Bases.{IsNamedOnce, IsMemoryAt, Stand, Vector, Memory, Value, value_stand, signal_stand, stand_in, stand_of, HoldsBits, stand_numbers, ReadsStand, NamesStand}
 use Rattle.path_walk.specs.Indices.{IsIndexBy, NameImages, index_names, all_names, ReadsElementBy, ReadsSlideBy, ReadsWordBy, NamesStep, NamesWordBy}
 use Rattle.path_walk.specs.Selects.{Select, Member, Index, Part, Slide, Last, Signal, Local, Other, Selected, last, IsRoot, IsPathOn, indices_of, BeginsAtElement}
 use Rattle.path_walk.specs.Flattening.{TextHolds, path_names, Found, Finds, FindsElement, Flattens, StandsFor}
@@ -103,7 +104,7 @@ images-of-root image e ns xs sc none h = subst (AreImages image (stand_names e))
 
 module _ (names : NameMap) (value : Option T.Meaning) where
   abbrev Counted : Expr → List StepIndex → List Helper → Reading → Expr → List Select → Type 0
-  Counted e xs hs r base ss = length xs ≡ length (indices_of ss) → Found names value base ss e xs hs r
+  Counted e xs hs r base ss = length xs ≡ length (indices_of ss) → IsNamedOnce names (last base) → Found names value base ss e xs hs r
 
   root-named : (e : Expr) (xs : List StepIndex) (r : Reading) (name : Name) (sc : Scope) → stand_numbers (stand_of names value e) sc ≡ (named sc.names name).number ∷ [] → xs ≡ [] → r.root ≡ R.Name name
       → SameNumbers (path_names names value e xs sc) (root_names r.root sc)
@@ -112,13 +113,14 @@ module _ (names : NameMap) (value : Option T.Meaning) where
       (ap (λ l. l ++ all_names xs sc) stand ∙ ap (λ l. (named sc.names name).number ∷ all_names l sc) none ∙ sym (ap (λ (x : Root). root_names x sc) root))
 
   -- whole signals and locals
-  pub finds-Signal : (e : Expr) (xs : List StepIndex) (hs : List Helper) (n w : ℕ) (name : Name) (r : Reading) → e.form ≡ V.Signal n → name ≡ signal_name names.signals n → w ≡ S.wide (meaning e)
+  pub finds-Signal : (e : Expr) (xs : List StepIndex) (hs : List Helper) (n w : ℕ) (name : Name) (r : Reading) → e.form ≡ V.Signal n → (OneSignal names.signals n → name ≡ signal_name names.signals n) → w ≡ S.wide (meaning e)
       → ReadsName name w r → r.root ≡ R.Name name → Finds names value e xs hs r
   finds-Signal e xs hs n w name r is name_is width reads root =
       let last_is = last-Signal e n is in
       let b = is_memory names.signals n in
-      let stand : stand_of names value e ≡ signal_stand b name = ap (stand_in names value) last_is ∙ ap (signal_stand b) (sym name_is) in
-      at-root e (subst IsRoot (sym last_is) tt) (Counted e xs hs r) (λ count. record {
+      at-root e (subst IsRoot (sym last_is) tt) (Counted e xs hs r) (λ count once.
+      let stand : stand_of names value e ≡ signal_stand b name = ap (stand_in names value) last_is ∙ ap (signal_stand b) (sym (name_is (subst (IsNamedOnce names) last_is once))) in
+      record {
         reads = λ a sc v st.
             (let path = W.signal-path (layout e.of) e.spot.at n a in
             let window = subst (λ (m : S.Meaning). m.window a ≡ whole (S.wide m)) (sym (E.same-Signal e n is)) (path.window ∙ ap whole (sym path.wide)) in
@@ -129,12 +131,13 @@ module _ (names : NameMap) (value : Option T.Meaning) where
         kept = λ kind. stands-named (meaning e) (W.path-named e (Q.Signal n) is);
       })
 
-  pub finds-Local : (e : Expr) (xs : List StepIndex) (hs : List Helper) (n w : ℕ) (name : Name) (r : Reading) → e.form ≡ V.Local n → name ≡ local_name names.locals n → w ≡ S.wide (meaning e)
+  pub finds-Local : (e : Expr) (xs : List StepIndex) (hs : List Helper) (n w : ℕ) (name : Name) (r : Reading) → e.form ≡ V.Local n → (OneLocal names.locals n → name ≡ local_name names.locals n) → w ≡ S.wide (meaning e)
       → ReadsName name w r → r.root ≡ R.Name name → Finds names value e xs hs r
   finds-Local e xs hs n w name r is name_is width reads root =
       let last_is = last-Local e n is in
-      let stand : stand_of names value e ≡ Vector name = ap (stand_in names value) last_is ∙ ap Vector (sym name_is) in
-      at-root e (subst IsRoot (sym last_is) tt) (Counted e xs hs r) (λ count. record {
+      at-root e (subst IsRoot (sym last_is) tt) (Counted e xs hs r) (λ count once.
+      let stand : stand_of names value e ≡ Vector name = ap (stand_in names value) last_is ∙ ap Vector (sym (name_is (subst (IsNamedOnce names) last_is once))) in
+      record {
         reads = λ a sc v st.
             (let path = W.local-path (layout e.of) e.spot.at n a in
             let window = subst (λ (m : S.Meaning). m.window a ≡ whole (S.wide m)) (sym (E.same-Local e n is)) (path.window ∙ ap whole (sym path.wide)) in
@@ -151,7 +154,7 @@ module _ (names : NameMap) (value : Option T.Meaning) where
   finds-value e xs hs w r plain valued width reads named_all =
       let last_is = last-plain e plain in
       let stand : stand_of names value e ≡ value_stand value = ap (stand_in names value) last_is in
-      at-root e (subst IsRoot (sym last_is) tt) (Counted e xs hs r) (λ count. record {
+      at-root e (subst IsRoot (sym last_is) tt) (Counted e xs hs r) (λ count once. record {
         reads = λ a sc v st. value-reads value e w r a sc v valued width reads (subst (λ s. HoldsBits s (meaning e) [] a sc v) stand st.holds);
         named = λ sc.
             (let none : stand_numbers (value_stand value) sc ≡ path_names names value e xs sc =
@@ -167,8 +170,8 @@ module _ (names : NameMap) (value : Option T.Meaning) where
       → ReadsMember old x.of k r → r.root ≡ old.root → Finds names value e xs hs r
   finds-Member e x k xs hs old r is typed found reads root =
       let level = E.same-Member e x k is in
-      at-select e x (Member k) (last-Member e x k is) (Counted e xs hs r) (λ base ss on count.
-      let from = found base ss on count in
+      at-select e x (Member k) (last-Member e x k is) (Counted e xs hs r) (λ base ss on count once.
+      let from = found base ss on count once in
       record {
         reads = λ a sc v st.
             subst (λ (m : S.Meaning). Reads r m a sc v) (sym level)
@@ -191,8 +194,8 @@ module _ (names : NameMap) (value : Option T.Meaning) where
       → ReadsBetween old x.of left right r → r.root ≡ old.root → Finds names value e xs hs r
   finds-Part e x left right xs hs old r is typed found reads root =
       let level = E.same-Part e x left right is in
-      at-select e x (Part left right) (last-Part e x left right is) (Counted e xs hs r) (λ base ss on count.
-      let from = found base ss on count in
+      at-select e x (Part left right) (last-Part e x left right is) (Counted e xs hs r) (λ base ss on count once.
+      let from = found base ss on count once in
       record {
         reads = λ a sc v st.
             subst (λ (m : S.Meaning). Reads r m a sc v) (sym level)
@@ -217,8 +220,8 @@ module _ (names : NameMap) (value : Option T.Meaning) where
   finds-Slide e y i n up x xs old_hs hs old r is typed typed_y grows found reads step =
       let level = E.same-Slide e y i n up is in
       let typed_at = subst (λ (m : S.Meaning). m.misfits ≡ 0) level typed in
-      at-select e y (Slide i n up) (last-Slide e y i n up is) (Counted e (xs ++ x ∷ []) hs r) (λ base ss on count.
-      let from = found base ss on (count-last xs x (indices_of ss) i count) in
+      at-select e y (Slide i n up) (last-Slide e y i n up is) (Counted e (xs ++ x ∷ []) hs r) (λ base ss on count once.
+      let from = found base ss on (count-last xs x (indices_of ss) i count) once in
       record {
         reads = λ a sc v st.
             (let given = pairs-last (λ j z. IsIndexBy z (meaning j) a sc v) (indices_of ss) i xs x st.indices in
@@ -241,10 +244,10 @@ module _ (names : NameMap) (value : Option T.Meaning) where
       })
 
   -- a memory is no plain root, so that the first select of all stands above it
-  begins-Index : (y i : Expr) (base : Expr) (ss : List Select) → IsMemoryAt names.signals y None → IsPathOn base ss y → (s : Stand) → stand_of names value base ≡ s
+  begins-Index : (y i : Expr) (base : Expr) (ss : List Select) → IsMemoryAt names.signals y None → IsPathOn base ss y → IsNamedOnce names (last base) → (s : Stand) → stand_of names value base ≡ s
       → (e : S.Meaning) (a : Around) (sc : Scope) (v : Valuation) → HoldsBits s e (Index i ∷ ss) a sc v → HoldsBits s e ss a sc v
-  begins-Index y i base ss plain on (Vector name) stand e a sc v h = h
-  begins-Index y i base [] plain on (Memory name) stand e a sc v h = absurd (no-memory (last y) name refl (subst (λ b. stand_of names value b ≡ Memory name) (sym on.0) stand))
+  begins-Index y i base ss plain on once (Vector name) stand e a sc v h = h
+  begins-Index y i base [] plain on once (Memory name) stand e a sc v h = absurd (no-memory (last y) name refl (subst (λ b. IsNamedOnce names (last b)) (sym on.0) once) (subst (λ b. stand_of names value b ≡ Memory name) (sym on.0) stand))
     where
       signal-not : (b : Bool) (m n : Name) → b ≡ false → signal_stand b m ≡ Memory n → ⊥
       signal-not true m n other is = true≢false other
@@ -254,21 +257,21 @@ module _ (names : NameMap) (value : Option T.Meaning) where
       value-not None n is = cc
       value-not (Some m) n is = cc
 
-      no-memory : (l : Last) (m : Name) → last y ≡ l → stand_in names value (last y) ≡ Memory m → ⊥
-      no-memory (Signal n) m last_is is = signal-not (is_memory names.signals n) (signal_name names.signals n) m (plain n last_is) (ap (stand_in names value) (sym last_is) ∙ is)
-      no-memory (Local n) m last_is is = (let h : Vector (local_name names.locals n) ≡ Memory m = ap (stand_in names value) (sym last_is) ∙ is in cc)
-      no-memory Other m last_is is = value-not value m (ap (stand_in names value) (sym last_is) ∙ is)
-      no-memory (Selected s x) m last_is is = value-not value m (ap (stand_in names value) (sym last_is) ∙ is)
-  begins-Index y i base (t ∷ ss) plain on (Memory name) stand e a sc v h = h
-  begins-Index y i base ss plain on (Value m) stand e a sc v h = h
+      no-memory : (l : Last) (m : Name) → last y ≡ l → IsNamedOnce names (last y) → stand_in names value (last y) ≡ Memory m → ⊥
+      no-memory (Signal n) m last_is one is = signal-not (is_memory names.signals n) (signal_name names.signals n) m (plain n last_is (subst (IsNamedOnce names) last_is one)) (ap (stand_in names value) (sym last_is) ∙ is)
+      no-memory (Local n) m last_is one is = (let h : Vector (local_name names.locals n) ≡ Memory m = ap (stand_in names value) (sym last_is) ∙ is in cc)
+      no-memory Other m last_is one is = value-not value m (ap (stand_in names value) (sym last_is) ∙ is)
+      no-memory (Selected s x) m last_is one is = value-not value m (ap (stand_in names value) (sym last_is) ∙ is)
+  begins-Index y i base (t ∷ ss) plain on once (Memory name) stand e a sc v h = h
+  begins-Index y i base ss plain on once (Value m) stand e a sc v h = h
 
   pub finds-element : (y : Expr) (x : StepIndex) (xs : List StepIndex) (old_hs hs : List Helper) (old r : Reading) → IsMemoryAt names.signals y None → (meaning y).misfits ≡ 0 → Grows old_hs hs
       → Finds names value y xs old_hs old → ReadsElementBy old y.of x hs r → NamesStep old x r → FindsElement names value y (xs ++ x ∷ []) hs r
   finds-element y x xs old_hs hs old r plain typed_y grows found reads step e i is typed =
       let level = E.same-Index e y i is in
       let typed_at = subst (λ (m : S.Meaning). m.misfits ≡ 0) level typed in
-      at-select e y (Index i) (last-Index e y i is) (Counted e (xs ++ x ∷ []) hs r) (λ base ss on count.
-      let from = found base ss on (count-last xs x (indices_of ss) i count) in
+      at-select e y (Index i) (last-Index e y i is) (Counted e (xs ++ x ∷ []) hs r) (λ base ss on count once.
+      let from = found base ss on (count-last xs x (indices_of ss) i count) once in
       record {
         reads = λ a sc v st.
             (let given = pairs-last (λ j z. IsIndexBy z (meaning j) a sc v) (indices_of ss) i xs x st.indices in
@@ -276,7 +279,7 @@ module _ (names : NameMap) (value : Option T.Meaning) where
             (reads (P.index (layout e.of) e.spot.at (meaning y) (meaning i)) (meaning y) (meaning i) a sc v (heads y).kind (W.index-step (layout e.of) e.spot.at (meaning y) (meaning i) a)
             (W.index-wide (layout e.of) e.spot.at (meaning y) (meaning i) typed_at) (subst (λ (m : S.Meaning). 1 ≤ S.wide m) level (has-bits e typed)) (has-bits y typed_y) given.1 st.helps
             (from.reads a sc v (record {
-              holds = begins-Index y i base ss plain on (stand_of names value base) refl (meaning base) a sc v st.holds;
+              holds = begins-Index y i base ss plain on once (stand_of names value base) refl (meaning base) a sc v st.holds;
               indices = given.0;
               helps = helps-before old_hs hs sc grows st.helps;
             }))));
@@ -298,15 +301,15 @@ module _ (names : NameMap) (value : Option T.Meaning) where
       (λ d. count_of (kind d).left (kind d).right * length (kind d).element.two_state) ∙ (type-whole y.of some).elements ∙ sym (ap (λ (l : Layout). length l.two_state) kind)
 
   -- by a word
-  pub finds-word : (y : Expr) (n : ℕ) (x : StepIndex) (xs : List StepIndex) (hs : List Helper) (r : Reading) → IsMemoryAt names.signals y (Some n) → (meaning y).misfits ≡ 0
-      → ReadsWordBy (signal_name names.signals n) y.of x r → NamesWordBy (signal_name names.signals n) x r → FindsElement names value y (xs ++ x ∷ []) hs r
-  finds-word y n x xs hs r (last_is, memory) typed_y reads named_all e i is typed =
-      let name = signal_name names.signals n in
-      let stand : stand_of names value y ≡ Memory name = ap (stand_in names value) last_is ∙ ap (λ b. signal_stand b name) memory in
+  pub finds-word : (y : Expr) (n : ℕ) (name : Name) (x : StepIndex) (xs : List StepIndex) (hs : List Helper) (r : Reading) → IsMemoryAt names.signals y (Some n)
+      → (OneSignal names.signals n → name ≡ signal_name names.signals n) → (meaning y).misfits ≡ 0 → ReadsWordBy name y.of x r → NamesWordBy name x r → FindsElement names value y (xs ++ x ∷ []) hs r
+  finds-word y n name x xs hs r (last_is, memory) name_is typed_y reads named_all e i is typed =
       let level = E.same-Index e y i is in
       let typed_at = subst (λ (m : S.Meaning). m.misfits ≡ 0) level typed in
       at-select e y (Index i) (last-Index e y i is) (Counted e (xs ++ x ∷ []) hs r)
-      (at-root y (subst IsRoot (sym last_is) tt) (λ base ss. Counted e (xs ++ x ∷ []) hs r base (Index i ∷ ss)) (λ count.
+      (at-root y (subst IsRoot (sym last_is) tt) (λ base ss. Counted e (xs ++ x ∷ []) hs r base (Index i ∷ ss)) (λ count once.
+      let one : OneSignal names.signals n = subst (IsNamedOnce names) last_is once in
+      let stand : stand_of names value y ≡ Memory name = ap (stand_in names value) last_is ∙ ap (λ b. signal_stand b (signal_name names.signals n)) (memory one) ∙ ap Memory (sym (name_is one)) in
       let none = no-items xs (count-last xs x [] i count) in
       record {
         reads = λ a sc v st.
@@ -331,17 +334,17 @@ module _ (names : NameMap) (value : Option T.Meaning) where
   -- a path lacks an index
   pub lacks-Index : (e y i : Expr) (xs : List StepIndex) (hs : List Helper) (r : Reading) → e.form ≡ V.Index y i → xs ≡ [] → Finds names value e xs hs r
   lacks-Index e y i xs hs r is none =
-      at-select e y (Index i) (last-Index e y i is) (Counted e xs hs r) (λ base ss on count. absurd (none-last (indices_of ss) i xs none count))
+      at-select e y (Index i) (last-Index e y i is) (Counted e xs hs r) (λ base ss on count once. absurd (none-last (indices_of ss) i xs none count))
 
   pub lacks-Slide : (e y i : Expr) (n : ℕ) (up : Bool) (xs : List StepIndex) (hs : List Helper) (r : Reading) → e.form ≡ V.Slide y i n up → xs ≡ [] → Finds names value e xs hs r
   lacks-Slide e y i n up xs hs r is none =
-      at-select e y (Slide i n up) (last-Slide e y i n up is) (Counted e xs hs r) (λ base ss on count. absurd (none-last (indices_of ss) i xs none count))
+      at-select e y (Slide i n up) (last-Slide e y i n up is) (Counted e xs hs r) (λ base ss on count once. absurd (none-last (indices_of ss) i xs none count))
 
   -- what is read has the path's value
   pub flattens-found : (e : Expr) (xs : List StepIndex) (old_hs hs : List Helper) (r : Reading) (m : T.Meaning) → (meaning e).misfits ≡ 0 → Grows old_hs hs → Finds names value e xs old_hs r
       → ReadsPath r e.of hs m → NamesRoot r.root m → Flattens names value e xs hs m
-  flattens-found e xs old_hs hs r m typed grows finds reads named_all base ss kind on count =
-      let found = finds base ss on count in
+  flattens-found e xs old_hs hs r m typed grows finds reads named_all base ss kind on count once =
+      let found = finds base ss on count once in
       record {
         same = λ a sc v st.
             reads (meaning e) a sc v (heads e).kind (found.path kind a) (has-bits e typed)
@@ -351,9 +354,9 @@ module _ (names : NameMap) (value : Option T.Meaning) where
 
   pub stands-found : (e : Expr) (xs : List StepIndex) (old_hs hs : List Helper) (r : Reading) (m : T.Meaning) → (meaning e).misfits ≡ 0 → Grows old_hs hs → Finds names value e xs old_hs r
       → ReadsPath r e.of hs m → NamesRoot r.root m → StandsFor names value e xs hs m
-  stands-found e xs old_hs hs r m typed grows finds reads named_all base ss im a sc kind on count all =
-      let found = finds base ss on count in
-      let flat = flattens-found e xs old_hs hs r m typed grows finds reads named_all base ss kind on count in
+  stands-found e xs old_hs hs r m typed grows finds reads named_all base ss im a sc kind on count once all =
+      let found = finds base ss on count once in
+      let flat = flattens-found e xs old_hs hs r m typed grows finds reads named_all base ss kind on count once in
       let images = images-like im.number (stand_names (meaning e)) (path_names names value base xs sc) (m.names sc) (found.images im.number sc all.base_images all.index_images) (flat.named sc) in
       record {
         stands = λ w s now v agree. flat.same (record a { now = now }) sc v (all.holds now v agree) w s;

@@ -1,14 +1,14 @@
 -- What select paths stand on in the text (IEEE 1364-2005 clauses 4.9 and 5.2).
-use Rattle.std.specs.Prelude.{◌≡◌, ℕ, ◌==◌, ⊤, Bool, true, false, cond, List, [], ◌∷◌, Option, Some, None}
+use Rattle.std.specs.Prelude.{◌≡◌, ℕ, ⊤, Bool, true, false, List, [], ◌∷◌, Option, Some, None}
 use Rattle.row_machine.specs.Valuation.{Valuation}
 use Rattle.sv_types.specs.declared.expression.Expr.{Expr}
 use Rattle.sv_types.specs.Surroundings.{Around}
 use Rattle.sv_types.specs.Meanings as S
 use Rattle.v_tree.specs.Names.{Name}
-use Rattle.v_tree.specs.declared.names.LocalName.{LocalName}
 use Rattle.v_tree.specs.declared.names.NameMap.{NameMap}
 use Rattle.v_tree.specs.declared.names.SignalName.{SignalName}
 use Rattle.v_tree.specs.declared.expressions.VExpr.{VExpr}
+use Rattle.name_maps.specs.Named.{signal_name, local_name, is_memory, OneSignal, OneLocal}
 use Rattle.v_meaning.specs.Scopes.{Scope, named}
 use Rattle.v_meaning.specs.Values as T
 use Rattle.lowering_laws.specs.Same.{SameAlone}
@@ -19,24 +19,17 @@ use Rattle.path_flatten.specs.Reading.{IsVector}
 use Rattle.path_flatten.specs.Stepping.{ReadsName, ReadsValue}
 use Rattle.path_walk.specs.Selects.{Select, Last, Signal, Local, Other, Selected, last, BeginsAtElement}
 
--- the name of the first one with this number; nothing where there is none
-abbrev pub signal_name : List SignalName → ℕ → Name
-signal_name [] n = []
-signal_name (s ∷ ss) n = cond (s.signal == n) s.name (signal_name ss n)
-
-abbrev pub local_name : List LocalName → ℕ → Name
-local_name [] n = []
-local_name (l ∷ ls) n = cond (l.local == n) l.name (local_name ls n)
-
--- whether the first one with this number is a memory in the text; not where there is none
-abbrev pub is_memory : List SignalName → ℕ → Bool
-is_memory [] n = false
-is_memory (s ∷ ss) n = cond (s.signal == n) s.memory (is_memory ss n)
+-- the map says one thing of the signal or local that an expression is all of
+abbrev pub IsNamedOnce : NameMap → Last → Type 0
+IsNamedOnce names (Signal n) = OneSignal names.signals n
+IsNamedOnce names (Local n) = OneLocal names.locals n
+IsNamedOnce names Other = ⊤
+IsNamedOnce names (Selected s x) = ⊤
 
 -- an expression is all of the signal with this number, which is a memory; or it is all of none that is
 abbrev pub IsMemoryAt : List SignalName → Expr → Option ℕ → Type 0
-IsMemoryAt names e (Some n) = (last e ≡ Signal n) × (is_memory names n ≡ true)
-IsMemoryAt names e None = (n : ℕ) → last e ≡ Signal n → is_memory names n ≡ false
+IsMemoryAt names e (Some n) = (last e ≡ Signal n) × (OneSignal names n → is_memory names n ≡ true)
+IsMemoryAt names e None = (n : ℕ) → last e ≡ Signal n → OneSignal names n → is_memory names n ≡ false
 
 -- what stands for an expression in the text: a vector or a memory under a name, or an expression that it is lowered to alone
 pub data Stand : Type 0 where

@@ -4,7 +4,6 @@
 
 mod bases;
 mod indices;
-mod names;
 mod paths;
 mod steps;
 

@@ -9,11 +9,11 @@ ghost use Rattle.path_walk.specs.Bases.{value_of};
 ghost use Rattle.path_walk.specs.Indices.{AllShort};
 ghost use Rattle.path_walk.specs.Flattening.{Finds, FindsElement, FindsSlide, Flattens, StandsFor};
 
-use crate::bases::based;
+use crate::bases::{based, memory_at};
 use crate::indices::StepIndex;
-use crate::names::{local_text, memory_at, signal_text};
 use crate::steps;
 use eval_parts::{Step, own_width, step_of};
+use name_maps::{local_text, signal_text};
 use path_flatten::{Helpers, PartSelect, Reading, between_step, member_step, whole_name};
 use path_reads::read;
 use std::alloc::{AllocError, Global};
@@ -103,7 +103,8 @@ fn element(
         None => Ok(whole_name(Text::new(alloc), 0)),
         Some((at, rest)) => match memory_at(names.signals.as_slice(), from) {
             Some(n) => {
-                let read = steps::word(alloc, names.signals.as_slice(), n, &from.of, at)?;
+                let memory = signal_text(alloc, names.signals.as_slice(), n)?;
+                let read = steps::word(alloc, memory, &from.of, at)?;
                 Ok(read)
             }
             None => {

@@ -4,19 +4,17 @@ ghost use Rattle.std.specs.Prelude.{◌≡◌, ◌≤◌, ◌*◌, length, IfOk,
 ghost use Rattle.sv_types.specs.Layouts.{layout, width_of};
 ghost use Rattle.path_flatten.specs.Helping.{Grows};
 ghost use Rattle.path_flatten.specs.Stepping.{IsSound};
-ghost use Rattle.path_walk.specs.Bases.{signal_name};
 ghost use Rattle.path_walk.specs.declared.indices.StepIndex.TheVariants as kinds;
 ghost use Rattle.path_walk.specs.Indices.{IsShort, ReadsElementBy, ReadsSlideBy, ReadsWordBy, NamesStep, NamesWordBy};
 
 use crate::indices::{StepIndex, copy_index};
-use crate::names::signal_text;
 use memory_words::{known_reading, word_number, word_reading};
 use pairs::both;
 use path_flatten::{Helpers, Index, PartSelect, Reading, element_step, index_step, slide_step};
 use path_steps::sliding_step;
 use std::alloc::{AllocError, Global};
+use sv_source::Text;
 use sv_types::SvType;
-use v_tree::SignalName;
 
 /// The element with an index, of what has this type.
 pub(crate) fn element(
@@ -71,11 +69,10 @@ pub(crate) fn slide(
     }
 }
 
-/// The word of a lowered index, of what has this type and is a memory.
+/// The word of a lowered index, of what has this type and is a memory with this name.
 fn lowered_word(
     alloc: Global,
-    names: &[SignalName],
-    n: u32,
+    memory: Text,
     of: &SvType,
     index: Index,
 ) -> Result<Reading, AllocError>
@@ -83,20 +80,18 @@ fn lowered_word(
     requires some { 1 ≤ width_of of.now }
     requires short { index.width ≤ 64 }
     ensures sound { IfOk result IsSound }
-    ensures reads { IfOk result (ReadsWordBy (signal_name names.now n) of.now (kinds.Lowered index)) }
-    ensures names { IfOk result (NamesWordBy (signal_name names.now n) (kinds.Lowered index)) }
+    ensures reads { IfOk result (ReadsWordBy memory of.now (kinds.Lowered index)) }
+    ensures names { IfOk result (NamesWordBy memory (kinds.Lowered index)) }
 {
-    let memory = signal_text(alloc, names, n);
-    let (memory, word) = both(memory, word_number(alloc, index, of))?;
+    let (memory, word) = both(Ok(memory), word_number(alloc, index, of))?;
     let made = word_reading(alloc, memory, of, word)?;
     Ok(made)
 }
 
-/// The element with an index, of a signal of this type that is a memory: the word of the index.
+/// The element with an index, of what has this type and is a memory with this name: the word of the index.
 pub(crate) fn word(
     alloc: Global,
-    names: &[SignalName],
-    n: u32,
+    memory: Text,
     of: &SvType,
     at: &StepIndex,
 ) -> Result<Reading, AllocError>
@@ -104,18 +99,17 @@ pub(crate) fn word(
     requires some { 1 ≤ width_of of.now }
     requires short { IsShort at.now }
     ensures sound { IfOk result IsSound }
-    ensures reads { IfOk result (ReadsWordBy (signal_name names.now n) of.now at.now) }
-    ensures names { IfOk result (NamesWordBy (signal_name names.now n) at.now) }
+    ensures reads { IfOk result (ReadsWordBy memory of.now at.now) }
+    ensures names { IfOk result (NamesWordBy memory at.now) }
 {
     match at {
         StepIndex::Known(number) => {
-            let memory = signal_text(alloc, names, n)?;
             let known = known_reading(alloc, memory, of, *number)?;
             Ok(known)
         }
         StepIndex::Lowered(index) => {
-            let index = copy_index(alloc, index)?;
-            let lowered = lowered_word(alloc, names, n, of, index)?;
+            let (memory, index) = both(Ok(memory), copy_index(alloc, index))?;
+            let lowered = lowered_word(alloc, memory, of, index)?;
             Ok(lowered)
         }
     }

@@ -5,7 +5,8 @@ use mir.Syntax.{w64}
 use Rattle.eval_parts.specs.Steps.{IsStep}
 use Rattle.eval_parts.proofs.TypeKinds.{wide-is}
 use Rattle.path_flatten.specs.Stepping.{ReadsBetween}
-use Rattle.path_walk.specs.Bases.{signal_name, local_name, value_of, IsMemoryAt}
+use Rattle.name_maps.specs.Named.{signal_name, local_name, OneSignal, OneLocal}
+use Rattle.path_walk.specs.Bases.{value_of, IsMemoryAt}
 use Rattle.path_walk.specs.Flattening.{FindsElement, FindsSlide}
 use Rattle.path_walk.specs.Indices.{AllShort}
 use Rattle.path_walk.proofs.Lists.{no-items, short-last}
@@ -23,13 +24,13 @@ pub follow-returns-in_ok-name-in-Some-Signal-clause-finds : goal.follow-returns-
 follow-returns-in_ok-name-in-Some-Signal-clause-finds t c =
     let h = rw c.in-Some-Signal.field-0-is at c.in-Some-Signal.ensures.step in
     finds-Signal c.args.names.now (value_of (option_copied c.args.base)) c.args.e.now c.args.indices.now c.args.helpers.now c.in-Some-Signal.n c.own_width-in-Some-Signal.result c.in_ok-name-in-Some-Signal.name
-    c.whole_name.result h (c.in_ok-name-in-Some-Signal.ensures ∙ ap (λ l. signal_name l c.in-Some-Signal.n) c.as_slice.ensures) c.own_width-in-Some-Signal.ensures c.whole_name.ensures.reads c.whole_name.ensures.root
+    c.whole_name.result h (subst (λ l. OneSignal l c.in-Some-Signal.n → c.in_ok-name-in-Some-Signal.name ≡ signal_name l c.in-Some-Signal.n) c.as_slice.ensures c.in_ok-name-in-Some-Signal.ensures) c.own_width-in-Some-Signal.ensures c.whole_name.ensures.reads c.whole_name.ensures.root
 
 pub follow-returns-in_ok-name-in-Some-Local-clause-finds : goal.follow-returns-in_ok-name-in-Some-Local-clause-finds
 follow-returns-in_ok-name-in-Some-Local-clause-finds t c =
     let h = rw c.in-Some-Local.field-0-is at c.in-Some-Local.ensures.step in
     finds-Local c.args.names.now (value_of (option_copied c.args.base)) c.args.e.now c.args.indices.now c.args.helpers.now c.in-Some-Local.n c.own_width-in-Some-Local.result c.in_ok-name-in-Some-Local.name
-    c.whole_name-in-Some-Local.result h (c.in_ok-name-in-Some-Local.ensures ∙ ap (λ l. local_name l c.in-Some-Local.n) c.as_slice-in-Some-Local.ensures) c.own_width-in-Some-Local.ensures
+    c.whole_name-in-Some-Local.result h (subst (λ l. OneLocal l c.in-Some-Local.n → c.in_ok-name-in-Some-Local.name ≡ local_name l c.in-Some-Local.n) c.as_slice-in-Some-Local.ensures c.in_ok-name-in-Some-Local.ensures) c.own_width-in-Some-Local.ensures
     c.whole_name-in-Some-Local.ensures.reads c.whole_name-in-Some-Local.ensures.root
 
 -- selects without an index
@@ -113,14 +114,15 @@ pub element-word-requires-clause-short : goal.element-word-requires-clause-short
 element-word-requires-clause-short t c =
     (short-last c.in-Some.rest.now c.in-Some.at.now (subst AllShort c.in-Some.ensures.cases.0 c.requires.short)).1
 
-pub element-returns-in_ok-read-clause-finds : goal.element-returns-in_ok-read-clause-finds
-element-returns-in_ok-read-clause-finds t c =
+pub element-returns-in_ok-read-in-Some-memory_at-clause-finds : goal.element-returns-in_ok-read-in-Some-memory_at-clause-finds
+element-returns-in_ok-read-in-Some-memory_at-clause-finds t c =
     let names = c.args.names.now in
     let value = value_of (option_copied c.args.base) in
     let from = c.args.from.now in
     let at = subst (IsMemoryAt names.signals from) c.in-Some-memory_at.is (rw c.as_slice.ensures at c.memory_at.ensures) in
-    subst (λ xs. FindsElement names value from xs c.args.helpers.now c.in_ok-read.read) (sym c.in-Some.ensures.cases.0)
-    (finds-word names value from c.in-Some-memory_at.n c.in-Some.at.now c.in-Some.rest.now c.args.helpers.now c.in_ok-read.read at c.requires.typed c.in_ok-read.ensures.reads c.in_ok-read.ensures.names)
+    let name = subst (λ l. OneSignal l c.in-Some-memory_at.n → c.in_ok-memory-in-Some-memory_at.memory ≡ signal_name l c.in-Some-memory_at.n) c.as_slice.ensures c.in_ok-memory-in-Some-memory_at.ensures in
+    subst (λ xs. FindsElement names value from xs c.args.helpers.now c.in_ok-read-in-Some-memory_at.read) (sym c.in-Some.ensures.cases.0)
+    (finds-word names value from c.in-Some-memory_at.n c.in_ok-memory-in-Some-memory_at.memory c.in-Some.at.now c.in-Some.rest.now c.args.helpers.now c.in_ok-read-in-Some-memory_at.read at name c.requires.typed c.in_ok-read-in-Some-memory_at.ensures.reads c.in_ok-read-in-Some-memory_at.ensures.names)
 
 pub element-follow-requires : goal.element-follow-requires
 element-follow-requires t c =
@@ -134,15 +136,15 @@ pub element-element-requires-clause-short : goal.element-element-requires-clause
 element-element-requires-clause-short t c =
     (short-last c.in-Some.rest.now c.in-Some.at.now (subst AllShort c.in-Some.ensures.cases.0 c.requires.short)).1
 
-pub element-returns-in_ok-made-clause-finds : goal.element-returns-in_ok-made-clause-finds
-element-returns-in_ok-made-clause-finds t c =
+pub element-returns-in_ok-made-in-None-memory_at-clause-finds : goal.element-returns-in_ok-made-in-None-memory_at-clause-finds
+element-returns-in_ok-made-in-None-memory_at-clause-finds t c =
     let names = c.args.names.now in
     let value = value_of (option_copied c.args.base) in
     let from = c.args.from.now in
     let plain = subst (IsMemoryAt names.signals from) c.in-None-memory_at.is (rw c.as_slice.ensures at c.memory_at.ensures) in
-    subst (λ xs. FindsElement names value from xs c.element.new.helpers c.in_ok-made.made) (sym c.in-Some.ensures.cases.0)
-    (finds-element names value from c.in-Some.at.now c.in-Some.rest.now c.follow.new.helpers c.element.new.helpers c.in_ok-found.found c.in_ok-made.made plain c.requires.typed
-    c.in_ok-made.ensures.grows c.in_ok-found.ensures.finds c.in_ok-made.ensures.reads c.in_ok-made.ensures.names)
+    subst (λ xs. FindsElement names value from xs c.element.new.helpers c.in_ok-made-in-None-memory_at.made) (sym c.in-Some.ensures.cases.0)
+    (finds-element names value from c.in-Some.at.now c.in-Some.rest.now c.follow.new.helpers c.element.new.helpers c.in_ok-found-in-None-memory_at.found c.in_ok-made-in-None-memory_at.made plain c.requires.typed
+    c.in_ok-made-in-None-memory_at.ensures.grows c.in_ok-found-in-None-memory_at.ensures.finds c.in_ok-made-in-None-memory_at.ensures.reads c.in_ok-made-in-None-memory_at.ensures.names)
 
 -- indexed part-selects
 pub slid-returns-in-None-clause-finds : goal.slid-returns-in-None-clause-finds
@@ -161,15 +163,15 @@ pub slid-slide-requires-clause-short : goal.slid-slide-requires-clause-short
 slid-slide-requires-clause-short t c =
     (short-last c.in-Some.rest.now c.in-Some.at.now (subst AllShort c.in-Some.ensures.cases.0 c.requires.short)).1
 
-pub slid-returns-in_ok-made-clause-finds : goal.slid-returns-in_ok-made-clause-finds
-slid-returns-in_ok-made-clause-finds t c =
+pub slid-returns-in_ok-made-in-Some-clause-finds : goal.slid-returns-in_ok-made-in-Some-clause-finds
+slid-returns-in_ok-made-in-Some-clause-finds t c =
     let value = value_of (option_copied c.args.base) in
     let from = c.args.from.now in
     let part = c.args.part in
-    let made = c.in_ok-made.made in
+    let made = c.in_ok-made-in-Some.made in
     let hs = c.slide.new.helpers in
     subst (λ xs. FindsSlide c.args.names.now value from part xs hs made) (sym c.in-Some.ensures.cases.0)
     (λ e i is typed wide.
     let size = wide ∙ slide-size e from i part.count part.up is typed in
-    finds-Slide c.args.names.now value e from i part.count part.up c.in-Some.at.now c.in-Some.rest.now c.follow.new.helpers hs c.in_ok-found.found made is typed c.requires.typed c.in_ok-made.ensures.grows
-    c.in_ok-found.ensures.finds (c.in_ok-made.ensures.reads size) c.in_ok-made.ensures.names)
+    finds-Slide c.args.names.now value e from i part.count part.up c.in-Some.at.now c.in-Some.rest.now c.follow.new.helpers hs c.in_ok-found-in-Some.found made is typed c.requires.typed c.in_ok-made-in-Some.ensures.grows
+    c.in_ok-found-in-Some.ensures.finds (c.in_ok-made-in-Some.ensures.reads size) c.in_ok-made-in-Some.ensures.names)
