@@ -1,11 +1,11 @@
 -- Which select is the last one of an expression.
-use Rattle.std.proofs.Common.{◌≡◌, ℕ, Bool, true, false, ℤ, List, [], ◌∷◌, refl, rules, ap, sym, ◌∙◌, subst, true≢false}
+use Rattle.std.proofs.Common.{◌≡◌, ℕ, Bool, false, ℤ, List, [], ◌∷◌, refl, rules, ap, sym, ◌∙◌, subst, true≢false}
 use Rattle.sv_types.specs.declared.expression.Choice.{Choice}
 use Rattle.sv_types.specs.declared.expression.Expr.{Expr}
 use Rattle.sv_types.specs.declared.expression.Form.{Form, Form-F, out-Form, the_lemmas}
 use Rattle.sv_types.specs.declared.expression.Form.TheVariants as V
 use Rattle.eval_parts.specs.Steps.{is_path}
-use Rattle.path_walk.specs.Selects.{Select, Member, Index, Part, Slide, Last, Signal, Local, Other, Selected, last_in, last, IsRoot, IsPathOn}
+use Rattle.path_walk.specs.Selects.{Select, Member, Index, Part, Slide, Signal, Local, Other, Selected, last_in, last, IsRoot, IsPathOn}
 
 abbrev Opened : Type 0
 Opened = Form-F Choice Form Expr

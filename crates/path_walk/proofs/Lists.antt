@@ -4,7 +4,7 @@ use Rattle.sv_types.specs.declared.expression.Expr.{Expr}
 use Rattle.v_meaning.specs.Scopes.{Scope}
 use Rattle.path_walk.specs.declared.indices.StepIndex.{StepIndex}
 use Rattle.path_walk.specs.Indices.{Pairwise, index_names, all_names, IsShort, AllShort}
-use Rattle.path_walk.specs.Selects.{Select, Member, Index, Part, Slide, BeginsAtElement}
+use Rattle.path_walk.specs.Selects.{Select, Member, Part, Slide, BeginsAtElement}
 
 -- a last one more
 pub count-last : {A : Type 0} {B : Type 0} (xs : List A) (x : A) (ys : List B) (y : B) → length (xs ++ x ∷ []) ≡ length (ys ++ y ∷ []) → length xs ≡ length ys

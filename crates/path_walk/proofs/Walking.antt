@@ -41,9 +41,9 @@ use Rattle.path_steps.proofs.PathNames.{IsNamed, NamedStep, images-like, images-
 use Rattle.path_steps.proofs.PathSteps as W
 use Rattle.path_walk.specs.declared.indices.StepIndex.{StepIndex}
 use Rattle.path_walk.specs.Bases.{IsNamedOnce, IsMemoryAt, Stand, Vector, Memory, Value, value_stand, signal_stand, stand_in, stand_of, HoldsBits, stand_numbers, ReadsStand, NamesStand}
-use Rattle.path_walk.specs.Indices.{IsIndexBy, NameImages, index_names, all_names, ReadsElementBy, ReadsSlideBy, ReadsWordBy, NamesStep, NamesWordBy}
+use Rattle.path_walk.specs.Indices.{IsIndexBy, index_names, all_names, ReadsElementBy, ReadsSlideBy, ReadsWordBy, NamesStep, NamesWordBy}
 use Rattle.path_walk.specs.Selects.{Select, Member, Index, Part, Slide, Last, Signal, Local, Other, Selected, last, IsRoot, IsPathOn, indices_of, BeginsAtElement}
-use Rattle.path_walk.specs.Flattening.{TextHolds, path_names, Found, Finds, FindsElement, Flattens, StandsFor}
+use Rattle.path_walk.specs.Flattening.{path_names, Found, Finds, FindsElement, Flattens, StandsFor}
 use Rattle.path_walk.proofs.Lasts.{last-Signal, last-Local, last-Member, last-Index, last-Part, last-Slide, last-plain, at-root, at-select}
 use Rattle.path_walk.proofs.Lists.{count-last, none-last, no-items, names-last, pairs-last, begins-Member, begins-Part, begins-Slide}
 use Rattle.path_walk.proofs.Typed.{member-path, index-path, part-path, slide-path}

@@ -1,5 +1,5 @@
 -- What flattened select paths read and name (IEEE 1800-2017 clauses 9.4.2.2 and 11.5.1, IEEE 1364-2005 clause 5.4).
-use Rattle.std.specs.Prelude.{◌≡◌, ℕ, Bool, true, List, [], ◌∷◌, ◌++◌, length, Option}
+use Rattle.std.specs.Prelude.{◌≡◌, ℕ, Bool, true, List, ◌++◌, length, Option}
 use Rattle.row_machine.specs.Valuation.{Valuation}
 use Rattle.sv_types.specs.declared.expression.Expr.{Expr}
 use Rattle.sv_types.specs.declared.expression.Form.{out-Form}

@@ -1,9 +1,7 @@
-use Rattle.std.proofs.Common.{◌≡◌, ℤ, option_copied, rules, arith, ap, sym, ◌∙◌, subst}
+use Rattle.std.proofs.Common.{◌≡◌, ℤ, option_copied, rules, arith, sym, ◌∙◌, subst}
 use Rattle.std.proofs.lemmas.Int.{to_z-of_z}
 use mir.Val.{SFits, to_z, of_z}
 use mir.Syntax.{w64}
-use Rattle.eval_parts.specs.Steps.{IsStep}
-use Rattle.eval_parts.proofs.TypeKinds.{wide-is}
 use Rattle.path_flatten.specs.Stepping.{ReadsBetween}
 use Rattle.name_maps.specs.Named.{signal_name, local_name, OneSignal, OneLocal}
 use Rattle.path_walk.specs.Bases.{value_of, IsMemoryAt}
@@ -120,7 +118,7 @@ element-returns-in_ok-read-in-Some-memory_at-clause-finds t c =
     let value = value_of (option_copied c.args.base) in
     let from = c.args.from.now in
     let at = subst (IsMemoryAt names.signals from) c.in-Some-memory_at.is (rw c.as_slice.ensures at c.memory_at.ensures) in
-    let name = subst (λ l. OneSignal l c.in-Some-memory_at.n → c.in_ok-memory-in-Some-memory_at.memory ≡ signal_name l c.in-Some-memory_at.n) c.as_slice.ensures c.in_ok-memory-in-Some-memory_at.ensures in
+    let name = subst (λ l. OneSignal l c.in-Some-memory_at.n → c.in_ok-memory-in-Some-memory_at.memory ≡ signal_name l c.in-Some-memory_at.n) c.as_slice-in-Some-memory_at.ensures c.in_ok-memory-in-Some-memory_at.ensures in
     subst (λ xs. FindsElement names value from xs c.args.helpers.now c.in_ok-read-in-Some-memory_at.read) (sym c.in-Some.ensures.cases.0)
     (finds-word names value from c.in-Some-memory_at.n c.in_ok-memory-in-Some-memory_at.memory c.in-Some.at.now c.in-Some.rest.now c.args.helpers.now c.in_ok-read-in-Some-memory_at.read at name c.requires.typed c.in_ok-read-in-Some-memory_at.ensures.reads c.in_ok-read-in-Some-memory_at.ensures.names)
 
