@@ -1,5 +1,5 @@
 -- Elements of signals that are memories in the text are read as those of the signals.
-use Rattle.std.proofs.Common.{◌≡◌, ℕ, ◌+◌, ◌*◌, ◌<◌, ◌≤◌, Bool, false, ℤ, pos, List, [], ◌∷◌, ◌++◌, length, Option, Some, None, refl, arith, ap, sym, ◌∙◌, subst}
+use Rattle.std.proofs.Common.{◌≡◌, ℕ, ◌+◌, ◌*◌, ◌<◌, ◌≤◌, ℤ, pos, List, [], ◌∷◌, ◌++◌, length, Option, Some, None, refl, arith, ap, sym, ◌∙◌, subst}
 use Rattle.row_machine.specs.Valuation.{Valuation}
 use Rattle.row_machine.specs.Places.{vector_at}
 use Rattle.picks.specs.Windows.{whole}
@@ -43,7 +43,7 @@ use Rattle.path_steps.proofs.PathSteps as W
 use Rattle.memory_words.specs.Readings.{ReadsKnownWord, NamesMemory}
 use Rattle.expr_lower.specs.Elements.{StandsInWords, ReadsWordBy, NamesWordBy}
 use Rattle.expr_lower.specs.Leaves.{Leaf, Signals, Elements, Inside, Locals, Calls, Valued, Joined, Unlowered, leaves, onto, indexed, Each}
-use Rattle.name_maps.specs.Named.{signal_name, is_memory, OneSignal}
+use Rattle.name_maps.specs.Named.{signal_name, OneSignal}
 use Rattle.expr_lower.specs.Lowering.{IsShownInWords, ShowsElements, LeafStands}
 use Rattle.expr_lower.specs.Paths.{Found}
 use Rattle.expr_lower.proofs.AskedLeaves as A

@@ -1,4 +1,4 @@
-use Rattle.std.proofs.Common.{◌≡◌, IfOk, refl, ap, sym, ◌∙◌, subst, map}
+use Rattle.std.proofs.Common.{◌≡◌, IfOk, refl, ap, sym, subst, map}
 use Rattle.v_meaning.specs.Values as T
 use Rattle.v_build.specs.Trees.{meanings}
 use Rattle.sv_types.specs.Functions.{parameter}
