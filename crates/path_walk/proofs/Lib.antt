@@ -1,4 +1,4 @@
-pub mod Lasts
+pub mod PathForms
 pub mod Lists
 pub mod Typed
 pub mod Walking

@@ -1,5 +1,5 @@
 -- Readings of select paths with their indices, select by select.
-use Rattle.std.proofs.Common.{◌≡◌, ℕ, zero, suc, ◌*◌, ◌≤◌, Bool, true, false, ℤ, List, [], ◌∷◌, ◌++◌, append_assoc, append-nil, length, Option, Some, None, refl, ap, sym, ◌∙◌, subst, true≢false}
+use Rattle.std.proofs.Common.{◌≡◌, ℕ, zero, suc, ◌*◌, ◌≤◌, Bool, true, false, ℤ, List, [], ◌∷◌, ◌++◌, append_assoc, append-nil, length, Option, Some, None, IfSome, IsSome, refl, ap, sym, ◌∙◌, subst, true≢false}
 use Rattle.row_machine.specs.Valuation.{Valuation}
 use Rattle.row_machine.specs.Places.{bits_from}
 use Rattle.picks.specs.Windows.{whole}
@@ -30,7 +30,7 @@ use Rattle.path_flatten.specs.declared.readings.Root.{Root}
 use Rattle.path_flatten.specs.declared.readings.Root.TheVariants as R
 use Rattle.path_flatten.specs.declared.readings.Reading.{Reading}
 use Rattle.path_flatten.specs.Helping.{Grows}
-use Rattle.path_flatten.specs.Naming.{SameNumbers, root_names, NamesRoot}
+use Rattle.path_flatten.specs.Naming.{SameNumbers, root_names, NamesRoot, RootNames}
 use Rattle.path_flatten.specs.Reading.{IsVector, Reads}
 use Rattle.path_flatten.specs.Stepping.{ReadsMember, ReadsBetween, ReadsName, ReadsValue}
 use Rattle.path_flatten.specs.Storing.{ReadsPath}
@@ -40,11 +40,11 @@ use Rattle.path_steps.specs.Stands.{stand_names}
 use Rattle.path_steps.proofs.PathNames.{IsNamed, NamedStep, images-like, images-of, step-images, fixed-images, step-named, stands-named}
 use Rattle.path_steps.proofs.PathSteps as W
 use Rattle.path_walk.specs.declared.indices.StepIndex.{StepIndex}
-use Rattle.path_walk.specs.Bases.{IsNamedOnce, IsMemoryAt, Stand, Vector, Memory, Value, value_stand, signal_stand, stand_in, stand_of, HoldsBits, stand_numbers, ReadsStand, NamesStand}
+use Rattle.path_walk.specs.Bases.{HasStand, IsMemoryAt, Stand, Vector, Memory, Value, Nothing, value_stand, signal_stand, stand_in, stand_of, HoldsBits, stand_numbers}
 use Rattle.path_walk.specs.Indices.{IsIndexBy, index_names, all_names, ReadsElementBy, ReadsSlideBy, ReadsWordBy, NamesStep, NamesWordBy}
-use Rattle.path_walk.specs.Selects.{Select, Member, Index, Part, Slide, Last, Signal, Local, Other, Selected, last, IsRoot, IsPathOn, indices_of, BeginsAtElement}
-use Rattle.path_walk.specs.Flattening.{path_names, Found, Finds, FindsElement, Flattens, StandsFor}
-use Rattle.path_walk.proofs.Lasts.{last-Signal, last-Local, last-Member, last-Index, last-Part, last-Slide, last-plain, at-root, at-select}
+use Rattle.path_walk.specs.Selects.{Select, Member, Index, Part, Slide, PathForm, Signal, Local, Other, Selected, path_form, IsRoot, IsPathOn, indices_of, BeginsAtElement}
+use Rattle.path_walk.specs.Flattening.{path_names, Found, Finds, FindsElement, Flattens, StandsForPath}
+use Rattle.path_walk.proofs.PathForms.{form-Signal, form-Local, form-Member, form-Index, form-Part, form-Slide, form-plain, at-root, at-select}
 use Rattle.path_walk.proofs.Lists.{count-last, none-last, no-items, names-last, pairs-last, begins-Member, begins-Part, begins-Slide}
 use Rattle.path_walk.proofs.Typed.{member-path, index-path, part-path, slide-path}
 
@@ -69,12 +69,16 @@ signal-names true name sc = refl
 signal-names false name sc = refl
 
 -- what stands for what is neither signal nor local
-value-reads : (m : Option T.Meaning) (e : Expr) (w : ℕ) (r : Reading) (a : Around) (sc : Scope) (v : Valuation) → IsValued (meaning e) → w ≡ S.wide (meaning e) → ReadsStand (value_stand m) w r
+value-reads : (m : Option T.Meaning) (e : Expr) (w : ℕ) (r : Reading) (a : Around) (sc : Scope) (v : Valuation) → IsValued (meaning e) → w ≡ S.wide (meaning e) → IfSome m (λ k. ReadsValue k w r)
     → HoldsBits (value_stand m) (meaning e) [] a sc v → Reads r (meaning e) a sc v
-value-reads None e w r a sc v valued width reads h = whole-reads (meaning e) w [] r a sc v width (valued.window a) reads h
+value-reads None e w r a sc v valued width reads h = absurd h
 value-reads (Some m) e w r a sc v valued width reads h =
     let at_size : ReadsValue m (S.wide (meaning e)) r = subst (λ k. ReadsValue m k r) width reads in
     at_size (meaning e) a sc v refl (valued.window a) (valued.base a) (length-value e (S.wide (meaning e)) (S.signed (meaning e)) a) h
+
+value-names : (m : Option T.Meaning) (r : Reading) (sc : Scope) → IsSome m → IfSome m (λ k. RootNames k r.root) → SameNumbers (stand_numbers (value_stand m) sc) (root_names r.root sc)
+value-names None r sc some names = absurd (true≢false (sym some))
+value-names (Some m) r sc some names = names sc
 
 -- the text holds it, whatever is selected from it, but for a memory
 holds-below : (s : Stand) (e : S.Meaning) (above below : List Select) (a : Around) (sc : Scope) (v : Valuation) → (BeginsAtElement above → BeginsAtElement below) → HoldsBits s e above a sc v
@@ -82,6 +86,7 @@ holds-below : (s : Stand) (e : S.Meaning) (above below : List Select) (a : Aroun
 holds-below (Vector name) e above below a sc v begins h = h
 holds-below (Memory name) e above below a sc v begins h = (h.0, begins h.1)
 holds-below (Value m) e above below a sc v begins h = h
+holds-below Nothing e above below a sc v begins h = h
 
 all-ended : (ns : List ℕ) (xs : List StepIndex) (x : StepIndex) (sc : Scope) → ns ++ all_names (xs ++ x ∷ []) sc ≡ (ns ++ all_names xs sc) ++ index_names x sc
 all-ended ns xs x sc = ap (λ l. ns ++ l) (names-last xs x sc) ∙ sym (append_assoc ns (all_names xs sc) (index_names x sc))
@@ -104,7 +109,7 @@ images-of-root image e ns xs sc none h = subst (AreImages image (stand_names e))
 
 module _ (names : NameMap) (value : Option T.Meaning) where
   abbrev Counted : Expr → List StepIndex → List Helper → Reading → Expr → List Select → Type 0
-  Counted e xs hs r base ss = length xs ≡ length (indices_of ss) → IsNamedOnce names (last base) → Found names value base ss e xs hs r
+  Counted e xs hs r base ss = length xs ≡ length (indices_of ss) → HasStand names value (path_form base) → Found names value base ss e xs hs r
 
   root-named : (e : Expr) (xs : List StepIndex) (r : Reading) (name : Name) (sc : Scope) → stand_numbers (stand_of names value e) sc ≡ (named sc.names name).number ∷ [] → xs ≡ [] → r.root ≡ R.Name name
       → SameNumbers (path_names names value e xs sc) (root_names r.root sc)
@@ -116,10 +121,10 @@ module _ (names : NameMap) (value : Option T.Meaning) where
   pub finds-Signal : (e : Expr) (xs : List StepIndex) (hs : List Helper) (n w : ℕ) (name : Name) (r : Reading) → e.form ≡ V.Signal n → (OneSignal names.signals n → name ≡ signal_name names.signals n) → w ≡ S.wide (meaning e)
       → ReadsName name w r → r.root ≡ R.Name name → Finds names value e xs hs r
   finds-Signal e xs hs n w name r is name_is width reads root =
-      let last_is = last-Signal e n is in
+      let form_is = form-Signal e n is in
       let b = is_memory names.signals n in
-      at-root e (subst IsRoot (sym last_is) tt) (Counted e xs hs r) (λ count once.
-      let stand : stand_of names value e ≡ signal_stand b name = ap (stand_in names value) last_is ∙ ap (signal_stand b) (sym (name_is (subst (IsNamedOnce names) last_is once))) in
+      at-root e (subst IsRoot (sym form_is) tt) (Counted e xs hs r) (λ count once.
+      let stand : stand_of names value e ≡ signal_stand b name = ap (stand_in names value) form_is ∙ ap (signal_stand b) (sym (name_is (subst (HasStand names value) form_is once))) in
       record {
         reads = λ a sc v st.
             (let path = W.signal-path (layout e.of) e.spot.at n a in
@@ -134,9 +139,9 @@ module _ (names : NameMap) (value : Option T.Meaning) where
   pub finds-Local : (e : Expr) (xs : List StepIndex) (hs : List Helper) (n w : ℕ) (name : Name) (r : Reading) → e.form ≡ V.Local n → (OneLocal names.locals n → name ≡ local_name names.locals n) → w ≡ S.wide (meaning e)
       → ReadsName name w r → r.root ≡ R.Name name → Finds names value e xs hs r
   finds-Local e xs hs n w name r is name_is width reads root =
-      let last_is = last-Local e n is in
-      at-root e (subst IsRoot (sym last_is) tt) (Counted e xs hs r) (λ count once.
-      let stand : stand_of names value e ≡ Vector name = ap (stand_in names value) last_is ∙ ap Vector (sym (name_is (subst (IsNamedOnce names) last_is once))) in
+      let form_is = form-Local e n is in
+      at-root e (subst IsRoot (sym form_is) tt) (Counted e xs hs r) (λ count once.
+      let stand : stand_of names value e ≡ Vector name = ap (stand_in names value) form_is ∙ ap Vector (sym (name_is (subst (HasStand names value) form_is once))) in
       record {
         reads = λ a sc v st.
             (let path = W.local-path (layout e.of) e.spot.at n a in
@@ -150,16 +155,16 @@ module _ (names : NameMap) (value : Option T.Meaning) where
 
   -- what has another form
   pub finds-value : (e : Expr) (xs : List StepIndex) (hs : List Helper) (w : ℕ) (r : Reading) → is_path (out-Form e.form) ≡ false → IsValued (meaning e) → w ≡ S.wide (meaning e)
-      → ReadsStand (value_stand value) w r → NamesStand (value_stand value) r → Finds names value e xs hs r
+      → IfSome value (λ m. ReadsValue m w r) → IfSome value (λ m. RootNames m r.root) → Finds names value e xs hs r
   finds-value e xs hs w r plain valued width reads named_all =
-      let last_is = last-plain e plain in
-      let stand : stand_of names value e ≡ value_stand value = ap (stand_in names value) last_is in
-      at-root e (subst IsRoot (sym last_is) tt) (Counted e xs hs r) (λ count once. record {
+      let form_is = form-plain e plain in
+      let stand : stand_of names value e ≡ value_stand value = ap (stand_in names value) form_is in
+      at-root e (subst IsRoot (sym form_is) tt) (Counted e xs hs r) (λ count once. record {
         reads = λ a sc v st. value-reads value e w r a sc v valued width reads (subst (λ s. HoldsBits s (meaning e) [] a sc v) stand st.holds);
         named = λ sc.
             (let none : stand_numbers (value_stand value) sc ≡ path_names names value e xs sc =
             sym (append-nil (stand_numbers (value_stand value) sc)) ∙ (λ i. stand_numbers (sym stand i) sc ++ all_names (sym (no-items xs count) i) sc) in
-            subst (λ l. SameNumbers l (root_names r.root sc)) none (named_all sc));
+            subst (λ l. SameNumbers l (root_names r.root sc)) none (value-names value r sc (subst (HasStand names value) form_is once) named_all));
         images = λ image sc h g. images-of-root image (meaning e) (stand_numbers (stand_of names value e) sc) xs sc (no-items xs count) h;
         path = λ kind a. absurd (true≢false (sym kind ∙ plain));
         kept = λ kind. absurd (true≢false (sym kind ∙ plain));
@@ -170,7 +175,7 @@ module _ (names : NameMap) (value : Option T.Meaning) where
       → ReadsMember old x.of k r → r.root ≡ old.root → Finds names value e xs hs r
   finds-Member e x k xs hs old r is typed found reads root =
       let level = E.same-Member e x k is in
-      at-select e x (Member k) (last-Member e x k is) (Counted e xs hs r) (λ base ss on count once.
+      at-select e x (Member k) (form-Member e x k is) (Counted e xs hs r) (λ base ss on count once.
       let from = found base ss on count once in
       record {
         reads = λ a sc v st.
@@ -194,7 +199,7 @@ module _ (names : NameMap) (value : Option T.Meaning) where
       → ReadsBetween old x.of left right r → r.root ≡ old.root → Finds names value e xs hs r
   finds-Part e x left right xs hs old r is typed found reads root =
       let level = E.same-Part e x left right is in
-      at-select e x (Part left right) (last-Part e x left right is) (Counted e xs hs r) (λ base ss on count once.
+      at-select e x (Part left right) (form-Part e x left right is) (Counted e xs hs r) (λ base ss on count once.
       let from = found base ss on count once in
       record {
         reads = λ a sc v st.
@@ -220,7 +225,7 @@ module _ (names : NameMap) (value : Option T.Meaning) where
   finds-Slide e y i n up x xs old_hs hs old r is typed typed_y grows found reads step =
       let level = E.same-Slide e y i n up is in
       let typed_at = subst (λ (m : S.Meaning). m.misfits ≡ 0) level typed in
-      at-select e y (Slide i n up) (last-Slide e y i n up is) (Counted e (xs ++ x ∷ []) hs r) (λ base ss on count once.
+      at-select e y (Slide i n up) (form-Slide e y i n up is) (Counted e (xs ++ x ∷ []) hs r) (λ base ss on count once.
       let from = found base ss on (count-last xs x (indices_of ss) i count) once in
       record {
         reads = λ a sc v st.
@@ -244,10 +249,10 @@ module _ (names : NameMap) (value : Option T.Meaning) where
       })
 
   -- a memory is no plain root, so that the first select of all stands above it
-  begins-Index : (y i : Expr) (base : Expr) (ss : List Select) → IsMemoryAt names.signals y None → IsPathOn base ss y → IsNamedOnce names (last base) → (s : Stand) → stand_of names value base ≡ s
+  begins-Index : (y i : Expr) (base : Expr) (ss : List Select) → IsMemoryAt names.signals y None → IsPathOn base ss y → HasStand names value (path_form base) → (s : Stand) → stand_of names value base ≡ s
       → (e : S.Meaning) (a : Around) (sc : Scope) (v : Valuation) → HoldsBits s e (Index i ∷ ss) a sc v → HoldsBits s e ss a sc v
   begins-Index y i base ss plain on once (Vector name) stand e a sc v h = h
-  begins-Index y i base [] plain on once (Memory name) stand e a sc v h = absurd (no-memory (last y) name refl (subst (λ b. IsNamedOnce names (last b)) (sym on.0) once) (subst (λ b. stand_of names value b ≡ Memory name) (sym on.0) stand))
+  begins-Index y i base [] plain on once (Memory name) stand e a sc v h = absurd (no-memory (path_form y) name refl (subst (λ b. HasStand names value (path_form b)) (sym on.0) once) (subst (λ b. stand_of names value b ≡ Memory name) (sym on.0) stand))
     where
       signal-not : (b : Bool) (m n : Name) → b ≡ false → signal_stand b m ≡ Memory n → ⊥
       signal-not true m n other is = true≢false other
@@ -257,20 +262,21 @@ module _ (names : NameMap) (value : Option T.Meaning) where
       value-not None n is = cc
       value-not (Some m) n is = cc
 
-      no-memory : (l : Last) (m : Name) → last y ≡ l → IsNamedOnce names (last y) → stand_in names value (last y) ≡ Memory m → ⊥
-      no-memory (Signal n) m last_is one is = signal-not (is_memory names.signals n) (signal_name names.signals n) m (plain n last_is (subst (IsNamedOnce names) last_is one)) (ap (stand_in names value) (sym last_is) ∙ is)
-      no-memory (Local n) m last_is one is = (let h : Vector (local_name names.locals n) ≡ Memory m = ap (stand_in names value) (sym last_is) ∙ is in cc)
-      no-memory Other m last_is one is = value-not value m (ap (stand_in names value) (sym last_is) ∙ is)
-      no-memory (Selected s x) m last_is one is = value-not value m (ap (stand_in names value) (sym last_is) ∙ is)
+      no-memory : (l : PathForm) (m : Name) → path_form y ≡ l → HasStand names value (path_form y) → stand_in names value (path_form y) ≡ Memory m → ⊥
+      no-memory (Signal n) m form_is one is = signal-not (is_memory names.signals n) (signal_name names.signals n) m (plain n form_is (subst (HasStand names value) form_is one)) (ap (stand_in names value) (sym form_is) ∙ is)
+      no-memory (Local n) m form_is one is = (let h : Vector (local_name names.locals n) ≡ Memory m = ap (stand_in names value) (sym form_is) ∙ is in cc)
+      no-memory Other m form_is one is = value-not value m (ap (stand_in names value) (sym form_is) ∙ is)
+      no-memory (Selected s x) m form_is one is = value-not value m (ap (stand_in names value) (sym form_is) ∙ is)
   begins-Index y i base (t ∷ ss) plain on once (Memory name) stand e a sc v h = h
   begins-Index y i base ss plain on once (Value m) stand e a sc v h = h
+  begins-Index y i base ss plain on once Nothing stand e a sc v h = h
 
   pub finds-element : (y : Expr) (x : StepIndex) (xs : List StepIndex) (old_hs hs : List Helper) (old r : Reading) → IsMemoryAt names.signals y None → (meaning y).misfits ≡ 0 → Grows old_hs hs
       → Finds names value y xs old_hs old → ReadsElementBy old y.of x hs r → NamesStep old x r → FindsElement names value y (xs ++ x ∷ []) hs r
   finds-element y x xs old_hs hs old r plain typed_y grows found reads step e i is typed =
       let level = E.same-Index e y i is in
       let typed_at = subst (λ (m : S.Meaning). m.misfits ≡ 0) level typed in
-      at-select e y (Index i) (last-Index e y i is) (Counted e (xs ++ x ∷ []) hs r) (λ base ss on count once.
+      at-select e y (Index i) (form-Index e y i is) (Counted e (xs ++ x ∷ []) hs r) (λ base ss on count once.
       let from = found base ss on (count-last xs x (indices_of ss) i count) once in
       record {
         reads = λ a sc v st.
@@ -303,13 +309,13 @@ module _ (names : NameMap) (value : Option T.Meaning) where
   -- by a word
   pub finds-word : (y : Expr) (n : ℕ) (name : Name) (x : StepIndex) (xs : List StepIndex) (hs : List Helper) (r : Reading) → IsMemoryAt names.signals y (Some n)
       → (OneSignal names.signals n → name ≡ signal_name names.signals n) → (meaning y).misfits ≡ 0 → ReadsWordBy name y.of x r → NamesWordBy name x r → FindsElement names value y (xs ++ x ∷ []) hs r
-  finds-word y n name x xs hs r (last_is, memory) name_is typed_y reads named_all e i is typed =
+  finds-word y n name x xs hs r (form_is, memory) name_is typed_y reads named_all e i is typed =
       let level = E.same-Index e y i is in
       let typed_at = subst (λ (m : S.Meaning). m.misfits ≡ 0) level typed in
-      at-select e y (Index i) (last-Index e y i is) (Counted e (xs ++ x ∷ []) hs r)
-      (at-root y (subst IsRoot (sym last_is) tt) (λ base ss. Counted e (xs ++ x ∷ []) hs r base (Index i ∷ ss)) (λ count once.
-      let one : OneSignal names.signals n = subst (IsNamedOnce names) last_is once in
-      let stand : stand_of names value y ≡ Memory name = ap (stand_in names value) last_is ∙ ap (λ b. signal_stand b (signal_name names.signals n)) (memory one) ∙ ap Memory (sym (name_is one)) in
+      at-select e y (Index i) (form-Index e y i is) (Counted e (xs ++ x ∷ []) hs r)
+      (at-root y (subst IsRoot (sym form_is) tt) (λ base ss. Counted e (xs ++ x ∷ []) hs r base (Index i ∷ ss)) (λ count once.
+      let one : OneSignal names.signals n = subst (HasStand names value) form_is once in
+      let stand : stand_of names value y ≡ Memory name = ap (stand_in names value) form_is ∙ ap (λ b. signal_stand b (signal_name names.signals n)) (memory one) ∙ ap Memory (sym (name_is one)) in
       let none = no-items xs (count-last xs x [] i count) in
       record {
         reads = λ a sc v st.
@@ -334,11 +340,11 @@ module _ (names : NameMap) (value : Option T.Meaning) where
   -- a path lacks an index
   pub lacks-Index : (e y i : Expr) (xs : List StepIndex) (hs : List Helper) (r : Reading) → e.form ≡ V.Index y i → xs ≡ [] → Finds names value e xs hs r
   lacks-Index e y i xs hs r is none =
-      at-select e y (Index i) (last-Index e y i is) (Counted e xs hs r) (λ base ss on count once. absurd (none-last (indices_of ss) i xs none count))
+      at-select e y (Index i) (form-Index e y i is) (Counted e xs hs r) (λ base ss on count once. absurd (none-last (indices_of ss) i xs none count))
 
   pub lacks-Slide : (e y i : Expr) (n : ℕ) (up : Bool) (xs : List StepIndex) (hs : List Helper) (r : Reading) → e.form ≡ V.Slide y i n up → xs ≡ [] → Finds names value e xs hs r
   lacks-Slide e y i n up xs hs r is none =
-      at-select e y (Slide i n up) (last-Slide e y i n up is) (Counted e xs hs r) (λ base ss on count once. absurd (none-last (indices_of ss) i xs none count))
+      at-select e y (Slide i n up) (form-Slide e y i n up is) (Counted e xs hs r) (λ base ss on count once. absurd (none-last (indices_of ss) i xs none count))
 
   -- what is read has the path's value
   pub flattens-found : (e : Expr) (xs : List StepIndex) (old_hs hs : List Helper) (r : Reading) (m : T.Meaning) → (meaning e).misfits ≡ 0 → Grows old_hs hs → Finds names value e xs old_hs r
@@ -353,7 +359,7 @@ module _ (names : NameMap) (value : Option T.Meaning) where
       }
 
   pub stands-found : (e : Expr) (xs : List StepIndex) (old_hs hs : List Helper) (r : Reading) (m : T.Meaning) → (meaning e).misfits ≡ 0 → Grows old_hs hs → Finds names value e xs old_hs r
-      → ReadsPath r e.of hs m → NamesRoot r.root m → StandsFor names value e xs hs m
+      → ReadsPath r e.of hs m → NamesRoot r.root m → StandsForPath names value e xs hs m
   stands-found e xs old_hs hs r m typed grows finds reads named_all base ss im a sc kind on count once all =
       let found = finds base ss on count once in
       let flat = flattens-found e xs old_hs hs r m typed grows finds reads named_all base ss kind on count once in

@@ -23,9 +23,9 @@ use Rattle.path_flatten.specs.Naming.{SameNumbers, root_names}
 use Rattle.path_flatten.specs.Reading.{Reads}
 use Rattle.path_steps.specs.Stands.{stand_names}
 use Rattle.path_walk.specs.declared.indices.StepIndex.{StepIndex}
-use Rattle.path_walk.specs.Bases.{IsNamedOnce, stand_of, HoldsBits, stand_numbers}
+use Rattle.path_walk.specs.Bases.{HasStand, stand_of, HoldsBits, stand_numbers}
 use Rattle.path_walk.specs.Indices.{AreIndices, NameImages, all_names}
-use Rattle.path_walk.specs.Selects.{Select, last, IsPathOn, indices_of}
+use Rattle.path_walk.specs.Selects.{Select, path_form, IsPathOn, indices_of}
 
 -- The text holds what a path stands on, has the values of its indices in order, and has the helpers.
 pub record TextHolds (names : NameMap) (value : Option T.Meaning) (base : Expr) (ss : List Select) (xs : List StepIndex) (hs : List Helper) (a : Around) (sc : Scope) (v : Valuation) : Type 0 where
@@ -46,9 +46,9 @@ pub record Found (names : NameMap) (value : Option T.Meaning) (base : Expr) (ss 
   pub path : is_path (out-Form e.form) ≡ true → (a : Around) → IsPath (meaning e) a
   pub kept : is_path (out-Form e.form) ≡ true → SameNumbers (numbers (meaning e).names) (numbers (stand_names (meaning e)))
 
--- so it is whatever the selects are, if there are as many indices, and the map names what the path stands on once
+-- so it is whatever the selects are, if there are as many indices, and what the path stands on has one stand in the text
 abbrev pub Finds : NameMap → Option T.Meaning → Expr → List StepIndex → List Helper → Reading → Type 0
-Finds names value e xs hs r = (base : Expr) (ss : List Select) → IsPathOn base ss e → length xs ≡ length (indices_of ss) → IsNamedOnce names (last base) → Found names value base ss e xs hs r
+Finds names value e xs hs r = (base : Expr) (ss : List Select) → IsPathOn base ss e → length xs ≡ length (indices_of ss) → HasStand names value (path_form base) → Found names value base ss e xs hs r
 
 -- a reading of each element by an index, and of each indexed part-select, of an expression
 abbrev pub FindsElement : NameMap → Option T.Meaning → Expr → List StepIndex → List Helper → Reading → Type 0
@@ -63,9 +63,9 @@ pub record Flattened (names : NameMap) (value : Option T.Meaning) (base : Expr) 
   pub same : (a : Around) (sc : Scope) (v : Valuation) → TextHolds names value base ss xs hs a sc v → (w : ℕ) (s : Bool) → Same (meaning e) w s a m sc v
   pub named : (sc : Scope) → SameNumbers (path_names names value base xs sc) (m.names sc)
 
--- so it does for a select path, whatever its selects are, if there are as many indices, and the map names what the path stands on once
+-- so it does for a select path, whatever its selects are, if there are as many indices, and what the path stands on has one stand in the text
 abbrev pub Flattens : NameMap → Option T.Meaning → Expr → List StepIndex → List Helper → T.Meaning → Type 0
-Flattens names value e xs hs m = (base : Expr) (ss : List Select) → is_path (out-Form e.form) ≡ true → IsPathOn base ss e → length xs ≡ length (indices_of ss) → IsNamedOnce names (last base)
+Flattens names value e xs hs m = (base : Expr) (ss : List Select) → is_path (out-Form e.form) ≡ true → IsPathOn base ss e → length xs ≡ length (indices_of ss) → HasStand names value (path_form base)
     → Flattened names value base ss e xs hs m
 
 -- On all valuations that agree the text holds a path, and it names the images of what the path stands on and of what its indices name.
@@ -76,10 +76,10 @@ pub record AllHold (names : NameMap) (value : Option T.Meaning) (base : Expr) (s
 
 -- Then the expression stands for the path at each width and sign on all of them, and names the images of what the path names, all of
 -- them and no other.
-pub record Stood (im : Images) (a : Around) (sc : Scope) (e : S.Meaning) (m : T.Meaning) : Type 0 where
+pub record PathStood (im : Images) (a : Around) (sc : Scope) (e : S.Meaning) (m : T.Meaning) : Type 0 where
   pub stands : (w : ℕ) (s : Bool) → Stands im a sc e w s m
   pub named : SameNames im.number e m sc
 
-abbrev pub StandsFor : NameMap → Option T.Meaning → Expr → List StepIndex → List Helper → T.Meaning → Type 0
-StandsFor names value e xs hs m = (base : Expr) (ss : List Select) (im : Images) (a : Around) (sc : Scope) → is_path (out-Form e.form) ≡ true → IsPathOn base ss e → length xs ≡ length (indices_of ss)
-    → IsNamedOnce names (last base) → AllHold names value base ss xs hs im a sc → Stood im a sc (meaning e) m
+abbrev pub StandsForPath : NameMap → Option T.Meaning → Expr → List StepIndex → List Helper → T.Meaning → Type 0
+StandsForPath names value e xs hs m = (base : Expr) (ss : List Select) (im : Images) (a : Around) (sc : Scope) → is_path (out-Form e.form) ≡ true → IsPathOn base ss e → length xs ≡ length (indices_of ss)
+    → HasStand names value (path_form base) → AllHold names value base ss xs hs im a sc → PathStood im a sc (meaning e) m

@@ -25,7 +25,7 @@ use Rattle.path_flatten.specs.Stepping.{IsStep}
 use Rattle.path_walk.specs.declared.indices.StepIndex.{StepIndex}
 use Rattle.path_walk.specs.declared.indices.StepIndex.TheVariants as I
 
--- it has the number of an index of the source, or the index' value at the index' own width and sign
+-- a given index has the number of the source's one, or its value at its own width and sign
 abbrev pub IsIndexBy : StepIndex → S.Meaning → Around → Scope → Valuation → Type 0
 IsIndexBy (I.Known z) i a sc v = P.index_of i a ≡ z
 IsIndexBy (I.Lowered x) i a sc v = IsIndexOf x i a sc v

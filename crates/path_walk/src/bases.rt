@@ -1,8 +1,9 @@
 //! What a select path stands on: which signals are memories, and what is no signal and no local.
 
-ghost use Rattle.std.specs.Prelude.{option_copied, IfOk};
-ghost use Rattle.path_flatten.specs.Stepping.{IsSound};
-ghost use Rattle.path_walk.specs.Bases.{value_stand, value_of, ReadsStand, NamesStand, IsMemoryAt};
+ghost use Rattle.std.specs.Prelude.{option_copied, IfOk, IfSome};
+ghost use Rattle.path_flatten.specs.Naming.{RootNames};
+ghost use Rattle.path_flatten.specs.Stepping.{IsSound, ReadsValue};
+ghost use Rattle.path_walk.specs.Bases.{value_of, IsMemoryAt};
 
 use eval_parts::{Step, step_of};
 use name_maps::is_memory;
@@ -15,8 +16,8 @@ use v_tree::{SignalName, VExpr};
 /// What reads all of an expression of so many bits, by the lowered one.
 pub(crate) fn based(alloc: Global, base: Option<&VExpr>, width: u32) -> Result<Reading, AllocError>
     ensures sound { IfOk result IsSound }
-    ensures reads { IfOk result (ReadsStand (value_stand (value_of (option_copied base.entry))) width) }
-    ensures names { IfOk result (NamesStand (value_stand (value_of (option_copied base.entry)))) }
+    ensures reads { IfOk result (λ r. IfSome (value_of (option_copied base.entry)) (λ m. ReadsValue m width r)) }
+    ensures names { IfOk result (λ r. IfSome (value_of (option_copied base.entry)) (λ m. RootNames m r.root)) }
 {
     match base {
         None => Ok(whole_name(Text::new(alloc), width)),

@@ -7,7 +7,7 @@ ghost use Rattle.path_flatten.specs.Helping.{Grows};
 ghost use Rattle.path_flatten.specs.Stepping.{IsSound};
 ghost use Rattle.path_walk.specs.Bases.{value_of};
 ghost use Rattle.path_walk.specs.Indices.{AllShort};
-ghost use Rattle.path_walk.specs.Flattening.{Finds, FindsElement, FindsSlide, Flattens, StandsFor};
+ghost use Rattle.path_walk.specs.Flattening.{Finds, FindsElement, FindsSlide, Flattens, StandsForPath};
 
 use crate::bases::{based, memory_at};
 use crate::indices::StepIndex;
@@ -160,7 +160,7 @@ pub fn flatten(
     requires short { AllShort indices.now }
     ensures grows { OnOk result (Grows helpers.old helpers.new) }
     ensures flattens { IfOk result (λ m. Flattens names.now (value_of (option_copied base.entry)) e.now indices.now helpers.new (means.meaning m)) }
-    ensures stands { IfOk result (λ m. StandsFor names.now (value_of (option_copied base.entry)) e.now indices.now helpers.new (means.meaning m)) }
+    ensures stands { IfOk result (λ m. StandsForPath names.now (value_of (option_copied base.entry)) e.now indices.now helpers.new (means.meaning m)) }
 {
     let reading = follow(alloc, names, e, base, indices, helpers)?;
     let made = read(alloc, reading, &e.of, helpers)?;

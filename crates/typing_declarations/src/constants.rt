@@ -27,7 +27,7 @@ use pattern_types::Operand;
 use std::alloc::Global;
 use sv_tree::{Declarator, Initializer, Signing};
 use sv_types::{ParamType, ParamValue};
-use typing_parts::Known;
+use typing_parts::{Known, Names};
 use typing_scopes::{Base, Scope};
 
 // The value of a constant by what is written of its type.

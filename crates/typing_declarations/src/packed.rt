@@ -20,7 +20,7 @@ use std::alloc::Global;
 use sv_tree::Dimension;
 use sv_types::SvType;
 use type_texts::under;
-use typing_parts::Known;
+use typing_parts::{Known, Names};
 use typing_scopes::{Base, Scope};
 use typing_values::behind_quiet;
 

@@ -20,7 +20,7 @@ use expr_type::Halt;
 use std::alloc::Global;
 use sv_tree::{Member, TypeText};
 use sv_types::SvType;
-use typing_parts::Known;
+use typing_parts::{Known, Names};
 use typing_scopes::{Base, Scope};
 
 // A type whose text declares no names.

@@ -24,7 +24,7 @@ use typing_actions::{assign, condition, counted, item_values, returned, task_cal
 use typing_declarations::{
     choice, entered, loop_of, loop_variable, named_variables, parameters, variables,
 };
-use typing_parts::Known;
+use typing_parts::{Known, Names};
 use typing_scopes::{Base, Scope};
 use typing_stmt_parts::{
     Part, block_by, case_of, empty, ended, ends, item_by, joined, no_values, of_declared,

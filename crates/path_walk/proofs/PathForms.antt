@@ -5,7 +5,7 @@ use Rattle.sv_types.specs.declared.expression.Expr.{Expr}
 use Rattle.sv_types.specs.declared.expression.Form.{Form, Form-F, out-Form, the_lemmas}
 use Rattle.sv_types.specs.declared.expression.Form.TheVariants as V
 use Rattle.eval_parts.specs.Steps.{is_path}
-use Rattle.path_walk.specs.Selects.{Select, Member, Index, Part, Slide, Signal, Local, Other, Selected, last_in, last, IsRoot, IsPathOn}
+use Rattle.path_walk.specs.Selects.{Select, Member, Index, Part, Slide, Signal, Local, Other, Selected, path_form_in, path_form, IsRoot, IsPathOn}
 
 abbrev Opened : Type 0
 Opened = Form-F Choice Form Expr
@@ -28,28 +28,28 @@ out-Part x left right = search (rules, the_lemmas)
 out-Slide : (x i : Expr) (n : ℕ) (up : Bool) → out-Form (V.Slide x i n up) ≡ Form-F.Slide x i n up
 out-Slide x i n up = search (rules, the_lemmas)
 
-last-by : (e : Expr) (f : Form) (x : Opened) → e.form ≡ f → out-Form f ≡ x → last e ≡ last_in x
-last-by e f x is out = ap (λ g. last_in (out-Form g)) is ∙ ap last_in out
+form-by : (e : Expr) (f : Form) (x : Opened) → e.form ≡ f → out-Form f ≡ x → path_form e ≡ path_form_in x
+form-by e f x is out = ap (λ g. path_form_in (out-Form g)) is ∙ ap path_form_in out
 
-pub last-Signal : (e : Expr) (n : ℕ) → e.form ≡ V.Signal n → last e ≡ Signal n
-last-Signal e n is = last-by e (V.Signal n) (Form-F.Signal n) is (out-Signal n)
+pub form-Signal : (e : Expr) (n : ℕ) → e.form ≡ V.Signal n → path_form e ≡ Signal n
+form-Signal e n is = form-by e (V.Signal n) (Form-F.Signal n) is (out-Signal n)
 
-pub last-Local : (e : Expr) (n : ℕ) → e.form ≡ V.Local n → last e ≡ Local n
-last-Local e n is = last-by e (V.Local n) (Form-F.Local n) is (out-Local n)
+pub form-Local : (e : Expr) (n : ℕ) → e.form ≡ V.Local n → path_form e ≡ Local n
+form-Local e n is = form-by e (V.Local n) (Form-F.Local n) is (out-Local n)
 
-pub last-Member : (e x : Expr) (k : ℕ) → e.form ≡ V.Member x k → last e ≡ Selected (Member k) x
-last-Member e x k is = last-by e (V.Member x k) (Form-F.Member x k) is (out-Member x k)
+pub form-Member : (e x : Expr) (k : ℕ) → e.form ≡ V.Member x k → path_form e ≡ Selected (Member k) x
+form-Member e x k is = form-by e (V.Member x k) (Form-F.Member x k) is (out-Member x k)
 
-pub last-Index : (e x i : Expr) → e.form ≡ V.Index x i → last e ≡ Selected (Index i) x
-last-Index e x i is = last-by e (V.Index x i) (Form-F.Index x i) is (out-Index x i)
+pub form-Index : (e x i : Expr) → e.form ≡ V.Index x i → path_form e ≡ Selected (Index i) x
+form-Index e x i is = form-by e (V.Index x i) (Form-F.Index x i) is (out-Index x i)
 
-pub last-Part : (e x : Expr) (left right : ℤ) → e.form ≡ V.Part x left right → last e ≡ Selected (Part left right) x
-last-Part e x left right is = last-by e (V.Part x left right) (Form-F.Part x left right) is (out-Part x left right)
+pub form-Part : (e x : Expr) (left right : ℤ) → e.form ≡ V.Part x left right → path_form e ≡ Selected (Part left right) x
+form-Part e x left right is = form-by e (V.Part x left right) (Form-F.Part x left right) is (out-Part x left right)
 
-pub last-Slide : (e x i : Expr) (n : ℕ) (up : Bool) → e.form ≡ V.Slide x i n up → last e ≡ Selected (Slide i n up) x
-last-Slide e x i n up is = last-by e (V.Slide x i n up) (Form-F.Slide x i n up) is (out-Slide x i n up)
+pub form-Slide : (e x i : Expr) (n : ℕ) (up : Bool) → e.form ≡ V.Slide x i n up → path_form e ≡ Selected (Slide i n up) x
+form-Slide e x i n up is = form-by e (V.Slide x i n up) (Form-F.Slide x i n up) is (out-Slide x i n up)
 
-plain-in : (f : Opened) → is_path f ≡ false → last_in f ≡ Other
+plain-in : (f : Opened) → is_path f ≡ false → path_form_in f ≡ Other
 plain-in (Form-F.Literal v goes_on) h = refl
 plain-in (Form-F.Fill b) h = refl
 plain-in (Form-F.Constant v) h = refl
@@ -79,8 +79,8 @@ plain-in (Form-F.Pattern es) h = refl
 plain-in (Form-F.Call f es) h = refl
 plain-in (Form-F.Stream reversed n es) h = refl
 
-pub last-plain : (e : Expr) → is_path (out-Form e.form) ≡ false → last e ≡ Other
-last-plain e plain = plain-in (out-Form e.form) plain
+pub form-plain : (e : Expr) → is_path (out-Form e.form) ≡ false → path_form e ≡ Other
+form-plain e plain = plain-in (out-Form e.form) plain
 
 record SameSelect (s t : Select) (x y : Expr) : Type 0 where
   pub select : s ≡ t
@@ -90,12 +90,12 @@ one-select : (s t : Select) (x y : Expr) → Selected s x ≡ Selected t y → S
 one-select s t x y h = record { select = cc; from = cc }
 
 -- What holds of an expression without selects holds of what it is a path on.
-pub at-root : (e : Expr) → IsRoot (last e) → (P : Expr → List Select → Type 0) → P e [] → (base : Expr) (ss : List Select) → IsPathOn base ss e → P base ss
+pub at-root : (e : Expr) → IsRoot (path_form e) → (P : Expr → List Select → Type 0) → P e [] → (base : Expr) (ss : List Select) → IsPathOn base ss e → P base ss
 at-root e root P p base [] (same, is) = subst (λ b. P b []) same p
 at-root e root P p base (s ∷ ss) (x, also, rest) = absurd (subst IsRoot also root)
 
 -- So it is of a select, if it holds wherever what the select is of stands.
-pub at-select : (e from : Expr) (s : Select) → last e ≡ Selected s from → (P : Expr → List Select → Type 0) → ((base : Expr) (ss : List Select) → IsPathOn base ss from → P base (s ∷ ss))
+pub at-select : (e from : Expr) (s : Select) → path_form e ≡ Selected s from → (P : Expr → List Select → Type 0) → ((base : Expr) (ss : List Select) → IsPathOn base ss from → P base (s ∷ ss))
     → (base : Expr) (ss : List Select) → IsPathOn base ss e → P base ss
 at-select e from s is P h base [] (same, root) = absurd (subst IsRoot is root)
 at-select e from s is P h base (t ∷ ss) (x, also, rest) =
