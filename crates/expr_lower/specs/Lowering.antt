@@ -60,7 +60,7 @@ pub record IsCalled (name : Name) (formals : List Parameter) (a : Around) (sc : 
   pub count : n ≡ length formals
   pub stands : StandsFor (a.callee f) (length of.two_state) (sc.callee name)
 
--- the map has one name for what a leaf of the expression needs, and the text has it
+-- the map says one thing of a leaf of the expression (its name, and whether it is a memory), and the text has what the leaf needs
 abbrev pub LeafStands : NameMap → List Function → Images → Around → Scope → Leaf → Type 0
 LeafStands names fs im a sc (Signals n of) = OneSignal names.signals n × IsShown (signal_name names.signals n) im sc n of
 LeafStands names fs im a sc (Elements n of) = OneSignal names.signals n × ShowsElements (is_memory names.signals n) (signal_name names.signals n) im sc n of

@@ -16,7 +16,7 @@ use Rattle.memory_targets.specs.declared.words.Word.{Word}
 use Rattle.memory_targets.specs.Owning.{AllOwnInWord}
 
 -- each is one name with the select of one word, and with one more at most, none where an element has one bit; the name is the
--- signal's, if the map has one alone for it
+-- signal's, if the map says one thing of it
 pub record HasWordShape (names : NameMap) (n : ℕ) (t : SvType) (x : Targets) : Type 0 where
   pub word : Word
   pub name : Name

@@ -165,7 +165,7 @@ root-Slide r e from i n up is h number t xs part path =
       all = leaves-Slide e from i n up is ∙ ap (λ l. onto l ++ leaves i) s.all ∙ ap (λ l. l ++ leaves i) k.2 ∙ ap (λ l. k.0 ∷ index_leaves l) (sym o.all);
     }
 
--- the map has one name for it, which shows its image, if it isn't an element of a memory
+-- the map says one thing of it, and its name shows its image, if it isn't an element of a memory
 signal-shown : (names : NameMap) (fs : List Function) (im : Images) (a : Around) (sc : Scope) (n : ℕ) (of : Layout) (leaf : Leaf) → IsRootLeaf of (H.Signal n) leaf → IsInVector names leaf
     → LeafStands names fs im a sc leaf → OneSignal names.signals n × IsShown (signal_name names.signals n) im sc n of
 signal-shown names fs im a sc n of leaf (inl is) vector stands = subst (LeafStands names fs im a sc) is stands

@@ -45,7 +45,7 @@ pub record StandsOn (r : Root) (e : Expr) (number : ℕ) (t : SvType) (xs : List
 abbrev pub IsRootOf : Root → Expr → Type 0
 IsRootOf r e = (number : ℕ) (t : SvType) (xs : List Indexing) (part : Bool) → IsTypedPath number t e xs part → StandsOn r e number t xs
 
--- the map has one name for it
+-- the map says one thing of it
 abbrev pub OneHeld : NameMap → Held → Type 0
 OneHeld names H.Nothing = ⊤
 OneHeld names (H.Signal n) = OneSignal names.signals n

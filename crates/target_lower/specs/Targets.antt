@@ -73,7 +73,7 @@ BareIf Process fs e name x = (number : ℕ) (t : SvType) (xs : List Indexing) (p
 BareIf Routine fs e name x = ⊤
 
 -- Each target is one name with a select at most, and with none where what the path stands on has one bit; the name is that of what the
--- path stands on, if the map has one alone for it. They are made with some indices that are put together for the path. Where all of
+-- path stands on, if the map says one thing of it. They are made with some indices that are put together for the path. Where all of
 -- these are known, no target has a guard, its select is decimal, and nothing is named apart; so it is in a process where the path's
 -- indices are constant.
 pub record HasShape (within : Within) (names : NameMap) (fs : List Function) (hs : List Helper) (e : Expr) (x : Targets) : Type 0 where
