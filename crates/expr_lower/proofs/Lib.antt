@@ -2,7 +2,6 @@ pub mod AskedLeaves
 pub mod Asking
 pub mod Built
 pub mod Forms
-pub mod NameLists
 pub mod Values
 pub mod Plain
 pub mod Given
