@@ -40,6 +40,7 @@ fn cast_form(
     helpers: &mut Helpers,
 ) -> Result<VExpr, AllocError>
     requires form { e.now.form ≡ forms.Cast x.now }
+    requires operand { (meaning x.now).widest ≤ 4194304 }
     requires narrow { width_of e.now.of ≤ 4194304 }
     requires count { length parts ≡ 1 }
     ensures grows { OnOk result (Grows helpers.old helpers.new) }

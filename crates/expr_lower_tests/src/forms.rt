@@ -142,13 +142,13 @@ pub const CASTS: &[(&[Word], u32, &str)] = &[
     (
         &[Vector(7, 0), Signal(0), SignedVector(7, 0), Cast],
         8,
-        "$signed(sv2v_h_cast_8($unsigned(a)))",
+        "$signed({a})",
     ),
     // a two-state type
     (
         &[Vector(3, 0), Signal(0), Type("two packed 3 0"), Cast],
         4,
-        "sv2v_h_two_state_4(sv2v_h_cast_4($unsigned(a)))",
+        "sv2v_h_two_state_4({a})",
     ),
     // $clog2(a)
     (

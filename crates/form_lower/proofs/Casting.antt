@@ -1,5 +1,5 @@
 -- What is cast and what is assigned.
-use Rattle.std.proofs.Common.{◌≡◌, ℕ, zero, suc, ◌*◌, ◌<◌, max, Bool, true, false, List, [], ◌∷◌, ◌++◌, append-nil, length, take, replicate, refl, arith, ap, sym, ◌∙◌, subst}
+use Rattle.std.proofs.Common.{◌≡◌, ℕ, zero, suc, ◌*◌, ◌<◌, ◌≤◌, max, Bool, true, false, List, [], ◌∷◌, ◌++◌, append-nil, length, take, replicate, refl, arith, ap, sym, ◌∙◌, subst}
 use Rattle.b4_core.specs.declared.bit.Bit4.{Bit4}
 use Rattle.b4_core.specs.Vectors.{ext}
 use Rattle.row_machine.specs.Valuation.{Valuation}
@@ -17,16 +17,18 @@ use Rattle.v_meaning.specs.Scopes.{Scope}
 use Rattle.v_meaning.specs.Values as T
 use Rattle.lowering_laws.specs.Helpers.{Stores}
 use Rattle.lowering_laws.specs.Same.{Same, SameAlone, HasBits}
+use Rattle.lowering_laws.specs.Terms.{braced}
 use Rattle.lowering_laws.proofs.Constants.{number-same, signed-same}
 use Rattle.lowering_laws.proofs.Contexts.{alone-width, alone-value}
-use Rattle.lowering_laws.proofs.Extensions.{ext-then-cut}
+use Rattle.lowering_laws.proofs.Extensions.{ext-at, ext-then-cut}
 use Rattle.path_flatten.specs.Helping.{EachHelps, Grows}
 use Rattle.path_flatten.specs.Naming.{SameNumbers, NamesLike}
 use Rattle.path_flatten.specs.Storing.{StoresBits, signed_as}
 use Rattle.path_flatten.proofs.Helping.{helped, helps-before}
 use Rattle.path_flatten.proofs.Naming.{same-by, same-then}
+use Rattle.path_flatten.proofs.Stepping.{braced-has}
 use Rattle.form_lower.specs.Calls.{Calls, NamesOf}
-use Rattle.form_lower.specs.Assigned.{cutter, Assigns, Casts}
+use Rattle.form_lower.specs.Assigned.{cutter, Assigns, Keeps, Converts, Casts}
 
 -- four-state bits are stored as they are
 four-stored : (n : ℕ) (x : List Bit4) → length x ≡ n → stored (replicate n false) x ≡ x
@@ -132,14 +134,38 @@ cast-by of at w s e a m sc v has =
     let c = stored of.two_state (ext (length of.two_state) (S.signed e) (S.alone e a)) in
     bits-stand (O.cast of at e) w s a of.signed m c sc v has (length-stored of.two_state _ (length-ext (length of.two_state) (S.signed e) (S.alone e a))) refl refl
 
-pub casts : (e : S.Meaning) (t : SvType) (m : T.Meaning) (hs : List Helper) (b : Bool) (n k r : T.Meaning) → n ≡ T.signing (S.signed e) m → Assigns (layout t).two_state n hs k → b ≡ (layout t).signed → r ≡ signed_as b k
-    → Casts e t m hs r
-casts e t m hs b n k r alone assigned sign is = record {
-  same = λ at w s a sc v all long h.
-      let bits = assigned.bits (ext (width_of t) (S.signed e) (S.alone e a)) sc v all (ap (λ (y : T.Meaning). T.given y (width_of t) sc v) alone ∙ signing-given (width_of t) e a m sc v h long)
-      (length-ext (width_of t) (S.signed e) (S.alone e a)) in
-      subst (λ (y : T.Meaning). Same (O.cast (layout t) at e) w s a y sc v) (sym (is ∙ ap (λ c. signed_as c k) sign)) (cast-by (layout t) at w s e a k sc v bits);
+-- an operand that is cut or extended to a place
+pub converts-assigned : (e : S.Meaning) (t : SvType) (m : T.Meaning) (hs : List Helper) (n k : T.Meaning) → n ≡ T.signing (S.signed e) m → Assigns (layout t).two_state n hs k → Converts e (layout t).two_state m hs k
+converts-assigned e t m hs n k alone assigned = record {
+  bits = λ a sc v all long h.
+      assigned.bits (ext (width_of t) (S.signed e) (S.alone e a)) sc v all (ap (λ (y : T.Meaning). T.given y (width_of t) sc v) alone ∙ signing-given (width_of t) e a m sc v h long)
+      (length-ext (width_of t) (S.signed e) (S.alone e a));
   names = λ sc.
-      subst (λ l. SameNumbers l (r.names sc)) (ap (λ (y : T.Meaning). y.names sc ++ []) alone ∙ ap (λ l. l ++ []) (signing-named (S.signed e) m sc) ∙ append-nil (m.names sc ++ []))
-      (same-then (T.all_names (n ∷ []) sc) (k.names sc) (r.names sc) (assigned.names sc) (like-signed b k r is sc));
+      subst (λ l. SameNumbers l (k.names sc)) (ap (λ (y : T.Meaning). y.names sc ++ []) alone ∙ ap (λ l. l ++ []) (signing-named (S.signed e) m sc) ∙ append-nil (m.names sc ++ [])) (assigned.names sc);
+}
+
+-- one of as many bits, in braces
+braced-named : (m : T.Meaning) (sc : Scope) → (braced m).names sc ≡ T.all_names (m ∷ []) sc
+unfolding T.concatenation
+braced-named m sc = refl
+
+pub keeps : (t : SvType) (m : T.Meaning) (hs : List Helper) (b k : T.Meaning) → b ≡ braced m → StoresBits t b hs k → NamesLike b k → Keeps t m hs k
+keeps t m hs b k is stores like = record {
+  bits = λ c sc v all width alone long some. stores c sc v (subst (λ (y : T.Meaning). HasBits y c sc v) (sym is) (braced-has m c sc v width alone)) long some all;
+  names = names-then (m ∷ []) b k (λ sc. same-by (T.all_names (m ∷ []) sc) (b.names sc) (sym (ap (λ (y : T.Meaning). y.names sc) is ∙ braced-named m sc))) like;
+}
+
+pub converts-kept : (e : S.Meaning) (t : SvType) (m : T.Meaning) (hs : List Helper) (k : T.Meaning) → 1 ≤ width_of t → S.wide e ≡ width_of t → Keeps t m hs k → Converts e (layout t).two_state m hs k
+converts-kept e t m hs k some wide kept = record {
+  bits = λ a sc v all long h.
+      subst (λ c. HasBits k (stored (layout t).two_state c) sc v) (sym (ext-at (width_of t) (S.signed e) (S.alone e a) (long ∙ wide)))
+      (kept.bits (S.alone e a) sc v all (alone-width e a m sc v h ∙ sym long) (alone-value e a m sc v h) (long ∙ wide) some);
+  names = kept.names;
+}
+
+pub casts : (e : S.Meaning) (t : SvType) (m : T.Meaning) (hs : List Helper) (b : Bool) (k r : T.Meaning) → Converts e (layout t).two_state m hs k → b ≡ (layout t).signed → r ≡ signed_as b k → Casts e t m hs r
+casts e t m hs b k r converts sign is = record {
+  same = λ at w s a sc v all long h.
+      subst (λ (y : T.Meaning). Same (O.cast (layout t) at e) w s a y sc v) (sym (is ∙ ap (λ c. signed_as c k) sign)) (cast-by (layout t) at w s e a k sc v (converts.bits a sc v all long h));
+  names = λ sc. same-then (T.all_names (m ∷ []) sc) (k.names sc) (r.names sc) (converts.names sc) (like-signed b k r is sc);
 }

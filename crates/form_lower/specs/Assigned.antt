@@ -4,7 +4,7 @@ use Rattle.b4_core.specs.declared.bit.Bit4.{Bit4}
 use Rattle.b4_core.specs.Vectors.{ext}
 use Rattle.row_machine.specs.Valuation.{Valuation}
 use Rattle.sv_types.specs.declared.types.SvType.{SvType}
-use Rattle.sv_types.specs.Layouts.{layout, stored}
+use Rattle.sv_types.specs.Layouts.{layout, stored, width_of}
 use Rattle.sv_types.specs.Surroundings.{Around}
 use Rattle.sv_types.specs.Meanings as S
 use Rattle.sv_types.specs.Operators as O
@@ -35,6 +35,18 @@ AllAssign (b ∷ bs) [] hs [] = ⊤
 AllAssign (b ∷ bs) [] hs (r ∷ rs) = ⊥
 AllAssign (b ∷ bs) (m ∷ ms) hs [] = ⊥
 AllAssign (b ∷ bs) (m ∷ ms) hs (r ∷ rs) = Assigns b m hs r × AllAssign bs ms hs rs
+
+-- what an expression of as many bits as a type has, valued alone, is as the type stores it
+pub record Keeps (t : SvType) (m : T.Meaning) (hs : List Helper) (r : T.Meaning) : Type 0 where
+  pub bits : (c : List Bit4) (sc : Scope) (v : Valuation) → EachHelps hs sc → m.width sc ≡ length c → T.alone m sc v ≡ c → length c ≡ width_of t → 1 ≤ width_of t
+      → HasBits r (stored (layout t).two_state c) sc v
+  pub names : NamesOf (m ∷ []) r
+
+-- what an operand that is lowered alone gives to a place with these marks, by its own sign, as it is stored there
+pub record Converts (e : S.Meaning) (two_state : List Bool) (m : T.Meaning) (hs : List Helper) (r : T.Meaning) : Type 0 where
+  pub bits : (a : Around) (sc : Scope) (v : Valuation) → EachHelps hs sc → length (S.alone e a) ≡ S.wide e → SameAlone e a m sc v
+      → HasBits r (stored two_state (ext (length two_state) (S.signed e) (S.alone e a))) sc v
+  pub names : NamesOf (m ∷ []) r
 
 -- what stands for a cast to a type, wherever the text has its helpers
 pub record Casts (e : S.Meaning) (t : SvType) (m : T.Meaning) (hs : List Helper) (r : T.Meaning) : Type 0 where

@@ -2,7 +2,7 @@ use Rattle.std.proofs.Common.{arith, subst}
 use Rattle.b4_core.specs.declared.operators.EqOp.TheVariants.{Wild}
 use Rattle.sv_types.proofs.Widths.{has-bits}
 use Rattle.eval_parts.proofs.Lists.{own-narrow}
-use Rattle.eval_parts.proofs.Steps.{clog2-fits-x, equal-fits-x, equal-fits-y}
+use Rattle.eval_parts.proofs.Steps.{cast-fits-x, clog2-fits-x, equal-fits-x, equal-fits-y}
 use Rattle.eval_parts.proofs.TypeKinds.{wide-is}
 use Rattle.eval_forms.specs.Callees.{formals_in}
 use Rattle.eval_forms.proofs.Narrowness.{narrow-Inside}
@@ -29,6 +29,11 @@ pub inside-requires-clause-narrow : goal.inside-requires-clause-narrow
 inside-requires-clause-narrow c =
     let is = subst (λ st. IsSpecial st c.args.e.now) c.in-Some-Inside.field-0-is c.in-Some-Inside.ensures in
     (narrow-Inside c.args.e.now c.in-Some-Inside.x.now c.in-Some-Inside.choices.now is c.requires.fits.narrow).1
+
+pub cast_form-requires-clause-operand : goal.cast_form-requires-clause-operand
+cast_form-requires-clause-operand c =
+    let is = subst (λ st. IsSpecial st c.args.e.now) c.in-Some-Cast.field-0-is c.in-Some-Cast.ensures in
+    (cast-fits-x c.args.e.now c.in-Some-Cast.x.now (formals_in c.args.functions.now) c.args.width is c.requires.fits).narrow
 
 pub cast_form-requires-clause-narrow : goal.cast_form-requires-clause-narrow
 cast_form-requires-clause-narrow c = own-narrow c.args.e.now (formals_in c.args.functions.now) c.args.width c.requires.fits
