@@ -1,5 +1,5 @@
 -- `$clog2` stands for the least power of two that its operand isn't above, found by halves.
-use Rattle.std.proofs.Common.{◌≡◌, ◌⊎◌, inl, inr, ℕ, zero, suc, ◌+◌, ◌-◌, ◌^◌, max, Bool, true, false, ◌&&◌, cond, pos, length, List, [], ◌∷◌, ◌++◌, append-nil, Result, Ok, Err, IfOk, refl, arith, sym, ◌∙◌, subst, ap, ◌≤◌}
+use Rattle.std.proofs.Common.{◌≡◌, ◌⊎◌, inl, inr, ℕ, zero, suc, ◌+◌, ◌^◌, max, Bool, true, false, ◌&&◌, cond, pos, length, List, [], ◌∷◌, ◌++◌, append-nil, Result, Ok, Err, IfOk, refl, arith, sym, ◌∙◌, subst, ap, ◌≤◌}
 use Rattle.std.specs.Prelude.{nat_le, not, fold}
 use Rattle.std.proofs.Math.Nat.{pow-le-pow_right}
 use Rattle.std.proofs.lemmas.Bool.Decides.{nat_tests}

@@ -1,7 +1,5 @@
 -- The reduction with or of one-bit expressions side by side is the or of their bits.
-use Rattle.std.proofs.Common.{◌≡◌, ℕ, suc, ◌+◌, ◌≤◌, ◌==◌, Bool, true, false, List, [], ◌∷◌, ◌++◌, append-nil, append_assoc, length, length-append, reverse, map, fold, refl, arith, ap, sym, ◌∙◌}
-use Rattle.std.proofs.lemmas.List.{reverse-append}
-use Rattle.std.proofs.lemmas.Bool.Decides.{nat_tests}
+use Rattle.std.proofs.Common.{◌≡◌, ℕ, Bool, false, List, [], ◌∷◌, ◌++◌, append-nil, length, length-append, map, fold, refl, arith, ap, sym, ◌∙◌}
 use Rattle.b4_core.specs.declared.bit.Bit4.{Bit4}
 use Rattle.b4_core.specs.declared.bit.Bit4.TheVariants.{Zero, One, X, Z}
 use Rattle.b4_core.specs.declared.operators.RedOp.TheVariants.{Or}
@@ -14,10 +12,8 @@ use Rattle.sv_types.specs.Surroundings.{Around}
 use Rattle.sv_types.specs.Meanings as M
 use Rattle.sv_types.specs.Operators as O
 use Rattle.sv_types.specs.Operators.{Alternative, is_inside}
-use Rattle.v_tree.specs.declared.expressions.VExpr.{VExpr}
 use Rattle.v_meaning.specs.Scopes.{Scope}
 use Rattle.v_meaning.specs.Values as T
-use Rattle.v_build.specs.Trees.{meanings}
 use Rattle.lowering_laws.specs.Same.{Same}
 use Rattle.lowering_laws.proofs.Constants.{bits-alone}
 use Rattle.lowering_laws.proofs.Contexts.{typed-four}

@@ -106,7 +106,13 @@ fn at_most(alloc: Global, y: &VExpr, width: u32, k: u32) -> Result<VExpr, AllocE
 
 /// The least of the powers of two from one to another that an operand of so many bits isn't above, or else the last one, by
 /// halves: `(y <= (1'b1 << middle)) ? lower : upper`.
-fn least_power(alloc: Global, y: &VExpr, width: u32, from: u32, to: u32) -> Result<VExpr, AllocError>
+fn least_power(
+    alloc: Global,
+    y: &VExpr,
+    width: u32,
+    from: u32,
+    to: u32,
+) -> Result<VExpr, AllocError>
     requires order { from ≤ to }
     requires few { to ≤ width }
     ensures { IfOk result (λ m. LogSteps (means.meaning y.now) width (to - from) from (means.meaning m)) }

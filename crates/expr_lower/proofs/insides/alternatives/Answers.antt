@@ -17,7 +17,7 @@ loop-i-preserved c =
     listed-next c.args.x.now c.args.choices.now c.loop-i.i (c.loop-i.i - 1) c.index-choices-i.result c.args.parts c.loop-i.rest c.alternative.new.rest c.args.helpers.now c.loop-i.helpers c.alternative.new.helpers
     c.loop-i.made c.push.new.self c.in_ok-bit.bit c.loop-i.invariant (omega arith) c.index-choices-i.is c.in_ok-bit.ensures.grows c.in_ok-bit.ensures.takes c.in_ok-push.ensures.ok
 
-pub returns-in_ok-ordered-clause-lists : goal.returns-in_ok-ordered-clause-lists
-returns-in_ok-ordered-clause-lists c =
+pub returns-clause-lists : goal.returns-clause-lists
+returns-clause-lists c =
     listed-all c.args.x.now c.args.choices.now c.loop-i.i c.args.parts c.loop-i.rest c.args.helpers.now c.loop-i.helpers c.loop-i.made c.in_ok-ordered.ordered c.loop-i.invariant (omega arith) c.requires.count
     c.in_ok-ordered.ensures
