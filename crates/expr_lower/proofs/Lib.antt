@@ -6,7 +6,9 @@ pub mod Values
 pub mod Plain
 pub mod Given
 pub mod Standing
+pub mod Reducing
 pub mod Alternating
+pub mod Powers
 pub mod Comparisons
 pub mod Rooted
 pub mod Stepwise
