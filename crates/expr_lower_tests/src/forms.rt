@@ -3,8 +3,8 @@
 use b4_core::{BinOp, OrdOp, ShiftOp};
 use tree_words::Word;
 use tree_words::Word::{
-    Binary, Bits, Call, Cast, Choose, Clog2, Concat, Equal, Fill, Inside, Order, Pattern, Repeat, Scalar,
-    Shift, Signal, SignedVector, Stream, Type, Vector,
+    Binary, Bits, Call, Cast, Choose, Clog2, Concat, Equal, Fill, Inside, Order, Pattern, Repeat,
+    Scalar, Shift, Signal, SignedVector, Stream, Type, Vector,
 };
 
 /// Operators in a context.

@@ -8,7 +8,9 @@ use path_flatten::Helpers;
 use std::alloc::{AllocError, Global};
 use sv_source::Text;
 use sv_types::Expr;
-use v_tree::{FunctionName, FunctionNames, LocalName, LocalNames, NameMap, SignalName, SignalNames};
+use v_tree::{
+    FunctionName, FunctionNames, LocalName, LocalNames, NameMap, SignalName, SignalNames,
+};
 
 /// Names of signals, locals and functions: a, b, c and so on, the memory m, t, and f.
 fn names(alloc: Global) -> Result<NameMap, AllocError> {
