@@ -1,7 +1,7 @@
 -- The numbers of rows are those of the table.
-use Rattle.std.proofs.Common.{◌≡◌, ℕ, List, [], ◌∷◌, map, Option, Some, refl}
+use Rattle.std.proofs.Common.{◌≡◌, ℕ, List, [], ◌∷◌, map, Some, refl}
 use Rattle.std.specs.List.{slice_get}
-use Rattle.ll_engine.specs.declared.table.Part.TheVariants.{Term, Non, Maybe, Many}
+use Rattle.ll_engine.specs.declared.table.Part.TheVariants.{Term, Non, Many}
 use Rattle.ll_engine.specs.declared.table.Row.{Row}
 use Rattle.sv_tree.specs.Heads as head
 use Rattle.sv_tree.specs.Symbols.{mark_symbol, word_symbol}

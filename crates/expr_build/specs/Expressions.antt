@@ -1,6 +1,6 @@
 -- The expressions of a source text, by the rows that they were read by: one definition for each head that has them. `inner` gives the
 -- expressions inside one.
-use Rattle.std.specs.Prelude.{ℕ, zero, suc, ◌==◌, List, [], ◌∷◌, map, drop, Option, Some, None, if◌then◌else◌}
+use Rattle.std.specs.Prelude.{ℕ, zero, suc, ◌==◌, List, [], ◌∷◌, map, drop, Option, if◌then◌else◌}
 use Rattle.ll_engine.specs.declared.tree.Tree.{Tree, Tree-F, out-Tree}
 use Rattle.sv_tree.specs.declared.expressions.Cast.{Cast}
 use Rattle.sv_tree.specs.declared.expressions.Cast.TheVariants as C

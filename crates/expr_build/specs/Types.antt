@@ -4,9 +4,6 @@ use Rattle.ll_engine.specs.declared.tree.Tree.{Tree}
 use Rattle.sv_tree.specs.declared.declarations.Declarator.{Declarator}
 use Rattle.sv_tree.specs.declared.declarations.Initializer.{Initializer}
 use Rattle.sv_tree.specs.declared.expressions.Dimension.{Dimension}
-use Rattle.sv_tree.specs.declared.expressions.Expr.{Expr}
-use Rattle.sv_tree.specs.declared.expressions.Select.{Select}
-use Rattle.sv_tree.specs.declared.expressions.SliceSize.{SliceSize}
 use Rattle.sv_tree.specs.declared.names.QualifiedName.{QualifiedName}
 use Rattle.sv_tree.specs.declared.types.DimensionedName.{DimensionedName}
 use Rattle.sv_tree.specs.declared.types.EnumBase.{EnumBase}
@@ -17,9 +14,9 @@ use Rattle.sv_tree.specs.declared.types.Packing.{Packing}
 use Rattle.sv_tree.specs.declared.types.TypeText.{TypeText}
 use Rattle.sv_tree.specs.declared.types.TypeText.TheVariants as T
 use Rattle.expr_build.specs.declared.rows.TheConstants as R
-use Rattle.expr_build.specs.Nodes.{kids_of, kid, token, row_of, optional, is_blank, separated, behind_marks}
+use Rattle.expr_build.specs.Nodes.{kids_of, kid, token, row_of, optional, separated, behind_marks}
 use Rattle.expr_build.specs.Words.{signing_of, optional_signing_of, keyword_type_of, aggregate_of, qualified_of}
-use Rattle.expr_build.specs.Expressions.{expr_of, dimension_of, dimensions_of, selects_of, exprs_of, slice_size_of, nesting_limit}
+use Rattle.expr_build.specs.Expressions.{expr_of, dimension_of, dimensions_of, nesting_limit}
 
 -- dimensions, and a first one with those behind it
 abbrev pub dims_of : Tree → List Dimension

@@ -1,7 +1,6 @@
 -- The words and operators, by the rows that they were read by.
 use Rattle.std.specs.Prelude.{ℕ, ◌==◌, Option, if◌then◌else◌, Some, None}
-use Rattle.ll_engine.specs.declared.tree.Tree.{Tree, Tree-F, out-Tree}
-use Rattle.sv_tree.specs.declared.names.PackageScope.{PackageScope}
+use Rattle.ll_engine.specs.declared.tree.Tree.{Tree}
 use Rattle.sv_tree.specs.declared.names.QualifiedName.{QualifiedName}
 use Rattle.sv_tree.specs.declared.names.Signing.{Signing}
 use Rattle.sv_tree.specs.declared.names.Signing.TheVariants.{Signed, Unsigned}

@@ -1,7 +1,6 @@
 //! Processes and what they run.
 
-ghost use Rattle.std.specs.Prelude.{◌≡◌, [], ◌∷◌, map, None, IfOk};
-ghost use Rattle.std.specs.Option.{option_map};
+ghost use Rattle.std.specs.Prelude.{◌≡◌, ◌∷◌, map, None, IfOk};
 ghost use Rattle.sv_core.specs.declared.design.ProcessKind.TheVariants.{Continuous};
 ghost use Rattle.v_tree.specs.declared.statements.VBranch.TheVariants.{Statement};
 ghost use Rattle.v_tree.specs.declared.statements.VStmt.TheVariants.{Block};

@@ -1,6 +1,6 @@
 //! What happens to names in the items of modules and interfaces, and in generate constructs.
 
-ghost use Rattle.std.specs.Prelude.{◌≡◌, suc, OnOk};
+ghost use Rattle.std.specs.Prelude.{◌≡◌, OnOk};
 ghost use Rattle.name_events.specs.Items as means;
 
 use crate::declarations::{declarators, import_items, parameters, typedef};

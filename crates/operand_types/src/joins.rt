@@ -1,6 +1,6 @@
 //! Concatenations (IEEE 1800-2017 clause 11.4.12).
 
-ghost use Rattle.std.specs.Prelude.{◌≡◌, ◌≤◌, ◌<◌, ◌*◌, ◌^◌, min, IfOk};
+ghost use Rattle.std.specs.Prelude.{◌≡◌, ◌<◌, ◌*◌, ◌^◌, min, IfOk};
 ghost use Rattle.expr_type.specs.Answers.{Gives, source};
 ghost use Rattle.expr_type.specs.Operators as operator;
 ghost use Rattle.expr_type.specs.Operators.{all_bits};

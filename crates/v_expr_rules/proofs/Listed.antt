@@ -1,11 +1,10 @@
 -- Lists tell what the rules tell, where their items do.
-use Rattle.std.proofs.Common.{◌≡◌, ℕ, zero, suc, ◌+◌, ◌==◌, Bool, true, false, not, ◌&&◌, ◌||◌, List, [], ◌∷◌, ◌++◌, map, length, slice_get, Option, Some, None, refl, sym, ap, ◌∙◌, subst, max, nat_lt, is_some, if◌then◌else◌, append_assoc, arith}
+use Rattle.std.proofs.Common.{◌≡◌, ℕ, zero, suc, ◌+◌, ◌==◌, Bool, true, false, ◌&&◌, ◌||◌, List, [], ◌∷◌, ◌++◌, length, slice_get, Option, Some, None, refl, sym, ap, ◌∙◌, subst, max, if◌then◌else◌, append_assoc, arith}
 use Rattle.std.specs.List.{list_all}
-use Rattle.std.specs.Option.{option_map}
 use Rattle.std.proofs.lemmas.Bool.Decides.{nat_tests}
-use Rattle.std.proofs.lemmas.List.{append-nil, length-append}
+use Rattle.std.proofs.lemmas.List.{append-nil}
 use Rattle.v_tree.specs.Scopes.{bits_of}
-use Rattle.v_tree.specs.ExprRules.{Around, Rules, alone, only_if, total, widths, listed_size, each_from, args_broken}
+use Rattle.v_tree.specs.ExprRules.{Around, Rules, alone, total, widths, listed_size, each_from, args_broken}
 use Rattle.v_tree.specs.declared.items.VItem.{VItem}
 use Rattle.v_tree.specs.declared.items.VLocal.{VLocal}
 use Rattle.v_scopes.specs.Env.{Env}

@@ -1,5 +1,5 @@
 -- Operations tell what the rules tell, where their operands do.
-use Rattle.std.proofs.Common.{◌≡◌, ℕ, suc, ◌+◌, Bool, true, false, not, ◌&&◌, ◌||◌, List, [], ◌∷◌, ◌++◌, length, Option, Some, None, refl, sym, ap, ◌∙◌, max, if◌then◌else◌, arith}
+use Rattle.std.proofs.Common.{◌≡◌, ℕ, suc, ◌+◌, Bool, true, false, ◌&&◌, List, ◌++◌, length, Option, None, refl, sym, ap, ◌∙◌, max, if◌then◌else◌, arith}
 use Rattle.b4_core.specs.declared.bit.Bit4.{Bit4}
 use Rattle.v_tree.specs.ExprRules.{Around, Rules, alone, only_if, prim_rules, binary_rules, expr_rules, spreads, is_negative, Operation, arithmetic, power, shift, order, equality, bitwise, logical, operation_width, left_width, right_width, too_wide}
 use Rattle.v_tree.specs.declared.expressions.VExpr.{VExpr-F}
@@ -10,7 +10,7 @@ use Rattle.v_expr_rules.specs.Seen as S
 use Rattle.v_expr_rules.specs.Seen.{plus, earlier, mark, bits_capped, is_wide, in_context, operand, number_seen, paren_seen, sign_seen, binary_first, binary_seen, unary_first, unary_seen, choose_seen}
 use Rattle.v_expr_rules.specs.Least.{cap, first}
 use Rattle.v_expr_rules.specs.Exact.{Fits}
-use Rattle.v_expr_rules.proofs.Saturation.{plus-cap, max-capped, is_wide-capped, is_wide-max, earlier-none, first-append, first-if}
+use Rattle.v_expr_rules.proofs.Saturation.{plus-cap, max-capped, is_wide-capped, is_wide-max, first-append, first-if}
 
 -- what is kept in a context of any width
 pub in-operand : (size width : ℕ) (f : Bool → Option ℕ) (w : Bool) → in_context (operand size width (f false) (f true)) w ≡ f w

@@ -1,9 +1,9 @@
 -- Laws of numbers of tokens and of widths that saturate, and of the first of tokens.
-use Rattle.std.proofs.Common.{◌≡◌, ◌≤◌, ◌<◌, ◌⊎◌, ℕ, zero, suc, ◌+◌, ◌*◌, Bool, true, false, ◌||◌, List, [], ◌∷◌, ◌++◌, Option, Some, None, refl, sym, ap, ◌∙◌, inl, inr, min, max, nat_lt, arith, if◌then◌else◌}
+use Rattle.std.proofs.Common.{◌≡◌, ◌≤◌, ℕ, zero, suc, ◌+◌, ◌*◌, Bool, true, false, ◌||◌, List, [], ◌∷◌, ◌++◌, Option, Some, None, refl, sym, ap, ◌∙◌, min, max, nat_lt, arith}
 use Rattle.std.proofs.lemmas.Bool.{ltb-true, ltb-false}
 use Rattle.std.proofs.lemmas.Bool.Decides.{nat_tests}
 use Rattle.v_tree.specs.ExprRules.{only_if}
-use Rattle.v_expr_rules.specs.Seen.{last_token, wide_bits, plus, bits_plus, bits_times, bits_capped, earlier, mark, is_wide}
+use Rattle.v_expr_rules.specs.Seen.{wide_bits, plus, bits_plus, bits_times, bits_capped, earlier, mark, is_wide}
 use Rattle.v_expr_rules.specs.Least.{least, cap, capped, first}
 
 pub plus-cap : (a b : ℕ) → plus (cap a) (cap b) ≡ cap (a + b)

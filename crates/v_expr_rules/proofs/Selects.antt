@@ -1,9 +1,9 @@
 -- Names with selects tell what the rules tell, where the selects do.
-use Rattle.std.proofs.Common.{◌≡◌, ℕ, zero, suc, ◌+◌, ◌-◌, Bool, true, false, not, ◌&&◌, List, [], ◌∷◌, ◌++◌, map, length, slice_get, Option, Some, None, refl, sym, ap, ◌∙◌, subst, nat_lt, is_some, if◌then◌else◌, append_assoc, arith}
+use Rattle.std.proofs.Common.{◌≡◌, ℕ, suc, ◌+◌, ◌-◌, Bool, true, false, not, ◌&&◌, List, [], ◌∷◌, ◌++◌, length, slice_get, Option, Some, None, refl, sym, ap, ◌∙◌, subst, nat_lt, is_some, append_assoc, arith}
 use Rattle.std.proofs.lemmas.Bool.{lt-ltb}
 use Rattle.std.proofs.lemmas.List.{append-nil}
 use Rattle.v_tree.specs.Names.{Name}
-use Rattle.v_tree.specs.Scopes.{Thing, value, memory, function, result, part, part_bits, selected_bits, word_bits, named_bits, bits_of, has_range}
+use Rattle.v_tree.specs.Scopes.{memory, part_bits, selected_bits, word_bits, named_bits, bits_of, has_range}
 use Rattle.v_tree.specs.ExprRules as X
 use Rattle.v_tree.specs.ExprRules.{Around, Rules, SelRules, only_if, sels_size, sels_broken, moving, selected_of, has_index, more_than, sels_on, name_broken, is_index, decimal_extent, moving_extent, extent_size, sel_rules, prim_rules}
 use Rattle.v_tree.specs.declared.expressions.VExtent.{VExtent}
@@ -14,19 +14,18 @@ use Rattle.v_tree.specs.declared.items.VItem.{VItem}
 use Rattle.v_scopes.specs.Env.{Env}
 use Rattle.v_scopes.specs.declared.entry.Entry.{Entry}
 use Rattle.v_scopes.specs.declared.entry.Entry.TheVariants as N
-use Rattle.v_scopes.specs.declared.entry.Kind.{Kind}
 use Rattle.v_scopes.specs.declared.entry.Kind.TheVariants as K
 use Rattle.v_expr_rules.specs.declared.seen.Seen.{Seen}
 use Rattle.v_expr_rules.specs.declared.sels.SelSeen.{SelSeen}
 use Rattle.v_expr_rules.specs.declared.sels.SelsSeen.{SelsSeen}
 use Rattle.v_expr_rules.specs.Seen as S
-use Rattle.v_expr_rules.specs.Seen.{plus, earlier, mark, bits_capped, range_bits, in_context, is_wide, extent_tokens, decimal_sel, decimal_bits, decimal_mark, moving_sel, moving_bits, moving_mark, no_sels, sel_added, first_sel, second_sel, behind_first, sels_mark, is_indexed, memory_mark, name_mark, selected, name_bits, is_net, name_seen}
+use Rattle.v_expr_rules.specs.Seen.{plus, earlier, mark, bits_capped, in_context, is_wide, extent_tokens, decimal_sel, decimal_bits, decimal_mark, moving_sel, moving_bits, moving_mark, no_sels, sel_added, first_sel, second_sel, behind_first, sels_mark, is_indexed, memory_mark, name_mark, selected, name_bits, is_net, name_seen}
 use Rattle.v_expr_rules.specs.Least.{cap, first}
 use Rattle.v_expr_rules.specs.Walks.{SelWalk, sels_from}
-use Rattle.v_expr_rules.specs.Things.{thing_in, kind_of, around}
+use Rattle.v_expr_rules.specs.Things.{thing_in, around}
 use Rattle.v_expr_rules.specs.Exact.{Fits}
-use Rattle.v_expr_rules.proofs.Saturation.{plus-cap, earlier-none, none-earlier, first-append, first-if, first-one}
-use Rattle.v_expr_rules.proofs.Operands.{sum-of, alone-of, one-more, next-token, in-operand}
+use Rattle.v_expr_rules.proofs.Saturation.{first-append, first-if, first-one}
+use Rattle.v_expr_rules.proofs.Operands.{sum-of, alone-of, one-more, next-token}
 use Rattle.v_expr_rules.proofs.Listed.{Each}
 use Rattle.v_expr_rules.proofs.Listed.Each.{none, more}
 

@@ -1,6 +1,5 @@
 -- What is kept of an expression tells what the rules tell.
-use Rattle.std.proofs.Common.{◌≡◌, ℕ, zero, suc, ◌+◌, ◌*◌, ◌==◌, Bool, true, false, not, ◌&&◌, List, [], ◌∷◌, ◌++◌, map, length, slice_get, Option, Some, None, refl, sym, ap, ◌∙◌, subst, arith}
-use Rattle.std.specs.List.{list_all}
+use Rattle.std.proofs.Common.{◌≡◌, ℕ, suc, ◌+◌, ◌==◌, Bool, true, false, not, ◌&&◌, List, [], ◌∷◌, map, length, Option, Some, None, refl, sym, ap, ◌∙◌, subst}
 use Rattle.std.proofs.lemmas.List.{length-map}
 use Rattle.v_tree.specs.Names.{Name}
 use Rattle.v_tree.specs.Scopes.{called_bits, bits_of}
@@ -20,7 +19,7 @@ use Rattle.v_scopes.specs.declared.entry.Entry.{Entry}
 use Rattle.v_scopes.specs.declared.entry.Entry.TheVariants as N
 use Rattle.v_expr_rules.specs.declared.seen.Seen.{Seen}
 use Rattle.v_expr_rules.specs.declared.lists.ListSeen.{ListSeen}
-use Rattle.v_expr_rules.specs.Seen.{plus, earlier, mark, bits_capped, bits_times, is_wide, in_context, range_bits, call_bits, is_function, call_seen, concat_seen, repeat_seen, no_items, no_sels}
+use Rattle.v_expr_rules.specs.Seen.{plus, earlier, mark, bits_capped, bits_times, is_wide, in_context, call_bits, is_function, call_seen, concat_seen, repeat_seen, no_items, no_sels}
 use Rattle.v_expr_rules.specs.Least.{cap, first}
 use Rattle.v_expr_rules.specs.Walks.{Walk, SelWalk, inputs_of, list_from, sels_from, expr_walk, prim_walk, sel_walk, expr_seen, prim_seen, sel_seen}
 use Rattle.v_expr_rules.specs.Things.{thing_in, widths_of, around}

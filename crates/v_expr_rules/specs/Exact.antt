@@ -1,5 +1,5 @@
 -- What is kept of an expression tells what the rules tell.
-use Rattle.std.specs.Prelude.{◌≡◌, ℕ, List, Option}
+use Rattle.std.specs.Prelude.{◌≡◌, ℕ, List}
 use Rattle.v_tree.specs.ExprRules.{Around, Rules}
 use Rattle.v_tree.specs.declared.items.VItem.{VItem}
 use Rattle.v_scopes.specs.Env.{Env}

@@ -7,7 +7,6 @@ use Rattle.v_tree.specs.ExprRules.{Operation, arithmetic, power, shift, order, e
 use Rattle.v_tree.specs.declared.expressions.VExtent.{VExtent}
 use Rattle.v_tree.specs.declared.expressions.VExtent.TheVariants.{Down, Up}
 use Rattle.v_tree.specs.declared.items.VLocal.{VLocal}
-use Rattle.v_tree.specs.declared.operators.VUnaryOp.{VUnaryOp}
 use Rattle.v_tree.specs.declared.operators.VUnaryOp.TheVariants as U
 use Rattle.v_scopes.specs.declared.entry.Entry.{Entry}
 use Rattle.v_scopes.specs.declared.entry.Entry.TheVariants as N

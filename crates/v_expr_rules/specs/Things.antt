@@ -1,6 +1,5 @@
 -- What names stand for by the rules, where they stand for these entries in a module of these items.
-use Rattle.std.specs.Prelude.{ℕ, Bool, false, List, map, Option, Some, None, slice_get}
-use Rattle.v_tree.specs.Names.{Name}
+use Rattle.std.specs.Prelude.{ℕ, false, List, map, Option, Some, None, slice_get}
 use Rattle.v_tree.specs.Scopes.{Thing, value, memory, function, result, part, bits_of, has_range}
 use Rattle.v_tree.specs.Scopes as S
 use Rattle.v_tree.specs.ExprRules.{Around}

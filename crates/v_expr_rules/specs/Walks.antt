@@ -5,7 +5,6 @@ use Rattle.v_tree.specs.ExprRules.{kind_of, spreads, is_negative}
 use Rattle.v_tree.specs.declared.expressions.VExpr.{VExpr, VExpr-F, fold-VExpr}
 use Rattle.v_tree.specs.declared.expressions.VPrim.{VPrim, VPrim-F, fold-VPrim}
 use Rattle.v_tree.specs.declared.expressions.VSel.{VSel, VSel-F, fold-VSel}
-use Rattle.v_tree.specs.declared.items.VFunction.{VFunction}
 use Rattle.v_tree.specs.declared.items.VItem.{VItem}
 use Rattle.v_tree.specs.declared.items.VItem.TheVariants as I
 use Rattle.v_tree.specs.declared.items.VLocal.{VLocal}

@@ -1,6 +1,6 @@
 //! What is kept of lists of expressions.
 
-ghost use Rattle.std.specs.Prelude.{◌≡◌, length, slice_get};
+ghost use Rattle.std.specs.Prelude.{◌≡◌, slice_get};
 ghost use Rattle.v_expr_rules.specs.Seen as means;
 
 use crate::numbers::{bits_of, bits_plus, bits_times, earlier, mark, plus, range_bits};

@@ -1,6 +1,6 @@
 //! Numbers of tokens and widths, which saturate.
 
-ghost use Rattle.std.specs.Prelude.{◌≡◌, ◌≤◌};
+ghost use Rattle.std.specs.Prelude.{◌≡◌};
 ghost use Rattle.v_tree.specs.Scopes.{bits_of};
 ghost use Rattle.v_expr_rules.specs.Seen as means;
 

@@ -1,7 +1,6 @@
 //! The names that are declared in a place.
 
-ghost use Rattle.std.specs.Prelude.{◌≡◌, ◌≤◌, ◌++◌, ◌∷◌, [], None, Some, length, take, drop, OnOk};
-ghost use Rattle.std.specs.Option.{option_copied};
+ghost use Rattle.std.specs.Prelude.{◌≡◌, ◌++◌, ◌∷◌, [], None, Some, length, take, drop, OnOk};
 ghost use Rattle.v_scopes.specs.Env.{found, given, before, hidden_in, undone, of_slot};
 
 use crate::entry::Entry;

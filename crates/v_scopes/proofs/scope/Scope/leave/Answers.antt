@@ -1,5 +1,5 @@
-use Rattle.std.proofs.Common.{◌≡◌, ◌<◌, [], ◌∷◌, ◌++◌, length, ap, ◌∙◌, sym, List, arith}
-use Rattle.v_scopes.specs.Env.{found, hidden_in}
+use Rattle.std.proofs.Common.{◌<◌, [], ◌∷◌, ◌++◌, length, ap, ◌∙◌, sym, List, arith}
+use Rattle.v_scopes.specs.Env.{found}
 use Rattle.v_scopes.specs.declared.scope.Hidden.{Hidden}
 use Rattle.v_scopes.proofs.Undoing.{leave-step}
 use Rattle.v_scopes.proofs.scope.Scope.leave.Goals as goal

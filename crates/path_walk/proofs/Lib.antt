@@ -1,0 +1,4 @@
+pub mod PathForms
+pub mod Lists
+pub mod Typed
+pub mod Walking

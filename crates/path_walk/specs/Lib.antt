@@ -1,0 +1,4 @@
+pub mod Selects
+pub mod Indices
+pub mod Bases
+pub mod Flattening
