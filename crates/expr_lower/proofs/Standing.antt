@@ -1,5 +1,5 @@
 -- Forms that have no operator of the target language stand for what is made of their operands.
-use Rattle.std.proofs.Common.{◌≡◌, ℕ, suc, ◌≤◌, Bool, List, [], ◌∷◌, length, map, flat_map, zip, Result, Ok, refl, arith, ap, sym, ◌∙◌, subst}
+use Rattle.std.proofs.Common.{◌≡◌, ℕ, ◌≤◌, max, Bool, List, [], ◌∷◌, length, map, take, flat_map, zip, Result, Ok, refl, arith, ap, sym, ◌∙◌, subst}
 use Rattle.std.specs.declared.alloc.AllocError.{AllocError}
 use Rattle.std.proofs.lemmas.List.{length-map, length-take}
 use Rattle.b4_core.specs.declared.operators.EqOp.TheVariants.{Wild}
@@ -23,26 +23,29 @@ use Rattle.v_tree.specs.declared.names.NameMap.{NameMap}
 use Rattle.v_meaning.specs.Scopes.{Scope}
 use Rattle.v_meaning.specs.Values as T
 use Rattle.eval_parts.specs.Limits.{Fits}
+use Rattle.eval_parts.specs.Streams.{IsCut}
 use Rattle.eval_parts.specs.Targets.{marks_of_parts, marks_of_formals}
 use Rattle.eval_parts.proofs.Assigned as N
 use Rattle.eval_parts.proofs.Steps as S
 use Rattle.eval_forms.specs.Asked.{assigned_asked, form_asked}
 use Rattle.eval_forms.specs.Callees.{formals_in}
+use Rattle.eval_forms.proofs.Narrowness.{at-places, narrow-Pattern, narrow-Call}
 use Rattle.eval_forms.proofs.Strict as K
 use Rattle.lowering_laws.specs.Agreeing.{Images}
 use Rattle.lowering_laws.specs.NamedImages.{AreImages, SameNames}
 use Rattle.lowering_laws.specs.Same.{Same}
 use Rattle.lowering_laws.proofs.Assigned.{given-same}
+use Rattle.lowering_laws.proofs.Contexts.{alone-width, alone-value}
+use Rattle.lowering_laws.proofs.Extensions.{take-whole}
 use Rattle.lowering_laws.proofs.Naming.{no-images, both-images, each-image}
 use Rattle.path_flatten.specs.Helping.{EachHelps}
 use Rattle.path_flatten.specs.Naming.{SameNumbers}
 use Rattle.form_lower.specs.Calls.{NamesOf}
 use Rattle.form_lower.specs.Wilds.{WildEquals}
 use Rattle.form_lower.specs.Assigned.{Casts}
-use Rattle.form_lower.specs.Places.{AllGive, Patterns, CallsNamed}
+use Rattle.form_lower.specs.Places.{IsItem, AllGive, AreItems, Patterns, CallsNamed}
 use Rattle.expr_lower.specs.Leaves.{Leaf, Unlowered, together, leaves, Each}
 use Rattle.name_maps.specs.Named.{function_name, OneFunction}
-use Rattle.expr_lower.specs.Specials.{IsPatternOf, IsCallOf}
 use Rattle.expr_lower.specs.Lowering.{LeafStands, SameEach, NamesEach, Combines, CombinesAnywhere}
 use Rattle.expr_lower.proofs.AskedLeaves.{asked-leaves, each-left, each-right, leaves-Pattern, leaves-Call}
 use Rattle.expr_lower.proofs.Asking.{same-each, names-each}
@@ -111,6 +114,23 @@ combines-Wild e negated x y hs parts mx my m is are equals names fs w s =
           subst (λ (k : M.Meaning). SameNames im.number k m sc) (sym level) (wild-named im.number (layout e.of) e.spot.at negated (meaning x) (meaning y) mx my m sc g.0 (g.1).0 equals.names);
     })
 
+-- What an expression of as many bits as a target gives to it is its value alone.
+alone-given : (e : Expr) (n : ℕ) (a : Around) → IsCut (meaning e) → M.wide (meaning e) ≡ n → (meaning e).given n a ≡ M.alone (meaning e) a
+alone-given e n a cut exact =
+    let larger : max n (M.wide (meaning e)) ≡ M.wide (meaning e) = omega arith in
+    let size : length (M.alone (meaning e) a) ≡ n = length-value e (M.wide (meaning e)) (M.signed (meaning e)) a ∙ exact in
+    cut.given n a ∙ ap (λ k. take n ((meaning e).value k (M.signed (meaning e)) a)) larger ∙ take-whole n (M.alone (meaning e) a) (omega arith)
+
+item-alone : (e : Expr) (n : ℕ) (a : Around) (m : T.Meaning) (sc : Scope) (v : Valuation) → IsCut (meaning e) → length ((meaning e).given n a) ≡ n → M.wide (meaning e) ≡ n
+    → Same (meaning e) (max n (M.wide (meaning e))) (M.signed (meaning e)) a m sc v → IsItem m ((meaning e).given n a) sc v
+item-alone e n a m sc v cut long exact same =
+    let larger : max n (M.wide (meaning e)) ≡ M.wide (meaning e) = omega arith in
+    let alone = subst (λ k. Same (meaning e) k (M.signed (meaning e)) a m sc v) larger same in
+    record {
+      width = alone-width (meaning e) a m sc v alone ∙ exact ∙ sym long;
+      value = alone-value (meaning e) a m sc v alone ∙ sym (alone-given e n a cut exact);
+    }
+
 -- what is assigned
 all-give : (P : Leaf → Type 0) → (P Unlowered → ⊥) → (bs : List (List Bool)) (es : List Expr) (a : Around) (ms : List T.Meaning) (sc : Scope) (v : Valuation) → Each P (together (map leaves es))
     → SameEach (assigned_asked bs es) a ms sc v → AllGive bs (map meaning es) a ms sc v
@@ -121,10 +141,13 @@ all-give P none (b ∷ bs) [] a (m ∷ ms) sc v all h = absurd h
 all-give P none (b ∷ bs) (e ∷ es) a [] sc v all h = absurd h
 all-give P none (b ∷ bs) (e ∷ es) a (m ∷ ms) sc v all h =
     let cut = cut-of P none e (each-left P (leaves e) (together (map leaves es)) all) in
-    let long = length-value e (assigned_width b (meaning e)) (M.signed (meaning e)) a in (
+    let size = length-value e (assigned_width b (meaning e)) (M.signed (meaning e)) a in
+    let long : length ((meaning e).given (length b) a) ≡ length b =
+    ap length (cut.given (length b) a) ∙ omega (arith, length-take (length b) ((meaning e).value (assigned_width b (meaning e)) (M.signed (meaning e)) a), size) in (
       record {
         value = given-same (length b) (meaning e) a m sc v (λ n. cut.given n a) h.0;
-        long = ap length (cut.given (length b) a) ∙ omega (arith, length-take (length b) ((meaning e).value (assigned_width b (meaning e)) (M.signed (meaning e)) a), long);
+        long = long;
+        alone = λ exact. item-alone e (length b) a m sc v cut long exact h.0;
       },
       all-give P none bs es a ms sc v (each-right P (leaves e) (together (map leaves es)) all) h.1,
     )
@@ -143,7 +166,7 @@ pattern-named : (image : ℕ → ℕ) (of : Layout) (at : ℕ) (es : List Expr) 
 unfolding O.pattern
 pattern-named image of at es ms m sc h names = images-like image _ (T.all_names ms sc) (m.names sc) (items-named image (parts_of of) es ms sc h) (names sc)
 
-pub combines-Pattern : (e : Expr) (es : List Expr) (w : ℕ) (s : Bool) (hs : List Helper) (parts : List T.Meaning) (m : T.Meaning) → e.form ≡ V.Pattern es → Patterns e.of w s parts hs m
+pub combines-Pattern : (e : Expr) (es : List Expr) (w : ℕ) (s : Bool) (hs : List Helper) (parts : List T.Meaning) (m : T.Meaning) → e.form ≡ V.Pattern es → Patterns e.of w s (map meaning es) parts hs m
     → (names : NameMap) (fs : List Function) → Combines names fs hs e w s parts m
 combines-Pattern e es w s hs parts m is patterns names fs =
     let level = N.same-Pattern e es is in
@@ -154,7 +177,7 @@ combines-Pattern e es w s hs parts m is patterns names fs =
           let g = asked-is e (formals_in fs) w s _ b parts parts sc v asked refl h in
           let P = LeafStands names fs im a sc in
           let give = all-give P (λ h. h) (marks_of_parts (parts_of (layout e.of))) es b parts sc v (subst (Each P) (leaves-Pattern e es is) all).1 g in
-          subst (λ (k : M.Meaning). Same k w s b m sc v) (sym level) (patterns.same e.spot.at (map meaning es) b sc v helps give);
+          subst (λ (k : M.Meaning). Same k w s b m sc v) (sym level) (patterns.same e.spot.at b sc v helps give);
       named = λ h.
           let g = names-are im.number e (formals_in fs) w s _ parts parts sc asked refl h in
           subst (λ (k : M.Meaning). SameNames im.number k m sc) (sym level) (pattern-named im.number (layout e.of) e.spot.at es parts m sc g patterns.names);
@@ -179,7 +202,7 @@ out-Call : (f : ℕ) (es : List Expr) → out-Form (V.Call f es) ≡ Form-F.Call
 out-Call f es = search (the_lemmas)
 
 pub combines-Call : (e : Expr) (f : ℕ) (es : List Expr) (w : ℕ) (s : Bool) (names : NameMap) (fs : List Function) (hs : List Helper) (parts : List T.Meaning) (m : T.Meaning) → e.form ≡ V.Call f es
-    → (OneFunction names.functions f → CallsNamed e.of (function_name names.functions f) (formals_in fs f) parts hs m) → Combines names fs hs e w s parts m
+    → (OneFunction names.functions f → CallsNamed e.of (function_name names.functions f) (formals_in fs f) (map meaning es) parts hs m) → Combines names fs hs e w s parts m
 combines-Call e f es w s names fs hs parts m is made =
     let level = N.same-Call e f es is in
     let asked = K.asked-by e (V.Call f es) (Form-F.Call f es) (formals_in fs) w s is (out-Call f es) in
@@ -194,41 +217,38 @@ combines-Call e f es w s names fs hs parts m is made =
           let b = record a { now = now } in
           let g = asked-is e (formals_in fs) w s _ b parts parts sc v asked refl h in
           let give = all-give P (λ h. h) (marks_of_formals (formals_in fs f)) es b parts sc v here.1 g in
-          subst (λ (k : M.Meaning). Same k w s b m sc v) (sym level) (calls.same e.spot.at f w s (map meaning es) b sc v helps called.formals_are count called.stands give);
+          subst (λ (k : M.Meaning). Same k w s b m sc v) (sym level) (calls.same e.spot.at f w s b sc v helps called.formals_are count called.stands give);
       named = λ h.
           let g = names-are im.number e (formals_in fs) w s _ parts parts sc asked refl h in
           subst (λ (k : M.Meaning). SameNames im.number k m sc) (sym level) (call-named im.number (layout e.of) e.spot.at f (formals_in fs f) es parts m sc count g calls.names);
     })
 
--- how many operands a pattern and a call have
-assigned-few : (bs : List (List Bool)) (es : List Expr) → length (assigned_asked bs es) ≤ length bs
-assigned-few [] es = omega arith
-assigned-few (b ∷ bs) [] = omega arith
-assigned-few (b ∷ bs) (e ∷ es) = (let rest = assigned-few bs es in omega arith)
+-- the operands of a pattern and a call are assigned to places
+assigned-few : (bs : List (List Bool)) (es : List Expr) → (length (assigned_asked bs es) ≤ length bs) × (length (assigned_asked bs es) ≤ length es)
+assigned-few [] es = (omega arith, omega arith)
+assigned-few (b ∷ bs) [] = (omega arith, omega arith)
+assigned-few (b ∷ bs) (e ∷ es) = (let rest = assigned-few bs es in (omega (arith, rest.0), omega (arith, rest.1)))
 
-length-formals : (ps : List Parameter) → length (marks_of_formals ps) ≡ length ps
-length-formals [] = refl
-length-formals (p ∷ ps) = ap suc (length-formals ps)
-
-pub pattern-of : (e : Expr) (es : List Expr) (fs : ℕ → List Parameter) (w : ℕ) (s : Bool) (n : ℕ) → e.form ≡ V.Pattern es → n ≡ length (form_asked (layout e.of) fs w s (out-Form e.form)) → IsPatternOf e n
-pattern-of e es fs w s n is count =
+pub pattern-of : (e : Expr) (es : List Expr) (fs : ℕ → List Parameter) (w : ℕ) (s : Bool) (n : ℕ) → e.form ≡ V.Pattern es → n ≡ length (form_asked (layout e.of) fs w s (out-Form e.form)) → (meaning e).widest ≤ 4194304
+    → AreItems (marks_of_parts (parts_of (layout e.of))) es n
+pattern-of e es fs w s n is count narrow =
     let asked = K.asked-by e (V.Pattern es) (Form-F.Pattern es) fs w s is (K.out-Pattern es) in
     let few = assigned-few (marks_of_parts (parts_of (layout e.of))) es in
     let same : n ≡ length (assigned_asked (marks_of_parts (parts_of (layout e.of))) es) = count ∙ sym (ap length asked) in
-    record { items = es; is = is; count = omega arith }
+    record { there = omega (arith, few.0, same); few = omega (arith, few.1, same); narrow = narrow-Pattern e es is narrow }
 
-pub call-of : (e : Expr) (f : ℕ) (es : List Expr) (fs : ℕ → List Parameter) (w : ℕ) (s : Bool) (n : ℕ) → e.form ≡ V.Call f es → n ≡ length (form_asked (layout e.of) fs w s (out-Form e.form)) → IsCallOf e f (fs f) n
-call-of e f es fs w s n is count =
+pub call-of : (e : Expr) (f : ℕ) (es : List Expr) (fs : ℕ → List Parameter) (w : ℕ) (s : Bool) (n : ℕ) → e.form ≡ V.Call f es → n ≡ length (form_asked (layout e.of) fs w s (out-Form e.form)) → (meaning e).widest ≤ 4194304
+    → AreItems (marks_of_formals (fs f)) es n
+call-of e f es fs w s n is count narrow =
     let asked = K.asked-by e (V.Call f es) (Form-F.Call f es) fs w s is (out-Call f es) in
     let few = assigned-few (marks_of_formals (fs f)) es in
-    let long = length-formals (fs f) in
     let same : n ≡ length (assigned_asked (marks_of_formals (fs f)) es) = count ∙ sym (ap length asked) in
-    record { actuals = es; is = is; count = omega arith }
+    record { there = omega (arith, few.0, same); few = omega (arith, few.1, same); narrow = at-places (marks_of_formals (fs f)) es (narrow-Call e f es is narrow) }
 
-pub called-as : (t : SvType) (name other : Name) (ps qs : List Parameter) (ms ns : List T.Meaning) (hs : List Helper) (r : T.Meaning) → name ≡ other → ps ≡ qs → ms ≡ ns → CallsNamed t name ps ms hs r
-    → CallsNamed t other qs ns hs r
-called-as t name other ps qs ms ns hs r names formals parts h =
-    subst (λ n. CallsNamed t n qs ns hs r) names (subst (λ l. CallsNamed t name l ns hs r) formals (subst (λ l. CallsNamed t name ps l hs r) parts h))
+pub called-as : (t : SvType) (name other : Name) (ps qs : List Parameter) (es : List M.Meaning) (ms ns : List T.Meaning) (hs : List Helper) (r : T.Meaning) → name ≡ other → ps ≡ qs → ms ≡ ns
+    → CallsNamed t name ps es ms hs r → CallsNamed t other qs es ns hs r
+called-as t name other ps qs es ms ns hs r names formals parts h =
+    subst (λ n. CallsNamed t n qs es ns hs r) names (subst (λ l. CallsNamed t name l es ns hs r) formals (subst (λ l. CallsNamed t name ps es l hs r) parts h))
 
 pub same-ok : (xs ys : List VExpr) (r : Result (List VExpr) AllocError) → r ≡ Ok xs → r ≡ Ok ys → xs ≡ ys
 same-ok xs ys r h g = cc

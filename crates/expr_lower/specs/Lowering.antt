@@ -20,11 +20,11 @@ use Rattle.eval_parts.specs.Steps.{is_path}
 use Rattle.eval_forms.specs.Asked.{Asked, width_asked, sign_asked, form_asked}
 use Rattle.lowering_laws.specs.Agreeing.{Images, IsInOrder, Stands}
 use Rattle.lowering_laws.specs.Held.{marked}
-use Rattle.lowering_laws.specs.Helpers.{StandsFor}
 use Rattle.lowering_laws.specs.NamedImages.{SameNames}
 use Rattle.lowering_laws.specs.Same.{Same}
 use Rattle.lowering_laws.specs.Words.{lower}
 use Rattle.path_flatten.specs.Helping.{EachHelps}
+use Rattle.form_lower.specs.Places.{StandsForCallee}
 use Rattle.expr_lower.specs.Leaves.{Leaf, Signals, Elements, Inside, Locals, Calls, Valued, Joined, Unlowered, leaves, Each}
 use Rattle.name_maps.specs.Named.{signal_name, is_memory, local_name, function_name, OneSignal, OneLocal, OneFunction}
 
@@ -58,7 +58,7 @@ ShowsElements false name im sc n of = IsShown name im sc n of
 pub record IsCalled (name : Name) (formals : List Parameter) (a : Around) (sc : Scope) (f : ℕ) (of : Layout) (n : ℕ) : Type 0 where
   pub formals_are : (a.callee f).formals ≡ formals
   pub count : n ≡ length formals
-  pub stands : StandsFor (a.callee f) (length of.two_state) (sc.callee name)
+  pub stands : StandsForCallee formals (a.callee f) (length of.two_state) (sc.callee name)
 
 -- the map says one thing of a leaf of the expression (its name, and whether it is a memory), and the text has what the leaf needs
 abbrev pub LeafStands : NameMap → List Function → Images → Around → Scope → Leaf → Type 0

@@ -1,15 +1,11 @@
 -- Forms that have no operator of the target language.
-use Rattle.std.specs.Prelude.{◌≡◌, ℕ, ◌≤◌, Bool, true, false, List, length, Option, Some, None}
+use Rattle.std.specs.Prelude.{◌≡◌, Bool, true, false, Option, Some, None}
 use Rattle.b4_core.specs.declared.operators.EqOp.{EqOp}
 use Rattle.b4_core.specs.declared.operators.EqOp.TheVariants.{Logic, Case, Wild}
 use Rattle.sv_types.specs.declared.expression.Expr.{Expr}
 use Rattle.sv_types.specs.declared.expression.Choice.{Choice}
 use Rattle.sv_types.specs.declared.expression.Form.{Form, Form-F, out-Form}
 use Rattle.sv_types.specs.declared.expression.Form.TheVariants as V
-use Rattle.sv_types.specs.Layouts.{layout}
-use Rattle.sv_types.specs.Surroundings.{Parameter}
-use Rattle.sv_types.specs.Operators.{parts_of}
-use Rattle.eval_parts.specs.Targets.{marks_of_parts}
 use Rattle.expr_lower.specs.declared.specials.Special.{Special}
 use Rattle.expr_lower.specs.declared.specials.Special.TheVariants as X
 
@@ -55,8 +51,8 @@ IsSpecial (X.Wild negated left right) e = e.form ≡ V.Equal Wild negated left.n
 IsSpecial (X.Inside x cs) e = e.form ≡ V.Inside x.now cs.now
 IsSpecial (X.Cast x) e = e.form ≡ V.Cast x.now
 IsSpecial (X.Clog2 x) e = e.form ≡ V.Clog2 x.now
-IsSpecial X.Pattern e = (es : List Expr) × (e.form ≡ V.Pattern es)
-IsSpecial (X.Call f) e = (es : List Expr) × (e.form ≡ V.Call f es)
+IsSpecial (X.Pattern es) e = e.form ≡ V.Pattern es.now
+IsSpecial (X.Call f es) e = e.form ≡ V.Call f es.now
 
 abbrev pub IsSpecialOf : Option Special → Expr → Type 0
 IsSpecialOf None e = is_special (out-Form e.form) ≡ false
@@ -65,14 +61,3 @@ IsSpecialOf (Some s) e = IsSpecial s e
 -- so it is for each equality with this operator
 abbrev pub IsWildOf : Option Special → EqOp → Bool → Expr → Expr → Type 0
 IsWildOf r op negated x y = (e : Expr) → e.form ≡ V.Equal op negated x y → IsSpecialOf r e
-
--- a pattern of so many items, and a call with so many arguments, as far as there are members, elements and formals
-pub record IsPatternOf (e : Expr) (n : ℕ) : Type 0 where
-  pub items : List Expr
-  pub is : e.form ≡ V.Pattern items
-  pub count : n ≤ length (marks_of_parts (parts_of (layout e.of)))
-
-pub record IsCallOf (e : Expr) (f : ℕ) (formals : List Parameter) (n : ℕ) : Type 0 where
-  pub actuals : List Expr
-  pub is : e.form ≡ V.Call f actuals
-  pub count : n ≤ length formals

@@ -5,17 +5,19 @@ ghost use Rattle.b4_core.specs.declared.operators.EqOp.TheVariants.{Wild};
 ghost use Rattle.sv_types.specs.declared.expression.Form.TheVariants as forms;
 ghost use Rattle.sv_types.specs.declared.expression.Form.{out-Form};
 ghost use Rattle.sv_types.specs.Layouts.{layout, width_of};
+ghost use Rattle.sv_types.specs.Operators.{parts_of};
 ghost use Rattle.sv_types.specs.Expressions.{meaning};
 ghost use Rattle.v_meaning.specs.Values as means;
 ghost use Rattle.v_build.specs.Trees.{meanings};
 ghost use Rattle.eval_parts.specs.Limits.{Fits};
 ghost use Rattle.eval_parts.specs.Steps.{is_path};
+ghost use Rattle.eval_parts.specs.Targets.{marks_of_formals, marks_of_parts};
 ghost use Rattle.eval_forms.specs.Asked.{form_asked};
 ghost use Rattle.eval_forms.specs.Callees.{formals_in, AllFunctionsFit};
 ghost use Rattle.path_flatten.specs.Helping.{Grows};
+ghost use Rattle.form_lower.specs.Places.{AreItems};
 ghost use Rattle.expr_lower.specs.Leaves.{leaves, Each, IsLowered};
 ghost use Rattle.expr_lower.specs.Lowering.{Combines, CombinesIn, CombinesAnywhere};
-ghost use Rattle.expr_lower.specs.Specials.{IsCallOf, IsPatternOf};
 
 use crate::combining::combine;
 use crate::insides::inside;
@@ -76,18 +78,20 @@ fn wild_form(
 fn pattern_form(
     alloc: Global,
     e: &Expr,
+    items: &[Expr],
     width: u32,
     signed: bool,
     parts: VExprs,
     helpers: &mut Helpers,
 ) -> Result<VExpr, AllocError>
-    requires form { IsPatternOf e.now (length parts) }
+    requires form { e.now.form ≡ forms.Pattern items.now }
     requires some { 1 ≤ width_of e.now.of }
     requires narrow { width_of e.now.of ≤ 4194304 }
+    requires items { AreItems (marks_of_parts (parts_of (layout e.now.of))) items.now (length parts) }
     ensures grows { OnOk result (Grows helpers.old helpers.new) }
     ensures combines { IfOk result (λ m. CombinesIn helpers.new e.now width signed (meanings parts) (means.meaning m)) }
 {
-    let made = pattern(alloc, &e.of, width, signed, parts, helpers)?;
+    let made = pattern(alloc, &e.of, width, signed, items, parts, helpers)?;
     Ok(made)
 }
 
@@ -98,17 +102,20 @@ fn call_form(
     functions: &[Function],
     e: &Expr,
     f: u32,
+    actuals: &[Expr],
     parts: VExprs,
     helpers: &mut Helpers,
 ) -> Result<VExpr, AllocError>
     requires functions { AllFunctionsFit functions.now }
-    requires form { IsCallOf e.now f (formals_in functions.now f) (length parts) }
+    requires form { e.now.form ≡ forms.Call f actuals.now }
+    requires items { AreItems (marks_of_formals (formals_in functions.now f)) actuals.now (length parts) }
     ensures grows { OnOk result (Grows helpers.old helpers.new) }
     ensures combines { IfOk result (λ m. (w : ℕ) (s : Bool) → Combines names.now functions.now helpers.new e.now w s (meanings parts) (means.meaning m)) }
 {
     let name = function_text(alloc, names.functions.as_slice(), f);
     let (name, parts) = both(name, Ok(parts))?;
-    let made = call_named(alloc, &e.of, name, formals_of(functions, f), parts, helpers)?;
+    let formals = formals_of(functions, f);
+    let made = call_named(alloc, &e.of, name, formals, actuals, parts, helpers)?;
     Ok(made)
 }
 
@@ -158,12 +165,12 @@ pub fn formed(
             let logarithm = clog2(alloc, e, x, parts)?;
             Ok(logarithm)
         }
-        Some(Special::Pattern) => {
-            let whole = pattern_form(alloc, e, width, signed, parts, helpers)?;
+        Some(Special::Pattern(items)) => {
+            let whole = pattern_form(alloc, e, items, width, signed, parts, helpers)?;
             Ok(whole)
         }
-        Some(Special::Call(f)) => {
-            let called = call_form(alloc, names, functions, e, f, parts, helpers)?;
+        Some(Special::Call(f, actuals)) => {
+            let called = call_form(alloc, names, functions, e, f, actuals, parts, helpers)?;
             Ok(called)
         }
     }

@@ -23,10 +23,10 @@ pub enum Special<'a> {
     Cast(&'a Expr),
     /// `$clog2`.
     Clog2(&'a Expr),
-    /// An assignment pattern.
-    Pattern,
-    /// A call of the function with this number.
-    Call(u32),
+    /// An assignment pattern of these items.
+    Pattern(&'a [Expr]),
+    /// A call of the function with this number, with these actuals.
+    Call(u32, &'a [Expr]),
 }
 
 /// An equality, if it is `==?` or `!=?`.
@@ -80,8 +80,8 @@ pub fn special_of(e: &Expr) -> Option<Special<'_>>
         Form::Inside(x, choices) => Some(Special::Inside(x.get(), choices.as_slice())),
         Form::Cast(x) => Some(Special::Cast(x.get())),
         Form::Clog2(x) => Some(Special::Clog2(x.get())),
-        Form::Pattern(_) => Some(Special::Pattern),
-        Form::Call(f, _) => Some(Special::Call(*f)),
+        Form::Pattern(items) => Some(Special::Pattern(items.as_slice())),
+        Form::Call(f, actuals) => Some(Special::Call(*f, actuals.as_slice())),
         Form::Stream { .. } => None,
     }
 }

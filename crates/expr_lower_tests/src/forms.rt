@@ -3,8 +3,8 @@
 use b4_core::{BinOp, OrdOp, ShiftOp};
 use tree_words::Word;
 use tree_words::Word::{
-    Binary, Bits, Cast, Choose, Clog2, Concat, Equal, Fill, Inside, Order, Repeat, Scalar, Shift,
-    Signal, SignedVector, Stream, Type, Vector,
+    Binary, Bits, Call, Cast, Choose, Clog2, Concat, Equal, Fill, Inside, Order, Pattern, Repeat,
+    Scalar, Shift, Signal, SignedVector, Stream, Type, Vector,
 };
 
 /// Operators in a context.
@@ -150,6 +150,34 @@ pub const CASTS: &[(&[Word], u32, &str)] = &[
         4,
         "sv2v_h_two_state_4({a})",
     ),
+    // a pattern of items of as many bits as the members have
+    (
+        &[
+            Vector(3, 0),
+            Signal(0),
+            Vector(7, 0),
+            Signal(1),
+            Type("four packed 3 0 four packed 7 0 struct 2"),
+            Pattern(2),
+        ],
+        12,
+        "{a,b}",
+    ),
+    // a member that is two-state, and one that is wider than its item
+    (
+        &[
+            Vector(3, 0),
+            Signal(0),
+            Vector(5, 0),
+            Signal(1),
+            Type("two packed 3 0 four packed 7 0 struct 2"),
+            Pattern(2),
+        ],
+        12,
+        "{sv2v_h_two_state_4({a}),sv2v_h_cast_8(b)}",
+    ),
+    // a call of a function without formals
+    (&[Vector(7, 0), Call(0, 0)], 8, "f('0)"),
     // $clog2(a)
     (
         &[Vector(1, 0), Signal(0), Clog2],

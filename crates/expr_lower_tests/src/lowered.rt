@@ -8,9 +8,11 @@ use path_flatten::Helpers;
 use std::alloc::{AllocError, Global};
 use sv_source::Text;
 use sv_types::Expr;
-use v_tree::{FunctionNames, LocalName, LocalNames, NameMap, SignalName, SignalNames};
+use v_tree::{
+    FunctionName, FunctionNames, LocalName, LocalNames, NameMap, SignalName, SignalNames,
+};
 
-/// Names of signals and locals: a, b, c and so on, the memory m, and t.
+/// Names of signals, locals and functions: a, b, c and so on, the memory m, t, and f.
 fn names(alloc: Global) -> Result<NameMap, AllocError> {
     let mut signals = SignalNames::new(alloc);
     for (signal, letter) in (0u32..).zip("abcdefgh".bytes()) {
@@ -32,9 +34,12 @@ fn names(alloc: Global) -> Result<NameMap, AllocError> {
     let mut locals = LocalNames::new(alloc);
     let name = Text::from_bytes(alloc, b"t")?;
     locals.push(LocalName { local: 0, name })?;
+    let mut functions = FunctionNames::new(alloc);
+    let name = Text::from_bytes(alloc, b"f")?;
+    functions.push(FunctionName { function: 0, name })?;
     Ok(NameMap {
         signals,
-        functions: FunctionNames::new(alloc),
+        functions,
         locals,
     })
 }

@@ -248,7 +248,7 @@ pub const BASES: &[(&[Word], u32, &str)] = &[
             Member(1),
         ],
         8,
-        "sv2v_h_select_8_33_12({{sv2v_h_cast_4(a),sv2v_h_cast_8(b)}},$signed('000000000000000000000000000000000))",
+        "sv2v_h_select_8_33_12({{a,b}},$signed('000000000000000000000000000000000))",
     ),
     // a number's bit
     (

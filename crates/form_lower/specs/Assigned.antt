@@ -1,5 +1,5 @@
 -- What is cast, and what is assigned to members, elements and formals (IEEE 1800-2017 clauses 6.24, 10.7, 10.9 and 13.5).
-use Rattle.std.specs.Prelude.{◌≡◌, ⊤, ℕ, ◌<◌, ◌≤◌, Bool, true, List, [], ◌∷◌, length}
+use Rattle.std.specs.Prelude.{◌≡◌, ℕ, ◌<◌, ◌≤◌, Bool, true, List, [], ◌∷◌, length}
 use Rattle.b4_core.specs.declared.bit.Bit4.{Bit4}
 use Rattle.b4_core.specs.Vectors.{ext}
 use Rattle.row_machine.specs.Valuation.{Valuation}
@@ -25,16 +25,6 @@ pub record Assigns (two_state : List Bool) (m : T.Meaning) (hs : List Helper) (r
   pub bits : (x : List Bit4) (sc : Scope) (v : Valuation) → EachHelps hs sc → T.given m (length two_state) sc v ≡ x → length x ≡ length two_state
       → HasBits r (stored two_state x) sc v
   pub names : NamesOf (m ∷ []) r
-
--- so for each of some expressions, which are at most as many as the places
-abbrev pub AllAssign : List (List Bool) → List T.Meaning → List Helper → List T.Meaning → Type 0
-AllAssign [] [] hs [] = ⊤
-AllAssign [] [] hs (r ∷ rs) = ⊥
-AllAssign [] (m ∷ ms) hs rs = ⊥
-AllAssign (b ∷ bs) [] hs [] = ⊤
-AllAssign (b ∷ bs) [] hs (r ∷ rs) = ⊥
-AllAssign (b ∷ bs) (m ∷ ms) hs [] = ⊥
-AllAssign (b ∷ bs) (m ∷ ms) hs (r ∷ rs) = Assigns b m hs r × AllAssign bs ms hs rs
 
 -- what an expression of as many bits as a type has, valued alone, is as the type stores it
 pub record Keeps (t : SvType) (m : T.Meaning) (hs : List Helper) (r : T.Meaning) : Type 0 where

@@ -19,7 +19,7 @@ use v_build::{choose, literal, negate};
 use v_tree::{Helper, HelperKind, VExpr};
 
 /// One bit as a number.
-fn bit(alloc: Global, b: Bit4) -> Result<VExpr, AllocError>
+pub(crate) fn bit(alloc: Global, b: Bit4) -> Result<VExpr, AllocError>
     ensures { IfOk result (λ e. means.meaning e ≡ means.literal (b ∷ [])) }
 {
     let bits = Vec4::from_slice(alloc, &[b])?;

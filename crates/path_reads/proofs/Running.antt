@@ -18,6 +18,7 @@ use Rattle.v_meaning.specs.Values as T
 use Rattle.eval_parts.specs.declared.paths.Window.{Window as Span}
 use Rattle.eval_parts.specs.Places.{window_of}
 use Rattle.lowering_laws.specs.Same.{HasBits}
+use Rattle.lowering_laws.proofs.Paths.{stored-four-bits}
 use Rattle.lowering_laws.proofs.WriteAt.{part-tight}
 use Rattle.path_flatten.specs.declared.readings.Reading.{Reading}
 use Rattle.path_flatten.specs.declared.readings.Root.TheVariants as R
@@ -30,9 +31,9 @@ use Rattle.path_flatten.proofs.Helping.{helps-before}
 use Rattle.path_flatten.proofs.Naming.{same-itself, same-then, same-joined, same-twice}
 use Rattle.path_flatten.proofs.Runs.{mark-four, slice-tabulated, from-none, from-next, from-all}
 use Rattle.path_flatten.proofs.Sees.{stays-of}
-use Rattle.path_flatten.proofs.Storing.{run-four, run-two, two-call, are-all, stores-four, stores-two}
+use Rattle.path_flatten.proofs.Storing.{run-four, run-two, two-call, are-all, all-four, stores-four, stores-two}
 use Rattle.path_reads.specs.declared.runs.Run.{Run}
-use Rattle.path_reads.specs.Running.{IsRunBelow, IsRun, StoresOne, StoresMarks, StoresAll, NamesAll}
+use Rattle.path_reads.specs.Running.{KeepsBits, IsRunBelow, IsRun, StoresOne, StoresMarks, StoresAll, NamesAll}
 
 -- a part of all bits ends where they do
 trimmed-inside : (path : Window) (high : ℕ) (b : Bool) → path.high ≤ high → (cond b path nowhere).high ≤ high
@@ -156,6 +157,10 @@ like-concat m ms r all is sc = subst (SameNumbers (m.names sc)) (sym (ap (λ (x 
 -- there are as many marks as the type has bits
 marks-long : (t : SvType) (marks : List Bit4) → marks ≡ stored (layout t).two_state (replicate (width_of t) X) → length marks ≡ width_of t
 marks-long t marks is = ap length is ∙ length-stored (layout t).two_state (replicate (width_of t) X) (length-replicate (width_of t) X)
+
+-- a type that keeps each x has no two-state bit
+pub keeps-bits : (t : SvType) (marks : List Bit4) → marks ≡ stored (layout t).two_state (replicate (width_of t) X) → AllAre X marks → KeepsBits t
+keeps-bits t marks is all c long = stored-four-bits (layout t).two_state c (all-four (layout t).two_state (sym is ∙ are-all X marks all ∙ ap (λ n. replicate n X) (marks-long t marks is))) long
 
 -- bits that are all of one kind of store, and others
 pub marked-four : (m : T.Meaning) (marks : List Bit4) (hs : List Helper) → AllAre X marks → StoresAll m marks hs m

@@ -11,6 +11,10 @@ use Rattle.path_flatten.specs.Naming.{SameNumbers}
 use Rattle.path_flatten.specs.Storing.{IsSteady, StoresBits, StoresRun, StoresFrom}
 use Rattle.path_reads.specs.declared.runs.Run.{Run}
 
+-- a type stores bits as they are
+abbrev pub KeepsBits : SvType → Type 0
+KeepsBits t = (c : List Bit4) → length c ≡ width_of t → stored (layout t).two_state c ≡ c
+
 -- the run of equal bits that ends below a place; its bits are two-state where x isn't kept
 pub record IsRunBelow (marks : List Bit4) (high : ℕ) (r : Run) : Type 0 where
   pub some : r.low < high

@@ -7,4 +7,4 @@ mod runs;
 mod stored;
 
 pub use reads::{read, with_sign};
-pub use stored::{call_with, stored_bits};
+pub use stored::{call_with, is_four_state, stored_bits};

@@ -1,6 +1,6 @@
 //! Bits as a type stores them (IEEE 1800-2017 clauses 6.3.2 and 6.11.2).
 
-ghost use Rattle.std.specs.Prelude.{◌≡◌, ◌≤◌, ◌<◌, ◌+◌, ◌∷◌, [], pos, length, replicate, IfOk, OnOk};
+ghost use Rattle.std.specs.Prelude.{◌≡◌, ◌≤◌, ◌<◌, ◌+◌, ◌∷◌, [], true, pos, length, replicate, IfOk, OnOk};
 ghost use Rattle.b4_core.specs.declared.bit.Bit4.TheVariants.{X};
 ghost use Rattle.picks.specs.Windows.{whole, part};
 ghost use Rattle.sv_types.specs.Layouts.{layout, width_of, stored};
@@ -14,7 +14,7 @@ ghost use Rattle.path_flatten.specs.Helping.{Grows};
 ghost use Rattle.path_flatten.specs.Naming.{NamesLike};
 ghost use Rattle.path_flatten.specs.Selecting.{CutsValue};
 ghost use Rattle.path_flatten.specs.Storing.{IsHelperCall, StoresBits};
-ghost use Rattle.path_reads.specs.Running.{StoresOne, StoresMarks, StoresAll, NamesAll};
+ghost use Rattle.path_reads.specs.Running.{KeepsBits, StoresOne, StoresMarks, StoresAll, NamesAll};
 
 use crate::runs::{Run, are_all, run_below};
 use b4_core::{Bit4, Vec4};
@@ -33,6 +33,15 @@ fn marks_of(alloc: Global, of: &SvType) -> Result<Vec4, AllocError>
 {
     let unknown = filled(alloc, width(of), Bit4::X)?;
     store(alloc, of, &unknown)
+}
+
+/// Whether a type stores all bits as they are, since none of them is two-state. Or want of memory.
+pub fn is_four_state(alloc: Global, of: &SvType) -> Result<bool, AllocError>
+    requires narrow { width_of of.now ≤ 4194304 }
+    ensures { IfOk result (λ r. r ≡ true → KeepsBits of.now) }
+{
+    let marks = marks_of(alloc, of)?;
+    Ok(are_all(marks.as_slice(), Bit4::X))
 }
 
 /// A call with one argument, or want of memory.

@@ -39,9 +39,12 @@ pub cast_form-requires-clause-narrow : goal.cast_form-requires-clause-narrow
 cast_form-requires-clause-narrow c = own-narrow c.args.e.now (formals_in c.args.functions.now) c.args.width c.requires.fits
 
 pub pattern_form-requires-clause-form : goal.pattern_form-requires-clause-form
-pattern_form-requires-clause-form c =
+pattern_form-requires-clause-form c = subst (λ st. IsSpecial st c.args.e.now) c.in-Some-Pattern.field-0-is c.in-Some-Pattern.ensures
+
+pub pattern_form-requires-clause-items : goal.pattern_form-requires-clause-items
+pattern_form-requires-clause-items c =
     let is = subst (λ st. IsSpecial st c.args.e.now) c.in-Some-Pattern.field-0-is c.in-Some-Pattern.ensures in
-    pattern-of c.args.e.now is.0 (formals_in c.args.functions.now) c.args.width c.args.signed _ is.1 c.requires.count
+    pattern-of c.args.e.now c.in-Some-Pattern.items.now (formals_in c.args.functions.now) c.args.width c.args.signed _ is c.requires.count c.requires.fits.narrow
 
 pub pattern_form-requires-clause-some : goal.pattern_form-requires-clause-some
 pattern_form-requires-clause-some c = (let h = has-bits c.args.e.now c.requires.fits.typed in omega (arith, h, wide-is c.args.e.now))
@@ -50,9 +53,12 @@ pub pattern_form-requires-clause-narrow : goal.pattern_form-requires-clause-narr
 pattern_form-requires-clause-narrow c = own-narrow c.args.e.now (formals_in c.args.functions.now) c.args.width c.requires.fits
 
 pub call_form-requires-clause-form : goal.call_form-requires-clause-form
-call_form-requires-clause-form c =
+call_form-requires-clause-form c = subst (λ st. IsSpecial st c.args.e.now) c.in-Some-Call.field-0-is c.in-Some-Call.ensures
+
+pub call_form-requires-clause-items : goal.call_form-requires-clause-items
+call_form-requires-clause-items c =
     let is = subst (λ st. IsSpecial st c.args.e.now) c.in-Some-Call.field-0-is c.in-Some-Call.ensures in
-    call-of c.args.e.now c.in-Some-Call.f is.0 (formals_in c.args.functions.now) c.args.width c.args.signed _ is.1 c.requires.count
+    call-of c.args.e.now c.in-Some-Call.f c.in-Some-Call.actuals.now (formals_in c.args.functions.now) c.args.width c.args.signed _ is c.requires.count c.requires.fits.narrow
 
 pub clog2-requires-clause-narrow : goal.clog2-requires-clause-narrow
 clog2-requires-clause-narrow c =
