@@ -1,5 +1,5 @@
--- `inside` stands for an `||` of its alternatives.
-use Rattle.std.proofs.Common.{◌≡◌, ◌⊎◌, inl, inr, ℕ, suc, ◌+◌, ◌<◌, ◌≤◌, ◌==◌, Bool, true, false, List, [], ◌∷◌, ◌++◌, append-nil, append_assoc, length, length-append, map, flat_map, reverse, take, drop, get_or, zero, refl, arith, ap, sym, ◌∙◌, subst}
+-- `inside` stands for the reduction with or of its alternatives' bits.
+use Rattle.std.proofs.Common.{◌≡◌, ◌⊎◌, inl, inr, ℕ, suc, ◌+◌, ◌<◌, ◌≤◌, ◌==◌, Bool, true, false, List, [], ◌∷◌, ◌++◌, append-nil, append_assoc, length, length-append, map, flat_map, reverse, take, drop, get_or, zero, refl, arith, ap, sym, ◌∙◌, subst, true≢false}
 use Rattle.std.proofs.lemmas.List.{reverse-append}
 use Rattle.std.proofs.Math.Seq.{drop-cons}
 use Rattle.std.proofs.lemmas.Bool.Decides.{nat_tests}
@@ -40,18 +40,19 @@ use Rattle.eval_forms.proofs.Strict as K
 use Rattle.lowering_laws.specs.NamedImages.{numbers, AreImages, SameNames}
 use Rattle.lowering_laws.specs.Same.{Same}
 use Rattle.lowering_laws.proofs.Contexts.{typed-four}
-use Rattle.lowering_laws.proofs.Inside.{AllBits, any-of, order-bit, both-bit, inside-same}
+use Rattle.lowering_laws.proofs.Inside.{order-bit, both-bit}
 use Rattle.lowering_laws.proofs.Naming.{no-images, both-images}
 use Rattle.path_flatten.specs.Helping.{Grows}
 use Rattle.path_flatten.specs.Naming.{SameNumbers}
 use Rattle.path_flatten.proofs.Helping.{helps-before, grows-none, grows-both}
 use Rattle.path_flatten.proofs.Naming.{same-by, same-itself, same-joined}
 use Rattle.form_lower.specs.Wilds.{GivesBit, IsMatch}
-use Rattle.form_lower.proofs.Comparing.{bit-gives, gives-bit}
+use Rattle.form_lower.proofs.Comparing.{bit-gives}
 use Rattle.expr_lower.proofs.Asking.{length-meanings}
 use Rattle.expr_lower.specs.Lowering.{SameEach, NamesEach, CombinesAnywhere}
-use Rattle.expr_lower.specs.Insides.{choice_asks, choices_ask, Alternates, Takes, AllGiveBits, AllAlternate, Lists, any_of}
+use Rattle.expr_lower.specs.Insides.{choice_asks, choices_ask, Alternates, Takes, AllAlternate, Lists, any_of}
 use Rattle.expr_lower.proofs.Forms.{asked-is, names-are}
+use Rattle.expr_lower.proofs.Reducing.{any-same, any-named}
 use Rattle.expr_lower.proofs.Standing.{by-helped, images-like}
 
 -- members of three lists
@@ -280,31 +281,6 @@ alternate-next x c cs ts ps old hs r rs count grows one all = record {
 }
 
 -- the whole
-any-same : (m : T.Meaning) (ms : List T.Meaning) → any_of m ms ≡ any-of m ms
-any-same m [] = refl
-any-same m (k ∷ ks) = any-same (T.either m k) ks
-
-all-bits : (ms : List T.Meaning) (bs : List Bit4) (sc : Scope) (v : Valuation) → AllGiveBits ms bs sc v → AllBits ms bs sc v
-all-bits [] [] sc v h = tt
-all-bits [] (b ∷ bs) sc v h = absurd h
-all-bits (m ∷ ms) [] sc v h = absurd h
-all-bits (m ∷ ms) (b ∷ bs) sc v h = (gives-bit m b sc v h.0, all-bits ms bs sc v h.1)
-
-either-named : (m k : T.Meaning) (sc : Scope) → (T.either m k).names sc ≡ m.names sc ++ k.names sc
-unfolding T.either
-either-named m k sc = ap (λ l. m.names sc ++ l) (append-nil (k.names sc))
-
-any-named : (m : T.Meaning) (ms : List T.Meaning) (sc : Scope) → (any_of m ms).names sc ≡ T.all_names (m ∷ ms) sc
-any-named m [] sc = sym (append-nil (m.names sc))
-any-named m (k ∷ ks) sc = any-named (T.either m k) ks sc ∙ ap (λ l. l ++ T.all_names ks sc) (either-named m k sc) ∙ append_assoc (m.names sc) (k.names sc) (T.all_names ks sc)
-
-inside-by : (of : Layout) (at : ℕ) (x : Expr) (c : Choice) (cs : List Choice) (w : ℕ) (s : Bool) (a : Around) (m : T.Meaning) (ms : List T.Meaning) (r : T.Meaning) (sc : Scope) (v : Valuation)
-    → (O.inside of at (meaning x) (map alternative (c ∷ cs))).misfits ≡ 0 → AllGiveBits (m ∷ ms) (map (is_inside (meaning x) a) (map alternative (c ∷ cs))) sc v → r ≡ any_of m ms
-    → Same (O.inside of at (meaning x) (map alternative (c ∷ cs))) w s a r sc v
-inside-by of at x c cs w s a m ms r sc v fits h is =
-    subst (λ (y : T.Meaning). Same (O.inside of at (meaning x) (map alternative (c ∷ cs))) w s a y sc v) (sym (is ∙ any-same m ms))
-    (inside-same of at (meaning x) (alternative c) (map alternative cs) w s a m ms sc v fits (gives-bit m _ sc v h.0) (all-bits ms _ sc v h.1))
-
 and-never : (b : Bit4) → and4 b Zero ≡ Zero
 and-never Zero = refl
 and-never One = refl
@@ -340,9 +316,9 @@ combines-never e x hs parts p m is are made names fs w s =
           (subst (λ (y : T.Meaning). SameNames im.number (O.inside (layout e.of) e.spot.at (meaning x) []) y sc) (sym made) (never-named im.number (layout e.of) e.spot.at x p sc g.0));
     })
 
-combines-some : (e x : Expr) (c : Choice) (cs : List Choice) (hs : List Helper) (parts : List T.Meaning) (p : T.Meaning) (rest : List T.Meaning) (b : T.Meaning) (bs : List T.Meaning) (m : T.Meaning)
-    → e.form ≡ V.Inside x (c ∷ cs) → parts ≡ p ∷ rest → AllAlternate x (c ∷ cs) rest hs (b ∷ bs) → m ≡ any_of b bs → CombinesAnywhere hs e parts m
-combines-some e x c cs hs parts p rest b bs m is are alternates made names fs w s =
+combines-some : (e x : Expr) (c : Choice) (cs : List Choice) (hs : List Helper) (parts : List T.Meaning) (p : T.Meaning) (rest bits : List T.Meaning) (m : T.Meaning) → e.form ≡ V.Inside x (c ∷ cs)
+    → parts ≡ p ∷ rest → AllAlternate x (c ∷ cs) rest hs bits → m ≡ any_of bits → CombinesAnywhere hs e parts m
+combines-some e x c cs hs parts p rest bits m is are alternates made names fs w s =
     let level = same-Inside e x (c ∷ cs) is in
     let asked = K.asked-by e (V.Inside x (c ∷ cs)) (Form-F.Inside x (c ∷ cs)) (formals_in fs) w s is (I.out-Inside x (c ∷ cs)) in
     by-helped names fs hs e w s parts m (λ im a sc all helps fits. record {
@@ -350,18 +326,19 @@ combines-some e x c cs hs parts p rest b bs m is are alternates made names fs w 
           let k = record a { now = now } in
           let g = asked-is e (formals_in fs) w s _ k parts (p ∷ rest) sc v asked are h in
           subst (λ (y : M.Meaning). Same y w s k m sc v) (sym level)
-          (inside-by (layout e.of) e.spot.at x c cs w s k b bs m sc v (subst (λ (y : M.Meaning). y.misfits ≡ 0) level fits.typed)
-          (alternates.bits k sc v helps (typed-first e x (c ∷ cs) fs w s is fits) g.1) made);
+          (subst (λ (y : T.Meaning). Same (O.inside (layout e.of) e.spot.at (meaning x) (map alternative (c ∷ cs))) w s k y sc v) (sym made)
+          (any-same (layout e.of) e.spot.at (meaning x) (map alternative (c ∷ cs)) w s k bits sc v (subst (λ (y : M.Meaning). y.misfits ≡ 0) level fits.typed)
+          (alternates.bits k sc v helps (typed-first e x (c ∷ cs) fs w s is fits) g.1)));
       named = λ h.
           let g = names-are im.number e (formals_in fs) w s _ parts (p ∷ rest) sc asked are h in
-          let same : SameNumbers (T.all_names rest sc) (m.names sc) = subst (SameNumbers (T.all_names rest sc)) (sym (ap (λ (y : T.Meaning). y.names sc) made ∙ any-named b bs sc)) (alternates.names sc) in
+          let same : SameNumbers (T.all_names rest sc) (m.names sc) = subst (SameNumbers (T.all_names rest sc)) (sym (ap (λ (y : T.Meaning). y.names sc) made ∙ any-named bits sc)) (alternates.names sc) in
           subst (λ (y : M.Meaning). SameNames im.number y m sc) (sym level) (inside-named im.number (layout e.of) e.spot.at x c cs p rest m sc g.0 g.1 same);
     })
 
-pub combines-Inside : (e x : Expr) (cs : List Choice) (hs : List Helper) (parts : List T.Meaning) (p : T.Meaning) (rest : List T.Meaning) (b : T.Meaning) (bs : List T.Meaning) (m : T.Meaning)
-    → e.form ≡ V.Inside x cs → parts ≡ p ∷ rest → AllAlternate x cs rest hs (b ∷ bs) → m ≡ any_of b bs → CombinesAnywhere hs e parts m
-combines-Inside e x [] hs parts p rest b bs m is are alternates made = absurd (let n = alternates.some in omega arith)
-combines-Inside e x (c ∷ cs) hs parts p rest b bs m is are alternates made = combines-some e x c cs hs parts p rest b bs m is are alternates made
+pub combines-listed : (e x : Expr) (cs : List Choice) (hs : List Helper) (parts bits : List T.Meaning) (m : T.Meaning) → e.form ≡ V.Inside x cs → (length cs == 0) ≡ false → Lists x cs parts hs bits → m ≡ any_of bits
+    → CombinesAnywhere hs e parts m
+combines-listed e x [] hs parts bits m is some lists made = absurd (true≢false some)
+combines-listed e x (c ∷ cs) hs parts bits m is some lists made = combines-some e x c cs hs parts lists.first lists.rest bits m is lists.split lists.all made
 
 -- The alternatives of a list, from the end on.
 pub record IsListed (x : Expr) (cs : List Choice) (i : ℕ) (parts rest : List VExpr) (old hs : List Helper) (made : List VExpr) : Type 0 where
@@ -445,15 +422,9 @@ drop-none : (cs : List Choice) → drop 0 cs ≡ cs
 drop-none [] = refl
 drop-none (c ∷ cs) = refl
 
-turned-meanings : (xs : List VExpr) → meanings (reverse xs) ≡ reverse (meanings xs)
-turned-meanings [] = refl
-turned-meanings (x ∷ xs) =
-    ap meanings (reverse-append (x ∷ []) xs) ∙ meanings-both (reverse xs) (x ∷ []) ∙ ap (λ l. l ++ T.meaning x ∷ []) (turned-meanings xs)
-    ∙ sym (reverse-append (T.meaning x ∷ []) (meanings xs))
-
-pub listed-all : (x : Expr) (cs : List Choice) (i : ℕ) (parts rest : List VExpr) (old hs : List Helper) (made : List VExpr) → IsListed x cs i parts rest old hs made → i ≡ 0 → length parts ≡ suc (length (choices_ask x cs))
-    → Lists x cs (meanings parts) hs (meanings made)
-listed-all x cs i parts rest old hs made h none count =
+pub listed-all : (x : Expr) (cs : List Choice) (i : ℕ) (parts rest : List VExpr) (old hs : List Helper) (made bits : List VExpr) → IsListed x cs i parts rest old hs made → i ≡ 0 → length parts ≡ suc (length (choices_ask x cs))
+    → bits ≡ reverse made → Lists x cs (meanings parts) hs (meanings bits)
+listed-all x cs i parts rest old hs made bits h none count turned =
     let here : drop i cs ≡ cs = ap (λ k. drop k cs) none ∙ drop-none cs in
     let behind : length (choices_ask x cs) ≡ length h.done = ap (λ l. length (choices_ask x l)) (sym here) ∙ sym h.all.count ∙ length-meanings h.done in
     let whole : length rest + length h.done ≡ length parts = sym (length-append rest h.done) ∙ ap length h.split in
@@ -462,15 +433,8 @@ listed-all x cs i parts rest old hs made h none count =
       first = T.meaning one.0;
       rest = meanings h.done;
       split = ap meanings (sym h.split) ∙ ap (λ l. meanings (l ++ h.done)) one.1;
-      all = subst (λ l. AllAlternate x l (meanings h.done) hs (reverse (meanings made))) here (subst (λ l. AllAlternate x (drop i cs) (meanings h.done) hs l) (turned-meanings made) h.all);
+      all = subst (λ l. AllAlternate x cs (meanings h.done) hs (meanings l)) (sym turned) (subst (λ l. AllAlternate x l (meanings h.done) hs (meanings (reverse made))) here h.all);
     }
-
--- one more bit
-pub any-next : (m r : T.Meaning) (before rest : List VExpr) (bit : VExpr) (all : T.Meaning) → before ≡ rest ++ bit ∷ [] → r ≡ T.either m (T.meaning bit) → any_of m (reverse (meanings before)) ≡ all
-    → any_of r (reverse (meanings rest)) ≡ all
-any-next m r before rest bit all split is h =
-    ap (λ x. any_of x (reverse (meanings rest))) is
-    ∙ sym (ap (λ l. any_of m (reverse l)) (ap meanings split ∙ meanings-both rest (bit ∷ [])) ∙ ap (any_of m) (reverse-append (meanings rest) (T.meaning bit ∷ []))) ∙ h
 
 -- what an alternative takes
 pub takes-value : (x v : Expr) (c : Choice) (old new : List VExpr) (l r : VExpr) (hs : List Helper) (m : T.Meaning) → c ≡ C.Value v → old ≡ new ++ l ∷ r ∷ [] → IsMatch (meaning x) (meaning v) (T.meaning l) (T.meaning r) hs m
@@ -488,12 +452,6 @@ takes-range x low high c old mid new l r k p hs m is last first made =
       count = sym (ap (λ o. length (choice_asked x o)) (I.out-Range low high));
       alternates = range-alternates x low high (T.meaning l) (T.meaning r) (T.meaning k) (T.meaning p) m hs made;
     })
-
-pub combines-listed : (e x : Expr) (cs : List Choice) (hs : List Helper) (parts : List T.Meaning) (bits new : List VExpr) (first : VExpr) (m : T.Meaning) → e.form ≡ V.Inside x cs → Lists x cs parts hs (meanings bits)
-    → bits ≡ new ++ first ∷ [] → m ≡ any_of (T.meaning first) (reverse (meanings new)) → CombinesAnywhere hs e parts m
-combines-listed e x cs hs parts bits new first m is lists split made =
-    let turned : reverse (meanings bits) ≡ T.meaning first ∷ reverse (meanings new) = ap (λ l. reverse (meanings l)) split ∙ ap reverse (meanings-both new (first ∷ [])) ∙ reverse-append (meanings new) (T.meaning first ∷ []) in
-    combines-Inside e x cs hs parts lists.first lists.rest (T.meaning first) (reverse (meanings new)) m is lists.split (subst (AllAlternate x cs lists.rest hs) turned lists.all) made
 
 pub no-choices : (cs : List Choice) → (length cs == 0) ≡ true → cs ≡ []
 no-choices [] h = refl

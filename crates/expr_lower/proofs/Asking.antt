@@ -1,5 +1,7 @@
 -- What is asked is lowered, one by one.
-use Rattle.std.proofs.Common.{◌≡◌, ℕ, suc, Bool, List, [], ◌∷◌, ◌++◌, append_assoc, append-nil, length, refl, ap, sym, ◌∙◌, subst}
+use Rattle.std.proofs.Common.{◌≡◌, ℕ, suc, ◌+◌, ◌<◌, Bool, List, [], ◌∷◌, ◌++◌, append_assoc, append-nil, length, drop, get_or, refl, ap, sym, ◌∙◌, subst}
+use Rattle.std.proofs.Math.Seq.{drop-cons}
+use Rattle.std.proofs.Math.Numerals.{add-one}
 use Rattle.row_machine.specs.Valuation.{Valuation}
 use Rattle.sv_types.specs.declared.statement.Function.{Function}
 use Rattle.sv_types.specs.declared.expression.Expr.{Expr}
@@ -17,6 +19,10 @@ use Rattle.path_flatten.specs.Helping.{EachHelps, Grows}
 use Rattle.path_flatten.proofs.Helping.{helps-before}
 use Rattle.expr_lower.specs.Lowering.{LeafStands, Lowers, LowersEach, SameEach, NamesEach}
 use Rattle.expr_lower.proofs.AskedLeaves.{EachAsked}
+
+-- the items from a place on
+pub at-front : {A : Type 0} (xs : List A) (i : ℕ) (x : A) → i < length xs → x ≡ get_or xs i x → drop i xs ≡ x ∷ drop (i + 1) xs
+at-front xs i x h is = drop-cons xs i x h ∙ ap (λ y. y ∷ drop (suc i) xs) (sym is) ∙ ap (λ k. x ∷ drop k xs) (sym (add-one i))
 
 -- one more
 pub each-next : (names : NameMap) (fs : List Function) (hs : List Helper) (qs : List Asked) (ms : List T.Meaning) (q : Asked) (m : T.Meaning) → LowersEach names fs hs qs ms

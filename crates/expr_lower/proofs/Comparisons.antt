@@ -1,18 +1,14 @@
--- `$clog2` stands for comparisons with the powers of two, one after the other.
-use Rattle.std.proofs.Common.{◌≡◌, ◌⊎◌, inl, inr, ℕ, zero, suc, ◌+◌, ◌-◌, ◌*◌, ◌<◌, ◌^◌, min, max, Bool, true, false, ◌&&◌, cond, if◌then◌else◌, pos, length, replicate, take, List, [], ◌∷◌, ◌++◌, append-nil, Result, Ok, Err, IfOk, refl, arith, sym, ◌∙◌, subst, ap}
-use Rattle.std.specs.Prelude.{nat_le, int_le, not, fold}
-use Rattle.std.proofs.Math.Nat.{mul_assoc, pow-succ'}
+-- `$clog2` stands for the least power of two that its operand isn't above, found by halves.
+use Rattle.std.proofs.Common.{◌≡◌, ◌⊎◌, inl, inr, ℕ, zero, suc, ◌+◌, ◌^◌, max, Bool, true, false, ◌&&◌, cond, pos, length, List, [], ◌∷◌, ◌++◌, append-nil, Result, Ok, Err, IfOk, refl, arith, sym, ◌∙◌, subst, ap, ◌≤◌}
+use Rattle.std.specs.Prelude.{nat_le, not, fold}
+use Rattle.std.proofs.Math.Nat.{pow-le-pow_right}
 use Rattle.std.proofs.lemmas.Bool.Decides.{nat_tests}
-use Rattle.std.proofs.lemmas.List.{take-replicate}
 use Rattle.b4_core.specs.declared.bit.Bit4.{Bit4}
 use Rattle.b4_core.specs.declared.bit.Bit4.TheVariants.{Zero, One, X, Z}
 use Rattle.b4_core.specs.declared.operators.EqOp.TheVariants.{Case}
-use Rattle.b4_core.specs.declared.operators.OrdOp.TheVariants.{LessEqual}
-use Rattle.b4_core.specs.declared.operators.ShiftOp.TheVariants.{Left}
 use Rattle.b4_core.specs.Bits.{bit_of, xor4}
 use Rattle.b4_core.specs.Bitwise.{truth_of, parity4}
-use Rattle.b4_core.specs.Compare.{order_value, equality}
-use Rattle.b4_core.specs.Shift.{shift_up, shift_value}
+use Rattle.b4_core.specs.Compare.{equality}
 use Rattle.b4_core.specs.Vectors.{known, unknown, num, digits, vec, ext}
 use Rattle.b4_core.proofs.TwosComplement.{vec_pos}
 use Rattle.row_machine.specs.Valuation.{Valuation, Member}
@@ -25,7 +21,7 @@ use Rattle.sv_types.specs.Meanings as M
 use Rattle.sv_types.specs.Operators as O
 use Rattle.sv_types.specs.Operators.{log_from, clog2_of}
 use Rattle.sv_types.specs.Expressions.{meaning}
-use Rattle.sv_types.proofs.OperatorLengths.{length-ext, length-vec, length-unknown}
+use Rattle.sv_types.proofs.OperatorLengths.{length-vec, length-unknown}
 use Rattle.sv_types.proofs.ValueLengths.{length-value}
 use Rattle.v_tree.specs.declared.names.Helper.{Helper}
 use Rattle.v_tree.specs.declared.expressions.VExpr.{VExpr}
@@ -40,103 +36,16 @@ use Rattle.lowering_laws.proofs.Constants.{bits-alone}
 use Rattle.lowering_laws.proofs.Contexts.{typed-four, alone-width, alone-value}
 use Rattle.lowering_laws.proofs.Extensions.{ext-at}
 use Rattle.lowering_laws.proofs.Naming.{each-image}
-use Rattle.lowering_laws.proofs.Numbers.{known-digits, num-digits, length-digits}
+use Rattle.lowering_laws.proofs.Numbers.{length-digits}
 use Rattle.lowering_laws.proofs.Pieces.{literal-bits}
 use Rattle.path_flatten.specs.Naming.{SameNumbers}
 use Rattle.expr_lower.specs.Lowering.{CombinesAnywhere}
-use Rattle.expr_lower.specs.Logarithms.{power, at_most_power, log_step, lost, LogSteps, IsLogarithm}
+use Rattle.expr_lower.specs.Logarithms.{lost, LogSteps, IsLogarithm, IsAtMost}
 use Rattle.expr_lower.specs.Numbers.{signed_as}
 use Rattle.expr_lower.proofs.Forms.{asked-is, names-are}
 use Rattle.expr_lower.proofs.Standing.{by-helped, images-like}
 use Rattle.expr_lower.proofs.Values.{signed-as-same, signed-names}
-
--- one, moved up
-zeros-known : (k : ℕ) → known (replicate k Zero) ≡ true
-zeros-known zero = refl
-zeros-known (suc k) = zeros-known k
-
-zeros-num : (k : ℕ) → num (replicate k Zero) ≡ 0
-zeros-num zero = refl
-zeros-num (suc k) = (let rest = zeros-num k in omega arith)
-
-moved-known : (k : ℕ) (v : List Bit4) → known v ≡ true → known (replicate k Zero ++ v) ≡ true
-moved-known zero v h = h
-moved-known (suc k) v h = moved-known k v h
-
-moved-num : (k : ℕ) (v : List Bit4) → num (replicate k Zero ++ v) ≡ 2 ^ k * num v
-moved-num zero v = omega arith
-moved-num (suc k) v =
-    let twice : 0 + 2 * num (replicate k Zero ++ v) ≡ 2 * num (replicate k Zero ++ v) = omega arith in
-    twice ∙ ap (λ n. 2 * n) (moved-num k v) ∙ sym (mul_assoc 2 (2 ^ k) (num v)) ∙ ap (λ p. p * num v) (sym (pow-succ' 2 k))
-
-take-none : (w : ℕ) → take {A = Bit4} w [] ≡ []
-take-none zero = refl
-take-none (suc w) = refl
-
-low-one : (j w : ℕ) → j < w → take (suc j) (ext w false (One ∷ [])) ≡ One ∷ replicate j Zero
-low-one j zero h = absurd (omega arith)
-low-one j (suc w) h =
-    let left : suc w - 1 ≡ w = omega arith in
-    ap (λ n. take (suc j) ((One ∷ take w []) ++ replicate n Zero)) left ∙ ap (λ l. take (suc j) ((One ∷ l) ++ replicate w Zero)) (take-none w) ∙ ap (λ l. One ∷ l) (take-replicate j w Zero (omega arith))
-
-moved-one : (w k : ℕ) → k < w → shift_up k (ext w false (One ∷ [])) ≡ replicate k Zero ++ (One ∷ replicate (w - suc k) Zero)
-moved-one w k h =
-    let v = ext w false (One ∷ []) in
-    let least : min k w ≡ k = omega arith in
-    let rest : w - k ≡ suc (w - suc k) = omega arith in
-    ap (λ n. replicate (min k n) Zero ++ take (n - min k n) v) (length-ext w false (One ∷ [])) ∙ ap (λ m. replicate m Zero ++ take (w - m) v) least ∙ ap (λ n. replicate k Zero ++ take n v) rest
-    ∙ ap (λ l. replicate k Zero ++ l) (low-one (w - suc k) w (omega arith))
-
-one-num : (j : ℕ) → num (One ∷ replicate j Zero) ≡ 1
-one-num j = (let rest = zeros-num j in omega arith)
-
-power-num : (w k : ℕ) → k < w → num (shift_up k (ext w false (One ∷ []))) ≡ 2 ^ k
-power-num w k h = ap num (moved-one w k h) ∙ moved-num k (One ∷ replicate (w - suc k) Zero) ∙ ap (λ n. 2 ^ k * n) (one-num (w - suc k)) ∙ omega arith
-
-power-known : (w k : ℕ) → k < w → known (shift_up k (ext w false (One ∷ []))) ≡ true
-power-known w k h = ap known (moved-one w k h) ∙ moved-known k (One ∷ replicate (w - suc k) Zero) (zeros-known (w - suc k))
-
--- a comparison with a power of two
-power-value : (w k : ℕ) (sc : Scope) (v : Valuation) → k < 2 ^ 32 → (power k).value w false sc v ≡ shift_up k (ext w false (One ∷ []))
-unfolding T.shift T.literal
-power-value w k sc v small =
-    let own = ext-at (length (digits 32 k)) false (digits 32 k) refl in
-    (λ i. shift_value Left false (ext w false (One ∷ [])) (own i))
-    ∙ (λ i. if known-digits 32 k i then shift_up (num-digits 32 k small i) (ext w false (One ∷ [])) else unknown (length (ext w false (One ∷ []))))
-
-power-width : (k : ℕ) (sc : Scope) → (power k).width sc ≡ 1
-unfolding T.shift T.literal
-power-width k sc = refl
-
-power-plain : (k : ℕ) → (power k).signed ≡ false
-unfolding T.shift T.literal
-power-plain k = refl
-
-bit-truth : (b : Bool) → truth_of (ext 1 false (bit_of b ∷ [])) ≡ bit_of b
-bit-truth true = refl
-bit-truth false = refl
-
-int-test : (x y : ℕ) → int_le (pos x) (pos y) ≡ nat_le x y
-int-test x y = grind (arith, nat_tests)
-
-compared : (c d : List Bit4) (n : ℕ) → known c ≡ true → known d ≡ true → num d ≡ n → order_value LessEqual false c d ≡ bit_of (nat_le (num c) n)
-compared c d n h g is = (λ i. if h i && g i then bit_of (int_le (pos (num c)) (pos (is i))) else X) ∙ ap bit_of (int-test (num c) n)
-
-and-plain : (b c : Bool) → b ≡ false → (b && c) ≡ false
-and-plain b c h = ap (λ d. d && c) h
-
-order-truth : (y : T.Meaning) (w k : ℕ) (c : List Bit4) (sc : Scope) (v : Valuation) → HasBits y c sc v → length c ≡ w → known c ≡ true → k < w → k < 2 ^ 32
-    → T.truth (at_most_power y k) sc v ≡ bit_of (nat_le (num c) (2 ^ k))
-unfolding T.order
-order-truth y w k c sc v h is knows less small =
-    let width = h.width in
-    let one = power-width k sc in
-    let larger : max (y.width sc) ((power k).width sc) ≡ w = omega arith in
-    let sign = and-plain y.signed (power k).signed h.unsigned in
-    (λ i. truth_of (ext 1 false (order_value LessEqual (sign i) (y.value (larger i) (sign i) sc v) ((power k).value (larger i) (sign i) sc v) ∷ [])))
-    ∙ (λ i. truth_of (ext 1 false (order_value LessEqual false ((h.value w false ∙ ext-at w false c is) i) (power-value w k sc v small i) ∷ [])))
-    ∙ ap (λ b. truth_of (ext 1 false (b ∷ []))) (compared c (shift_up k (ext w false (One ∷ []))) (2 ^ k) knows (power-known w k less) (power-num w k less))
-    ∙ bit-truth (nat_le (num c) (2 ^ k))
+use Rattle.expr_lower.proofs.Powers.{bit-truth, in-one}
 
 -- a choice by a condition that is 1 or 0
 pick-bits : (b : Bool) (p q : List Bit4) (n : ℕ) → length p ≡ n → length q ≡ n → length (cond b p q) ≡ n
@@ -175,27 +84,39 @@ first-bits on m k p sc v truth h wide plain long =
       value = λ w s. ap (λ t. T.chosen t (m.value w s sc v) (k.value w s sc v)) truth ∙ h.value w s;
     }
 
-log-next : (n k x : ℕ) → cond (nat_le x (2 ^ k)) (vec 32 (pos k)) (vec 32 (pos (log_from n (suc k) x))) ≡ vec 32 (pos (log_from (suc n) k x))
-log-next n k x = by (nat_le x (2 ^ k)) refl
+-- the least power by its halves
+log-halves : (m n k x : ℕ) → cond (nat_le x (2 ^ (k + m))) (log_from m k x) (log_from n (suc (k + m)) x) ≡ log_from (m + suc n) k x
+log-halves zero n k x =
+    let none : k + 0 ≡ k = omega arith in
+    let all : suc n ≡ 0 + suc n = omega arith in
+    ap (λ j. cond (nat_le x (2 ^ j)) k (log_from n (suc j) x)) none ∙ ap (λ j. log_from j k x) all
+log-halves (suc m) n k x = by (nat_le x (2 ^ k)) refl (log-halves m n (suc k) x) ∙ ap (λ j. log_from j k x) all
   where
-    by : (b : Bool) → nat_le x (2 ^ k) ≡ b → cond (nat_le x (2 ^ k)) (vec 32 (pos k)) (vec 32 (pos (log_from n (suc k) x))) ≡ vec 32 (pos (log_from (suc n) k x))
-    by true h = ap (λ b. cond b (vec 32 (pos k)) (vec 32 (pos (log_from n (suc k) x)))) h ∙ sym (ap (λ b. vec 32 (pos (cond b k (log_from n (suc k) x)))) h)
-    by false h = ap (λ b. cond b (vec 32 (pos k)) (vec 32 (pos (log_from n (suc k) x)))) h ∙ sym (ap (λ b. vec 32 (pos (cond b k (log_from n (suc k) x)))) h)
+    all : suc (m + suc n) ≡ suc m + suc n
+    all = omega arith
+
+    next : k + suc m ≡ suc k + m
+    next = omega arith
+
+    by : (b : Bool) → nat_le x (2 ^ k) ≡ b → cond (nat_le x (2 ^ (suc k + m))) (log_from m (suc k) x) (log_from n (suc (suc k + m)) x) ≡ log_from (m + suc n) (suc k) x
+        → cond (nat_le x (2 ^ (k + suc m))) (log_from (suc m) k x) (log_from n (suc (k + suc m)) x) ≡ log_from (suc (m + suc n)) k x
+    by true h rest =
+        let more : 2 ^ k ≤ 2 ^ (k + suc m) = pow-le-pow_right {n = 2} (omega arith) (omega arith) in
+        let small : nat_le x (2 ^ (k + suc m)) ≡ true = grind (arith, nat_tests) in
+        ap (λ b. cond b (log_from (suc m) k x) (log_from n (suc (k + suc m)) x)) small ∙ ap (λ b. cond b k (log_from m (suc k) x)) h ∙ sym (ap (λ b. cond b k (log_from (m + suc n) (suc k) x)) h)
+    by false h rest =
+        ap (λ b. cond (nat_le x (2 ^ (k + suc m))) (cond b k (log_from m (suc k) x)) (log_from n (suc (k + suc m)) x)) h
+        ∙ ap (λ j. cond (nat_le x (2 ^ j)) (log_from m (suc k) x) (log_from n (suc j) x)) next ∙ rest ∙ sym (ap (λ b. cond b k (log_from (m + suc n) (suc k) x)) h)
+
+word-either : (b : Bool) (p q : ℕ) → cond b (vec 32 (pos p)) (vec 32 (pos q)) ≡ vec 32 (pos (cond b p q))
+word-either true p q = refl
+word-either false p q = refl
 
 -- names
-in-one : (xs ys : List ℕ) (q : ℕ) → Member (xs ++ ys) q → Member xs q ⊎ Member ys q
-in-one [] ys q h = inr h
-in-one (x ∷ xs) ys q (inl e) = inl (inl e)
-in-one (x ∷ xs) ys q (inr h) = elim (in-one xs ys q h) [ inl k ↦ inl (inr k) | inr k ↦ inr k ]
-
 in-left : (xs ys : List ℕ) (q : ℕ) → Member xs q → Member (xs ++ ys) q
 in-left [] ys q h = absurd h
 in-left (x ∷ xs) ys q (inl e) = inl e
 in-left (x ∷ xs) ys q (inr h) = inr (in-left xs ys q h)
-
-step-named : (y : T.Meaning) (k : ℕ) (rest : T.Meaning) (sc : Scope) → (log_step y k rest).names sc ≡ y.names sc ++ rest.names sc
-unfolding T.choose T.order T.shift T.literal
-step-named y k rest sc = (λ i. append-nil (y.names sc) i ++ append-nil (rest.names sc) i)
 
 lost-named : (y : T.Meaning) (sc : Scope) → (lost y).names sc ≡ y.names sc
 unfolding T.equal T.reduce T.literal
@@ -228,32 +149,41 @@ literal-plain c = refl
 word-bits : (k : ℕ) (sc : Scope) (v : Valuation) → HasBits (T.literal (digits 32 k)) (vec 32 (pos k)) sc v
 word-bits k sc v = subst (λ c. HasBits (T.literal (digits 32 k)) c sc v) (sym (vec_pos 32 k)) (literal-bits (digits 32 k) sc v)
 
--- the comparisons
-pub steps-none : (y : T.Meaning) (w k : ℕ) (r : T.Meaning) → r ≡ T.literal (digits 32 k) → LogSteps y w 0 k r
-steps-none y w k r is = record {
+-- the last power alone, and a choice of halves
+pub only-power : (y : T.Meaning) (w k : ℕ) (r : T.Meaning) → r ≡ T.literal (digits 32 k) → LogSteps y w 0 k r
+only-power y w k r is = record {
   bits = λ c sc v h long knows. subst (λ (m : T.Meaning). HasBits m (vec 32 (pos k)) sc v) (sym is) (word-bits k sc v);
   width = λ sc. ap (λ (m : T.Meaning). m.width sc) is ∙ literal-width (digits 32 k) sc ∙ length-digits 32 k;
   unsigned = ap (λ (m : T.Meaning). m.signed) is ∙ literal-plain (digits 32 k);
   names = λ sc q h. absurd (subst (λ l. Member l q) (ap (λ (m : T.Meaning). m.names sc) is ∙ literal-named (digits 32 k) sc) h);
 }
 
-pub steps-next : (y : T.Meaning) (w n k : ℕ) (rest r : T.Meaning) → k < w → k < 2 ^ 32 → LogSteps y w n (suc k) rest → r ≡ log_step y k rest → LogSteps y w (suc n) k r
-steps-next y w n k rest r less small h is = record {
+pub by-halves : (y : T.Meaning) (w m n k : ℕ) (test lower upper r : T.Meaning) → IsAtMost y w (k + m) test → LogSteps y w m k lower → LogSteps y w n (suc (k + m)) upper → r ≡ T.choose test lower upper
+    → LogSteps y w (m + suc n) k r
+by-halves y w m n k test lower upper r at_most low high is = record {
   bits = λ c sc v has long knows.
-      subst (λ (m : T.Meaning). HasBits m (vec 32 (pos (log_from (suc n) k (num c)))) sc v) (sym is)
-      (subst (λ u. HasBits (log_step y k rest) u sc v) (log-next n k (num c))
-      (choose-bits (at_most_power y k) (T.literal (digits 32 k)) rest (nat_le (num c) (2 ^ k)) (vec 32 (pos k)) (vec 32 (pos (log_from n (suc k) (num c)))) sc v
-      (order-truth y w k c sc v has long knows less small) (word-bits k sc v) (h.bits c sc v has long knows)
-      (length-vec 32 (pos k) ∙ sym (length-vec 32 (pos (log_from n (suc k) (num c)))))));
+      let x = num c in
+      let p = log_from m k x in
+      let q = log_from n (suc (k + m)) x in
+      subst (λ (t : T.Meaning). HasBits t (vec 32 (pos (log_from (m + suc n) k x))) sc v) (sym is)
+      (subst (λ u. HasBits (T.choose test lower upper) u sc v) (word-either (nat_le x (2 ^ (k + m))) p q ∙ ap (λ j. vec 32 (pos j)) (log-halves m n k x))
+      (choose-bits test lower upper (nat_le x (2 ^ (k + m))) (vec 32 (pos p)) (vec 32 (pos q)) sc v (at_most.test c sc v has long knows) (low.bits c sc v has long knows) (high.bits c sc v has long knows)
+      (length-vec 32 (pos p) ∙ sym (length-vec 32 (pos q)))));
   width = λ sc.
-      let one = literal-width (digits 32 k) sc in
-      let long = length-digits 32 k in
-      let more = h.width sc in
-      ap (λ (m : T.Meaning). m.width sc) is ∙ choice-width (at_most_power y k) (T.literal (digits 32 k)) rest sc ∙ omega arith;
-  unsigned = ap (λ (m : T.Meaning). m.signed) is ∙ choice-plain (at_most_power y k) (T.literal (digits 32 k)) rest (literal-plain (digits 32 k));
-  names = λ sc q g.
-      elim (in-one (y.names sc) (rest.names sc) q (subst (λ l. Member l q) (ap (λ (m : T.Meaning). m.names sc) is ∙ step-named y k rest sc) g)) [ inl i ↦ i | inr i ↦ h.names sc q i ];
+      let one = low.width sc in
+      let more = high.width sc in
+      ap (λ (t : T.Meaning). t.width sc) is ∙ choice-width test lower upper sc ∙ omega arith;
+  unsigned = ap (λ (t : T.Meaning). t.signed) is ∙ choice-plain test lower upper low.unsigned;
+  names = λ sc q g. named sc q (in-one (test.names sc) (lower.names sc ++ upper.names sc) q (subst (λ l. Member l q) (ap (λ (t : T.Meaning). t.names sc) is ∙ choice-named test lower upper sc) g));
 }
+  where
+    arm : (sc : Scope) (q : ℕ) → Member (lower.names sc) q ⊎ Member (upper.names sc) q → Member (y.names sc) q
+    arm sc q (inl h) = low.names sc q h
+    arm sc q (inr h) = high.names sc q h
+
+    named : (sc : Scope) (q : ℕ) → Member (test.names sc) q ⊎ Member (lower.names sc ++ upper.names sc) q → Member (y.names sc) q
+    named sc q (inl h) = at_most.names sc q h
+    named sc q (inr h) = arm sc q (in-one (lower.names sc) (upper.names sc) q h)
 
 -- the parity of what isn't known is x
 parity-lost : (v : List Bit4) → fold xor4 X v ≡ X

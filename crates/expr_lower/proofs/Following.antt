@@ -42,7 +42,7 @@ use Rattle.path_flatten.proofs.Naming.{same-turned}
 use Rattle.expr_lower.specs.Elements.{StandsInWords, ReadsWordBy, NamesWordBy}
 use Rattle.expr_lower.specs.Leaves.{leaves, indexed, Each}
 use Rattle.expr_lower.specs.Lowering.{IsShown, LeafStands, Lowers}
-use Rattle.expr_lower.specs.Named.{signal_name, local_name}
+use Rattle.name_maps.specs.Named.{signal_name, local_name, OneSignal, OneLocal}
 use Rattle.memory_words.specs.Readings.{ReadsKnownWord, NamesMemory}
 use Rattle.path_steps.specs.Known.{IsKnown}
 use Rattle.path_steps.specs.Sliding.{ReadsKnownSlide}
@@ -179,21 +179,21 @@ module _ (names : NameMap) (fs : List Function) (hs : List Helper) where
   some-at : (e : Expr) (m : S.Meaning) → meaning e ≡ m → (meaning e).misfits ≡ 0 → 1 ≤ S.wide m
   some-at e m is typed = subst (λ (x : S.Meaning). 1 ≤ S.wide x) is (has-bits e typed)
 
-  pub finds-Signal : (e : Expr) (n w : ℕ) (name : Name) (r : Reading) → e.form ≡ V.Signal n → name ≡ signal_name names.signals n → w ≡ width_of e.of → ReadsName name w r → r.root ≡ R.Name name
+  pub finds-Signal : (e : Expr) (n w : ℕ) (name : Name) (r : Reading) → e.form ≡ V.Signal n → (OneSignal names.signals n → name ≡ signal_name names.signals n) → w ≡ width_of e.of → ReadsName name w r → r.root ≡ R.Name name
       → Finds names fs hs e r
   finds-Signal e n w name r is name_is width reads root im a sc all helps =
-      let shown = (subst (Each (LeafStands names fs im a sc)) (leaves-Signal e n is) all).0 in
+      let leaf = (subst (Each (LeafStands names fs im a sc)) (leaves-Signal e n is) all).0 in
       at-level e (P.signal (layout e.of) e.spot.at n) r im a sc (E.same-Signal e n is)
       (root-found im a sc (P.signal (layout e.of) e.spot.at n) (layout e.of) n w name r (W.signal-path (layout e.of) e.spot.at n)
-      (subst (λ k. IsShown k im sc n (layout e.of)) (sym name_is) shown) width reads root)
+      (subst (λ k. IsShown k im sc n (layout e.of)) (sym (name_is leaf.0)) leaf.1) width reads root)
 
-  pub finds-Local : (e : Expr) (n w : ℕ) (name : Name) (r : Reading) → e.form ≡ V.Local n → name ≡ local_name names.locals n → w ≡ width_of e.of → ReadsName name w r → r.root ≡ R.Name name
+  pub finds-Local : (e : Expr) (n w : ℕ) (name : Name) (r : Reading) → e.form ≡ V.Local n → (OneLocal names.locals n → name ≡ local_name names.locals n) → w ≡ width_of e.of → ReadsName name w r → r.root ≡ R.Name name
       → Finds names fs hs e r
   finds-Local e n w name r is name_is width reads root im a sc all helps =
-      let shown = (subst (Each (LeafStands names fs im a sc)) (leaves-Local e n is) all).0 in
+      let leaf = (subst (Each (LeafStands names fs im a sc)) (leaves-Local e n is) all).0 in
       at-level e (P.local (layout e.of) e.spot.at n) r im a sc (E.same-Local e n is)
       (root-found im a sc (P.local (layout e.of) e.spot.at n) (layout e.of) (local_number n) w name r (W.local-path (layout e.of) e.spot.at n)
-      (subst (λ k. IsShown k im sc (local_number n) (layout e.of)) (sym name_is) shown) width reads root)
+      (subst (λ k. IsShown k im sc (local_number n) (layout e.of)) (sym (name_is leaf.0)) leaf.1) width reads root)
 
   pub finds-value : (e : Expr) (m : T.Meaning) (w : ℕ) (r : Reading) → IsValued (meaning e) → (meaning e).index_names ≡ (meaning e).names → w ≡ S.wide (meaning e)
       → Lowers names fs hs e (S.wide (meaning e)) (S.signed (meaning e)) m → ReadsValue m w r → RootNames m r.root → Finds names fs hs e r
@@ -242,16 +242,16 @@ module _ (names : NameMap) (fs : List Function) (hs : List Helper) where
 
   -- by a word
   pub finds-word : (e x i : Expr) (n : ℕ) (y : Index) (r : Reading) → e.form ≡ V.Index x i → (meaning e).misfits ≡ 0 → (meaning x).misfits ≡ 0 → (meaning i).misfits ≡ 0 → StandsInWords names x (Some n)
-      → Indexes names fs hs i y → ReadsWordBy (signal_name names.signals n) x.of y r → NamesWordBy (signal_name names.signals n) y r → Finds names fs hs e r
+      → Indexes names fs hs i y → (OneSignal names.signals n → ReadsWordBy (signal_name names.signals n) x.of y r) → (OneSignal names.signals n → NamesWordBy (signal_name names.signals n) y r) → Finds names fs hs e r
   finds-word e x i n y r is typed typed_x typed_i stands index reads all_named im a sc all helps =
       let leaf = shown-leaf names fs im a sc x i n stands (subst (Each (LeafStands names fs im a sc)) (leaves-Index e x i is) all) in
-      word-found names e x i n is typed typed_x stands im a sc leaf.0 y r (index-of names fs hs i y im a sc index (has-bits i typed_i) leaf.1 helps) (index.lowers im a sc leaf.1 helps).names reads all_named
+      word-found names e x i n is typed typed_x stands im a sc leaf.shown y r (index-of names fs hs i y im a sc index (has-bits i typed_i) leaf.rest helps) (index.lowers im a sc leaf.rest helps).names (reads leaf.one) (all_named leaf.one)
 
   pub finds-known-word : (e x i : Expr) (n : ℕ) (z : Option ℤ) (r : Reading) → e.form ≡ V.Index x i → (meaning e).misfits ≡ 0 → (meaning x).misfits ≡ 0 → StandsInWords names x (Some n) → IsKnown i z
-      → ReadsKnownWord (signal_name names.signals n) x.of z r → NamesMemory (signal_name names.signals n) r → Finds names fs hs e r
+      → (OneSignal names.signals n → ReadsKnownWord (signal_name names.signals n) x.of z r) → (OneSignal names.signals n → NamesMemory (signal_name names.signals n) r) → Finds names fs hs e r
   finds-known-word e x i n z r is typed typed_x stands known reads all_named im a sc all helps =
       let leaf = shown-leaf names fs im a sc x i n stands (subst (Each (LeafStands names fs im a sc)) (leaves-Index e x i is) all) in
-      known-word-found names e x i n is typed typed_x stands im a sc leaf.0 z r known reads all_named
+      known-word-found names e x i n is typed typed_x stands im a sc leaf.shown z r known (reads leaf.one) (all_named leaf.one)
 
   pub finds-Slide : (e x i : Expr) (n : ℕ) (up : Bool) (y : Index) (old r : Reading) → e.form ≡ V.Slide x i n up → (meaning e).misfits ≡ 0 → (meaning x).misfits ≡ 0 → (meaning i).misfits ≡ 0
       → Indexes names fs hs i y → Finds names fs hs x old → ReadsSlide old x.of up n y hs r → RootNamesBoth old.root (T.meaning y.expr) r.root → Finds names fs hs e r

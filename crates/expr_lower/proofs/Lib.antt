@@ -2,12 +2,13 @@ pub mod AskedLeaves
 pub mod Asking
 pub mod Built
 pub mod Forms
-pub mod NameLists
 pub mod Values
 pub mod Plain
 pub mod Given
 pub mod Standing
+pub mod Reducing
 pub mod Alternating
+pub mod Powers
 pub mod Comparisons
 pub mod Rooted
 pub mod Stepwise

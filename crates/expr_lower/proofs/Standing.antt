@@ -45,7 +45,7 @@ use Rattle.form_lower.specs.Wilds.{WildEquals}
 use Rattle.form_lower.specs.Assigned.{Casts}
 use Rattle.form_lower.specs.Places.{IsItem, AllGive, AreItems, Patterns, CallsNamed}
 use Rattle.expr_lower.specs.Leaves.{Leaf, Unlowered, together, leaves, Each}
-use Rattle.expr_lower.specs.Named.{function_name}
+use Rattle.name_maps.specs.Named.{function_name, OneFunction}
 use Rattle.expr_lower.specs.Lowering.{LeafStands, SameEach, NamesEach, Combines, CombinesAnywhere}
 use Rattle.expr_lower.proofs.AskedLeaves.{asked-leaves, each-left, each-right, leaves-Pattern, leaves-Call}
 use Rattle.expr_lower.proofs.Asking.{same-each, names-each}
@@ -202,14 +202,15 @@ out-Call : (f : ℕ) (es : List Expr) → out-Form (V.Call f es) ≡ Form-F.Call
 out-Call f es = search (the_lemmas)
 
 pub combines-Call : (e : Expr) (f : ℕ) (es : List Expr) (w : ℕ) (s : Bool) (names : NameMap) (fs : List Function) (hs : List Helper) (parts : List T.Meaning) (m : T.Meaning) → e.form ≡ V.Call f es
-    → CallsNamed e.of (function_name names.functions f) (formals_in fs f) (map meaning es) parts hs m → Combines names fs hs e w s parts m
-combines-Call e f es w s names fs hs parts m is calls =
+    → (OneFunction names.functions f → CallsNamed e.of (function_name names.functions f) (formals_in fs f) (map meaning es) parts hs m) → Combines names fs hs e w s parts m
+combines-Call e f es w s names fs hs parts m is made =
     let level = N.same-Call e f es is in
     let asked = K.asked-by e (V.Call f es) (Form-F.Call f es) (formals_in fs) w s is (out-Call f es) in
     by-helped names fs hs e w s parts m (λ im a sc all helps fits.
     let P = LeafStands names fs im a sc in
     let here = subst (Each P) (leaves-Call e f es is) all in
-    let called = here.0 in
+    let calls = made here.0.0 in
+    let called = here.0.1 in
     let count : length (map meaning es) ≡ length (formals_in fs f) = length-map es meaning ∙ sym (length-map es leaves) ∙ called.count in
     record {
       same = λ now v h.

@@ -42,7 +42,7 @@ use Rattle.lowering_laws.proofs.Extensions.{ext-larger}
 use Rattle.lowering_laws.proofs.Paths.{no-window, no-width}
 use Rattle.lowering_laws.proofs.Pieces.{literal-bits, pieces-bits}
 use Rattle.expr_lower.specs.Leaves.{Each}
-use Rattle.expr_lower.specs.Named.{signal_name, local_name}
+use Rattle.name_maps.specs.Named.{signal_name, local_name, OneSignal, OneLocal}
 use Rattle.expr_lower.specs.Numbers.{IsNumber, ArePieces, signed_as, written_bits}
 use Rattle.expr_lower.specs.Lowering.{IsShown, LeafStands, Lowers, Combines}
 use Rattle.expr_lower.proofs.AskedLeaves.{leaves-Signal, leaves-Local}
@@ -362,11 +362,12 @@ root-names image e n of name m b sc source number made =
     subst (λ ns. AreImages image ns (m.names sc)) (sym source) (subst (AreImages image (record { number = n; of = of } ∷ [])) (sym target) (one-image image n (named sc.names name).number of number))
 
 pub lowers-Signal : (e : Expr) (n : ℕ) (names : NameMap) (fs : List Function) (hs : List Helper) (w : ℕ) (s : Bool) (k m : T.Meaning) (b : Bool)
-    → e.form ≡ V.Signal n → k ≡ T.reference (signal_name names.signals n) [] → m ≡ signed_as b k → b ≡ M.signed (meaning e) → Lowers names fs hs e w s m
+    → e.form ≡ V.Signal n → (OneSignal names.signals n → k ≡ T.reference (signal_name names.signals n) []) → m ≡ signed_as b k → b ≡ M.signed (meaning e) → Lowers names fs hs e w s m
 lowers-Signal e n names fs hs w s k m b is name made sign im a sc all helps =
     let level = same-Signal e n is in
-    let shown = (subst (Each (LeafStands names fs im a sc)) (leaves-Signal e n is) all).0 in
-    let whole = made ∙ ap (signed_as b) name in
+    let leaf = (subst (Each (LeafStands names fs im a sc)) (leaves-Signal e n is) all).0 in
+    let shown = leaf.1 in
+    let whole = made ∙ ap (signed_as b) (name leaf.0) in
     record {
       stands = λ now v agree.
           subst (λ (x : T.Meaning). Same (meaning e) w s (record a { now = now }) x sc v) (sym whole)
@@ -376,11 +377,12 @@ lowers-Signal e n names fs hs w s k m b is name made sign im a sc all helps =
     }
 
 pub lowers-Local : (e : Expr) (n : ℕ) (names : NameMap) (fs : List Function) (hs : List Helper) (w : ℕ) (s : Bool) (k m : T.Meaning) (b : Bool)
-    → e.form ≡ V.Local n → k ≡ T.reference (local_name names.locals n) [] → m ≡ signed_as b k → b ≡ M.signed (meaning e) → Lowers names fs hs e w s m
+    → e.form ≡ V.Local n → (OneLocal names.locals n → k ≡ T.reference (local_name names.locals n) []) → m ≡ signed_as b k → b ≡ M.signed (meaning e) → Lowers names fs hs e w s m
 lowers-Local e n names fs hs w s k m b is name made sign im a sc all helps =
     let level = same-Local e n is in
-    let shown = (subst (Each (LeafStands names fs im a sc)) (leaves-Local e n is) all).0 in
-    let whole = made ∙ ap (signed_as b) name in
+    let leaf = (subst (Each (LeafStands names fs im a sc)) (leaves-Local e n is) all).0 in
+    let shown = leaf.1 in
+    let whole = made ∙ ap (signed_as b) (name leaf.0) in
     record {
       stands = λ now v agree.
           subst (λ (x : T.Meaning). Same (meaning e) w s (record a { now = now }) x sc v) (sym whole)

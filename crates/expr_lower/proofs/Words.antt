@@ -1,5 +1,5 @@
 -- Elements of signals that are memories in the text are read as those of the signals.
-use Rattle.std.proofs.Common.{◌≡◌, ℕ, ◌+◌, ◌*◌, ◌<◌, ◌≤◌, Bool, false, ℤ, pos, List, [], ◌∷◌, ◌++◌, length, Option, Some, None, refl, arith, ap, sym, ◌∙◌, subst}
+use Rattle.std.proofs.Common.{◌≡◌, ℕ, ◌+◌, ◌*◌, ◌<◌, ◌≤◌, ℤ, pos, List, [], ◌∷◌, ◌++◌, length, Option, Some, None, refl, arith, ap, sym, ◌∙◌, subst}
 use Rattle.row_machine.specs.Valuation.{Valuation}
 use Rattle.row_machine.specs.Places.{vector_at}
 use Rattle.picks.specs.Windows.{whole}
@@ -43,7 +43,7 @@ use Rattle.path_steps.proofs.PathSteps as W
 use Rattle.memory_words.specs.Readings.{ReadsKnownWord, NamesMemory}
 use Rattle.expr_lower.specs.Elements.{StandsInWords, ReadsWordBy, NamesWordBy}
 use Rattle.expr_lower.specs.Leaves.{Leaf, Signals, Elements, Inside, Locals, Calls, Valued, Joined, Unlowered, leaves, onto, indexed, Each}
-use Rattle.expr_lower.specs.Named.{signal_name, is_memory}
+use Rattle.name_maps.specs.Named.{signal_name, OneSignal}
 use Rattle.expr_lower.specs.Lowering.{IsShownInWords, ShowsElements, LeafStands}
 use Rattle.expr_lower.specs.Paths.{Found}
 use Rattle.expr_lower.proofs.AskedLeaves as A
@@ -156,31 +156,12 @@ signal-form = by-expr AnyChoice SignalForm SignalExpr signal-steps
 pub stands-plain : (names : NameMap) (e : Expr) → ((n : ℕ) → e.form ≡ V.Signal n → ⊥) → StandsInWords names e None
 stands-plain names e other n is = absurd (other n is)
 
-pub stands-signal : (names : NameMap) (e : Expr) (k : ℕ) → e.form ≡ V.Signal k → is_memory names.signals k ≡ false → StandsInWords names e None
-stands-signal names e k is plain n h =
-    ap (is_memory names.signals) (sym (same-signal k n _ _ _ _ (sym (A.leaves-Signal e k is) ∙ A.leaves-Signal e n h))) ∙ plain
-
-pub local-stands : (names : NameMap) (e : Expr) (k : ℕ) → e.form ≡ V.Local k → StandsInWords names e None
-local-stands names e k is = stands-plain names e (λ n h. local-other k _ _ _ n _ (sym (A.leaves-Local e k is) ∙ A.leaves-Signal e n h))
-
-pub member-stands : (names : NameMap) (e x : Expr) (k : ℕ) → e.form ≡ V.Member x k → StandsInWords names e None
-member-stands names e x k is = stands-plain names e (λ n h. onto-other (leaves x) _ n _ (sym (A.leaves-Member e x k is) ∙ A.leaves-Signal e n h))
-
-pub index-stands : (names : NameMap) (e x y : Expr) → e.form ≡ V.Index x y → StandsInWords names e None
-index-stands names e x y is = stands-plain names e (λ n h. indexed-both (leaves x) (leaves y) _ n _ (sym (A.leaves-Index e x y is) ∙ A.leaves-Signal e n h))
-
-pub part-stands : (names : NameMap) (e x : Expr) (left right : ℤ) → e.form ≡ V.Part x left right → StandsInWords names e None
-part-stands names e x left right is = stands-plain names e (λ n h. onto-other (leaves x) _ n _ (sym (A.leaves-Part e x left right is) ∙ A.leaves-Signal e n h))
-
-pub slide-stands : (names : NameMap) (e x y : Expr) (m : ℕ) (up : Bool) → e.form ≡ V.Slide x y m up → StandsInWords names e None
-slide-stands names e x y m up is = stands-plain names e (λ n h. onto-both (leaves x) (leaves y) _ n _ (sym (A.leaves-Slide e x y m up is) ∙ A.leaves-Signal e n h))
-
 -- What an index selects from has its leaves alone, if it is no memory.
 pub plain-leaves : (names : NameMap) (fs : List Function) (im : Images) (a : Around) (sc : Scope) (x y : Expr) → StandsInWords names x None
     → Each (LeafStands names fs im a sc) (indexed (leaves x) ++ leaves y) → Each (LeafStands names fs im a sc) (leaves x)
 plain-leaves names fs im a sc x y plain all =
     A.off-index (LeafStands names fs im a sc) (λ n of h. h) (leaves x)
-    (λ n of is h. subst (λ b. ShowsElements b (signal_name names.signals n) im sc n of) (plain n (signal-form x n of [] is)) h)
+    (λ n of is h. (h.0, subst (λ b. ShowsElements b (signal_name names.signals n) im sc n of) (plain n (signal-form x n of [] is) h.0) h.1))
     (A.each-left (LeafStands names fs im a sc) (indexed (leaves x)) (leaves y) all)
 
 -- A memory that shows a signal holds what it does.
@@ -220,13 +201,17 @@ index-path : (of : Layout) (at : ℕ) (from i : S.Meaning) (a : Around) → IsPa
 unfolding P.index
 index-path of at from i a = selected-is-path of at _ a
 
--- What is known of the leaf of a memory.
+-- What is known of the leaf of a memory, and of those behind it.
+pub record MemoryLeaf (names : NameMap) (fs : List Function) (im : Images) (a : Around) (sc : Scope) (x y : Expr) (n : ℕ) : Type 0 where
+  pub one : OneSignal names.signals n
+  pub shown : IsShownInWords (signal_name names.signals n) im sc n (layout x.of)
+  pub rest : Each (LeafStands names fs im a sc) (leaves y)
+
 pub shown-leaf : (names : NameMap) (fs : List Function) (im : Images) (a : Around) (sc : Scope) (x y : Expr) (n : ℕ) → StandsInWords names x (Some n)
-    → Each (LeafStands names fs im a sc) (indexed (leaves x) ++ leaves y)
-    → IsShownInWords (signal_name names.signals n) im sc n (layout x.of) × Each (LeafStands names fs im a sc) (leaves y)
+    → Each (LeafStands names fs im a sc) (indexed (leaves x) ++ leaves y) → MemoryLeaf names fs im a sc x y n
 shown-leaf names fs im a sc x y n stands all =
     let leaf = subst (λ ls. Each (LeafStands names fs im a sc) (indexed ls ++ leaves y)) (A.leaves-Signal x n stands.0) all in
-    (subst (λ b. ShowsElements b (signal_name names.signals n) im sc n (layout x.of)) stands.1 leaf.0, leaf.1)
+    record { one = leaf.0.0; shown = subst (λ b. ShowsElements b (signal_name names.signals n) im sc n (layout x.of)) (stands.1 leaf.0.0) leaf.0.1; rest = leaf.1 }
 
 -- An element by an index, and by a known one.
 module _ (names : NameMap) (e x i : Expr) (n : ℕ) (is : e.form ≡ V.Index x i) (typed : (meaning e).misfits ≡ 0) (typed_x : (meaning x).misfits ≡ 0) (stands : StandsInWords names x (Some n))

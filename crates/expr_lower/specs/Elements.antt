@@ -21,12 +21,13 @@ use Rattle.path_flatten.specs.Naming.{SameNumbers, root_names}
 use Rattle.path_flatten.specs.Reading.{Reads}
 use Rattle.path_flatten.specs.Sliding.{IsIndexOf}
 use Rattle.path_flatten.specs.Stepping.{IsStep}
-use Rattle.expr_lower.specs.Named.{is_memory}
+use Rattle.name_maps.specs.Named.{is_memory, OneSignal}
 
--- an expression is a whole signal with this number that is a memory in the text, or it is no such signal
+-- an expression is a whole signal with this number that is a memory in the text, or it is no such signal, if the map says one thing
+-- of the signal
 abbrev pub StandsInWords : NameMap → Expr → Option ℕ → Type 0
-StandsInWords names e (Some n) = (e.form ≡ V.Signal n) × (is_memory names.signals n ≡ true)
-StandsInWords names e None = (n : ℕ) → e.form ≡ V.Signal n → is_memory names.signals n ≡ false
+StandsInWords names e (Some n) = (e.form ≡ V.Signal n) × (OneSignal names.signals n → is_memory names.signals n ≡ true)
+StandsInWords names e None = (n : ℕ) → e.form ≡ V.Signal n → OneSignal names.signals n → is_memory names.signals n ≡ false
 
 -- the reading of an element by a lowered index, of what has a type and stands in a memory
 abbrev pub ReadsWordBy : Name → SvType → Index → Reading → Type 0

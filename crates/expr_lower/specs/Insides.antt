@@ -1,6 +1,7 @@
 -- `inside` by its alternatives (IEEE 1800-2017 clause 11.4.13).
-use Rattle.std.specs.Prelude.{◌≡◌, ⊤, List, [], ◌∷◌, ◌++◌, length, map, flat_map, reverse}
+use Rattle.std.specs.Prelude.{◌≡◌, ⊤, List, [], ◌∷◌, ◌++◌, length, map, flat_map}
 use Rattle.b4_core.specs.declared.bit.Bit4.{Bit4}
+use Rattle.b4_core.specs.declared.operators.RedOp.TheVariants.{Or}
 use Rattle.row_machine.specs.Valuation.{Valuation}
 use Rattle.sv_types.specs.declared.expression.Expr.{Expr}
 use Rattle.sv_types.specs.declared.expression.Choice.{Choice, out-Choice}
@@ -54,14 +55,15 @@ pub record AllAlternate (x : Expr) (cs : List Choice) (parts : List T.Meaning) (
   pub some : length rs ≡ length cs
   pub names : (sc : Scope) → SameNumbers (T.all_names parts sc) (T.all_names rs sc)
 
--- the alternatives from the end on, behind the value itself
+-- the alternatives in order, behind the value itself
 pub record Lists (x : Expr) (cs : List Choice) (parts : List T.Meaning) (hs : List Helper) (rs : List T.Meaning) : Type 0 where
   pub first : T.Meaning
   pub rest : List T.Meaning
   pub split : parts ≡ first ∷ rest
-  pub all : AllAlternate x cs rest hs (reverse rs)
+  pub all : AllAlternate x cs rest hs rs
 
--- the first one, or another one
-abbrev pub any_of : T.Meaning → List T.Meaning → T.Meaning
-any_of m [] = m
-any_of m (k ∷ ks) = any_of (T.either m k) ks
+-- the only alternative, or the reduction with or of all of them
+abbrev pub any_of : List T.Meaning → T.Meaning
+any_of [] = T.reduce Or (T.concatenation [])
+any_of (m ∷ []) = m
+any_of (m ∷ k ∷ ks) = T.reduce Or (T.concatenation (m ∷ k ∷ ks))

@@ -1,5 +1,4 @@
 pub mod Leaves
-pub mod Named
 pub mod Elements
 pub mod Numbers
 pub mod Lowering

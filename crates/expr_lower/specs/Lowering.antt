@@ -26,7 +26,7 @@ use Rattle.lowering_laws.specs.Words.{lower}
 use Rattle.path_flatten.specs.Helping.{EachHelps}
 use Rattle.form_lower.specs.Places.{StandsForCallee}
 use Rattle.expr_lower.specs.Leaves.{Leaf, Signals, Elements, Inside, Locals, Calls, Valued, Joined, Unlowered, leaves, Each}
-use Rattle.expr_lower.specs.Named.{signal_name, is_memory, local_name, function_name}
+use Rattle.name_maps.specs.Named.{signal_name, is_memory, local_name, function_name, OneSignal, OneLocal, OneFunction}
 
 -- A name stands for the image of a signal or local of a type: it is a vector with the type's bits, and the images are told so.
 pub record IsShown (name : Name) (im : Images) (sc : Scope) (n : ℕ) (of : Layout) : Type 0 where
@@ -60,13 +60,13 @@ pub record IsCalled (name : Name) (formals : List Parameter) (a : Around) (sc : 
   pub count : n ≡ length formals
   pub stands : StandsForCallee formals (a.callee f) (length of.two_state) (sc.callee name)
 
--- the text has what a leaf of the expression needs
+-- the map says one thing of a leaf of the expression (its name, and whether it is a memory), and the text has what the leaf needs
 abbrev pub LeafStands : NameMap → List Function → Images → Around → Scope → Leaf → Type 0
-LeafStands names fs im a sc (Signals n of) = IsShown (signal_name names.signals n) im sc n of
-LeafStands names fs im a sc (Elements n of) = ShowsElements (is_memory names.signals n) (signal_name names.signals n) im sc n of
-LeafStands names fs im a sc (Inside n of) = IsShown (signal_name names.signals n) im sc n of
-LeafStands names fs im a sc (Locals n of) = IsShown (local_name names.locals n) im sc (local_number n) of
-LeafStands names fs im a sc (Calls f of n) = IsCalled (function_name names.functions f) (formals_in fs f) a sc f of n
+LeafStands names fs im a sc (Signals n of) = OneSignal names.signals n × IsShown (signal_name names.signals n) im sc n of
+LeafStands names fs im a sc (Elements n of) = OneSignal names.signals n × ShowsElements (is_memory names.signals n) (signal_name names.signals n) im sc n of
+LeafStands names fs im a sc (Inside n of) = OneSignal names.signals n × IsShown (signal_name names.signals n) im sc n of
+LeafStands names fs im a sc (Locals n of) = OneLocal names.locals n × IsShown (local_name names.locals n) im sc (local_number n) of
+LeafStands names fs im a sc (Calls f of n) = OneFunction names.functions f × IsCalled (function_name names.functions f) (formals_in fs f) a sc f of n
 LeafStands names fs im a sc Valued = Unit {0}
 LeafStands names fs im a sc Joined = Unit {0}
 LeafStands names fs im a sc Unlowered = ⊥

@@ -4,28 +4,16 @@ ghost use Rattle.std.specs.Prelude.{◌≡◌, ◌≤◌, ◌^◌, unsigned_abs,
 ghost use Rattle.sv_types.specs.Layouts.{width_of};
 ghost use Rattle.path_flatten.specs.Stepping.{IsSound};
 ghost use Rattle.memory_words.specs.Readings.{ReadsKnownWord, NamesMemory};
+ghost use Rattle.name_maps.specs.Named.{signal_name, OneSignal};
 ghost use Rattle.expr_lower.specs.Elements.{StandsInWords, ReadsWordBy, NamesWordBy};
-ghost use Rattle.expr_lower.specs.Named.{signal_name, is_memory};
 
-use crate::named::signal_text;
 use eval_parts::{Step, step_of};
 use memory_words::{known_reading, word_number, word_reading};
+use name_maps::{is_memory, signal_text};
 use path_flatten::{Index, Reading};
 use std::alloc::{AllocError, Global};
 use sv_types::{Expr, SvType};
-use v_tree::{NameMap, SignalName};
-
-/// Whether a signal is a memory.
-fn is_memory(names: &[SignalName], n: u32) -> bool
-    ensures { result ≡ is_memory names.now n }
-{
-    for name in names {
-        if name.signal == n {
-            return name.memory;
-        }
-    }
-    false
-}
+use v_tree::NameMap;
 
 /// The signal that an expression is, if it is a whole one that is a memory in the text.
 pub fn memory_of(names: &NameMap, e: &Expr) -> Option<u32>
@@ -60,8 +48,8 @@ pub fn indexed_word(
     requires some { 1 ≤ width_of of.now }
     requires short { at.width ≤ 64 }
     ensures sound { IfOk result IsSound }
-    ensures reads { IfOk result (ReadsWordBy (signal_name names.now.signals n) of.now at) }
-    ensures names { IfOk result (NamesWordBy (signal_name names.now.signals n) at) }
+    ensures reads { IfOk result (λ r. OneSignal names.now.signals n → ReadsWordBy (signal_name names.now.signals n) of.now at r) }
+    ensures names { IfOk result (λ r. OneSignal names.now.signals n → NamesWordBy (signal_name names.now.signals n) at r) }
 {
     let memory = signal_text(alloc, names.signals.as_slice(), n);
     let (memory, word) = pairs::both(memory, word_number(alloc, at, of))?;
@@ -81,8 +69,8 @@ pub fn numbered_word(
     requires some { 1 ≤ width_of of.now }
     requires small { IfSome index (λ k. unsigned_abs k ≤ 2 ^ 65) }
     ensures sound { IfOk result IsSound }
-    ensures reads { IfOk result (ReadsKnownWord (signal_name names.now.signals n) of.now index) }
-    ensures names { IfOk result (NamesMemory (signal_name names.now.signals n)) }
+    ensures reads { IfOk result (λ r. OneSignal names.now.signals n → ReadsKnownWord (signal_name names.now.signals n) of.now index r) }
+    ensures names { IfOk result (λ r. OneSignal names.now.signals n → NamesMemory (signal_name names.now.signals n) r) }
 {
     let memory = signal_text(alloc, names.signals.as_slice(), n)?;
     let made = known_reading(alloc, memory, of, index)?;

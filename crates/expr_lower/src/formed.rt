@@ -22,11 +22,11 @@ ghost use Rattle.expr_lower.specs.Lowering.{Combines, CombinesIn, CombinesAnywhe
 use crate::combining::combine;
 use crate::insides::inside;
 use crate::logarithms::clog2;
-use crate::named::function_text;
 use crate::operands::{one, two};
 use crate::specials::{Special, special_of};
 use eval_forms::formals_of;
 use form_lower::{call_named, cast, pattern, wild_equal};
+use name_maps::function_text;
 use pairs::both;
 use path_flatten::Helpers;
 use std::alloc::{AllocError, Global};

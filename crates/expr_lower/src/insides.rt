@@ -12,13 +12,13 @@ ghost use Rattle.path_flatten.specs.Helping.{Grows};
 ghost use Rattle.expr_lower.specs.Lowering.{CombinesAnywhere};
 ghost use Rattle.expr_lower.specs.Insides.{choice_asks, choices_ask, Takes, Lists, any_of};
 
-use crate::operands::{Pair, last, last_two, one};
-use b4_core::{Bit4, OrdOp, Vec4};
+use crate::operands::{Pair, last_two, one};
+use b4_core::{Bit4, OrdOp, RedOp, Vec4};
 use form_lower::matching;
 use path_flatten::Helpers;
 use std::alloc::{AllocError, Global};
 use sv_types::{Choice, Expr};
-use v_build::{both, either, literal, order};
+use v_build::{both, concatenation, literal, order, reduce};
 use v_tree::{VExpr, VExprs};
 
 /// `(low.left >= low.right) && (high.left <= high.right)`
@@ -60,7 +60,19 @@ fn alternative(
     }
 }
 
-/// One bit for each alternative, from the last one on, from what is lowered in order.
+/// The same from the end on.
+fn turned(alloc: Global, bits: VExprs) -> Result<VExprs, AllocError>
+    ensures { IfOk result (λ made. made ≡ reverse bits) }
+{
+    let mut rest = bits;
+    let mut made = VExprs::new(alloc);
+    while let Some(bit) = rest.pop() {
+        made.push(bit)?;
+    }
+    Ok(made)
+}
+
+/// One bit for each alternative, in order, from what is lowered in order.
 fn alternatives(
     alloc: Global,
     x: &Expr,
@@ -82,18 +94,18 @@ fn alternatives(
         let bit = alternative(alloc, x, &choices[i], &mut rest, helpers)?;
         made.push(bit)?;
     }
-    Ok(made)
+    let ordered = turned(alloc, made)?;
+    Ok(ordered)
 }
 
-/// The first one, or one of the others from the end on.
-fn any(alloc: Global, first: VExpr, others: VExprs) -> Result<VExpr, AllocError>
-    ensures { IfOk result (λ m. means.meaning m ≡ any_of (means.meaning first) (reverse (meanings others))) }
+/// The bit of the only alternative, or whether that of any is 1: `|{first, .., last}`. A list of any length nests no deeper.
+fn any(alloc: Global, bits: VExprs) -> Result<VExpr, AllocError>
+    ensures { IfOk result (λ m. means.meaning m ≡ any_of (meanings bits)) }
 {
-    let mut rest = others;
-    let mut made = first;
-    while let Some(bit) = rest.pop() {
-        made = either(alloc, made, bit)?;
+    if bits.len() == 1 {
+        return Ok(one(bits));
     }
+    let made = reduce(alloc, RedOp::Or, concatenation(bits))?;
     Ok(made)
 }
 
@@ -127,9 +139,8 @@ pub fn inside(
         let nothing = never(alloc, one(parts))?;
         Ok(nothing)
     } else {
-        let mut bits = alternatives(alloc, x, choices, parts, helpers)?;
-        let first = last(&mut bits);
-        let made = any(alloc, first, bits)?;
+        let bits = alternatives(alloc, x, choices, parts, helpers)?;
+        let made = any(alloc, bits)?;
         Ok(made)
     }
 }

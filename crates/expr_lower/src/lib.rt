@@ -8,7 +8,6 @@ mod formed;
 mod insides;
 mod logarithms;
 mod lowering;
-mod named;
 mod numbers;
 mod operands;
 mod specials;

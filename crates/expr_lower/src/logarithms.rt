@@ -1,11 +1,11 @@
 //! `$clog2` (IEEE 1800-2017 clause 20.8.1).
 
-ghost use Rattle.std.specs.Prelude.{◌≡◌, ◌≤◌, ◌<◌, [], ◌∷◌, List, length, IfOk};
-ghost use Rattle.b4_core.specs.declared.bit.Bit4.TheVariants.{One, X};
-ghost use Rattle.b4_core.specs.declared.operators.EqOp.TheVariants.{Case};
+ghost use Rattle.std.specs.Prelude.{◌≡◌, ◌≤◌, ◌<◌, ◌-◌, [], ◌∷◌, List, length, IfOk};
+ghost use Rattle.b4_core.specs.declared.bit.Bit4.TheVariants.{Zero, One, X};
+ghost use Rattle.b4_core.specs.declared.operators.EqOp.TheVariants.{Logic, Case};
 ghost use Rattle.b4_core.specs.declared.operators.OrdOp.TheVariants.{LessEqual};
 ghost use Rattle.b4_core.specs.declared.operators.RedOp.TheVariants.{Xor};
-ghost use Rattle.b4_core.specs.declared.operators.ShiftOp.TheVariants.{Left};
+ghost use Rattle.b4_core.specs.declared.operators.ShiftOp.TheVariants.{Left, Right};
 ghost use Rattle.b4_core.specs.Vectors.{digits, unknown};
 ghost use Rattle.sv_types.specs.declared.expression.Form.TheVariants as forms;
 ghost use Rattle.sv_types.specs.Expressions.{meaning};
@@ -13,7 +13,7 @@ ghost use Rattle.v_tree.specs.declared.names.Helper.{Helper};
 ghost use Rattle.v_meaning.specs.Values as means;
 ghost use Rattle.v_build.specs.Trees.{meanings};
 ghost use Rattle.expr_lower.specs.Lowering.{CombinesAnywhere};
-ghost use Rattle.expr_lower.specs.Logarithms.{power, at_most_power, log_step, lost, LogSteps, IsLogarithm};
+ghost use Rattle.expr_lower.specs.Logarithms.{power, at_most_power, below_power, equals_power, lost, IsAtMost, LogSteps, IsLogarithm};
 
 use crate::numbers::with_sign;
 use b4_core::{Bit4, OrdOp, RedOp, ShiftOp, Vec4};
@@ -22,8 +22,11 @@ use pairs::both;
 use path_flatten::{copy_expr, number};
 use std::alloc::{AllocError, Global};
 use sv_types::Expr;
-use v_build::{choose, compare, concatenation, literal, order, reduce, shift};
+use v_build::{choose, compare, concatenation, either, literal, order, reduce, shift};
 use v_tree::{VExpr, VExprs};
+
+/// How many bits the target orders at most.
+const MOST_ORDERED: u32 = 128;
 
 /// One bit as a number.
 fn bit(alloc: Global, b: Bit4) -> Result<VExpr, AllocError>
@@ -43,7 +46,7 @@ fn power_of_two(alloc: Global, k: u32) -> Result<VExpr, AllocError>
 }
 
 /// `y <= (1'b1 << k)`
-fn at_most(alloc: Global, y: &VExpr, k: u32) -> Result<VExpr, AllocError>
+fn ordered(alloc: Global, y: &VExpr, k: u32) -> Result<VExpr, AllocError>
     ensures { IfOk result (λ m. means.meaning m ≡ at_most_power (means.meaning y.now) k) }
 {
     let left = copy_expr(alloc, y);
@@ -51,26 +54,79 @@ fn at_most(alloc: Global, y: &VExpr, k: u32) -> Result<VExpr, AllocError>
     order(alloc, OrdOp::LessEqual, left, right)
 }
 
-/// `(y <= (1'b1 << k)) ? k : rest`
-fn step(alloc: Global, y: &VExpr, k: u32, rest: VExpr) -> Result<VExpr, AllocError>
-    ensures { IfOk result (λ m. means.meaning m ≡ log_step (means.meaning y.now) k (means.meaning rest)) }
+/// `y >> k`
+fn quotient(alloc: Global, y: &VExpr, k: u32) -> Result<VExpr, AllocError>
+    ensures { IfOk result (λ m. means.meaning m ≡ means.shift Right (means.meaning y.now) (means.literal (digits 32 k))) }
 {
-    let test = at_most(alloc, y, k);
-    let arms = both(number(alloc, 32, k), Ok(rest));
-    let (test, arms) = both(test, arms)?;
-    choose(alloc, test, arms.0, arms.1)
+    let copy = copy_expr(alloc, y);
+    let (copy, by) = both(copy, number(alloc, 32, k))?;
+    shift(alloc, ShiftOp::Right, copy, by)
 }
 
-/// The comparisons with all powers of two that an operand of so many bits can reach.
-fn steps(alloc: Global, y: &VExpr, width: u32) -> Result<VExpr, AllocError>
-    ensures { IfOk result (λ m. LogSteps (means.meaning y.now) width width 0 (means.meaning m)) }
+/// `(y >> k) == 1'b0`
+fn below(alloc: Global, y: &VExpr, k: u32) -> Result<VExpr, AllocError>
+    ensures { IfOk result (λ m. means.meaning m ≡ below_power (means.meaning y.now) k) }
 {
-    let mut made = number(alloc, 32, width)?;
-    let mut k = width;
-    while k > 0 {
-        k -= 1;
-        made = step(alloc, y, k, made)?;
+    let high = quotient(alloc, y, k);
+    let (high, zero) = both(high, bit(alloc, Bit4::Zero))?;
+    compare(alloc, false, false, high, zero)
+}
+
+/// `y == (1'b1 << k)`
+fn equal(alloc: Global, y: &VExpr, k: u32) -> Result<VExpr, AllocError>
+    ensures { IfOk result (λ m. means.meaning m ≡ equals_power (means.meaning y.now) k) }
+{
+    let copy = copy_expr(alloc, y);
+    let (copy, power) = both(copy, power_of_two(alloc, k))?;
+    compare(alloc, false, false, copy, power)
+}
+
+/// `((y >> k) == 1'b0) || (y == (1'b1 << k))`
+fn below_or_equal(alloc: Global, y: &VExpr, k: u32) -> Result<VExpr, AllocError>
+    ensures { IfOk result (λ m. means.meaning m ≡ means.either (below_power (means.meaning y.now) k) (equals_power (means.meaning y.now) k)) }
+{
+    let less = below(alloc, y, k);
+    let (less, same) = both(less, equal(alloc, y, k))?;
+    either(alloc, less, same)
+}
+
+/// Whether an operand of so many bits is at most a power of two.
+fn at_most(alloc: Global, y: &VExpr, width: u32, k: u32) -> Result<VExpr, AllocError>
+    requires { k < width }
+    ensures { IfOk result (λ m. IsAtMost (means.meaning y.now) width k (means.meaning m)) }
+{
+    if width <= MOST_ORDERED {
+        let test = ordered(alloc, y, k)?;
+        Ok(test)
+    } else {
+        let wide = below_or_equal(alloc, y, k)?;
+        Ok(wide)
     }
+}
+
+/// The least of the powers of two from one to another that an operand of so many bits isn't above, or else the last one, by
+/// halves: `(y <= (1'b1 << middle)) ? lower : upper`.
+fn least_power(
+    alloc: Global,
+    y: &VExpr,
+    width: u32,
+    from: u32,
+    to: u32,
+) -> Result<VExpr, AllocError>
+    requires order { from ≤ to }
+    requires few { to ≤ width }
+    ensures { IfOk result (λ m. LogSteps (means.meaning y.now) width (to - from) from (means.meaning m)) }
+{
+    if from == to {
+        let only = number(alloc, 32, from)?;
+        return Ok(only);
+    }
+    let middle = from + (to - from) / 2;
+    let test = at_most(alloc, y, width, middle);
+    let lower = least_power(alloc, y, width, from, middle);
+    let arms = both(lower, least_power(alloc, y, width, middle + 1, to));
+    let (test, arms) = both(test, arms)?;
+    let made = choose(alloc, test, arms.0, arms.1)?;
     Ok(made)
 }
 
@@ -97,7 +153,7 @@ fn logarithm(alloc: Global, y: VExpr, width: u32) -> Result<VExpr, AllocError>
     ensures { IfOk result (λ m. IsLogarithm (means.meaning y) width (means.meaning m)) }
 {
     let test = is_lost(alloc, &y);
-    let arms = both(unknown_word(alloc), steps(alloc, &y, width));
+    let arms = both(unknown_word(alloc), least_power(alloc, &y, width, 0, width));
     let (test, arms) = both(test, arms)?;
     choose(alloc, test, arms.0, arms.1)
 }

@@ -22,10 +22,10 @@ ghost use Rattle.expr_lower.specs.Paths.{Finds, Indexes, LowersAnywhere};
 
 use crate::elements::{indexed_word, memory_of, numbered_word};
 use crate::formed::formed;
-use crate::named::{local_text, signal_text};
 use crate::numbers::with_sign;
 use eval_forms::{Ask, Operand, operands};
 use eval_parts::{Step, own_sign, own_width, step_of};
+use name_maps::{local_text, signal_text};
 use path_flatten::{
     Helpers, Index, PartSelect, Reading, between_step, element_step, index_step, member_step,
     slide_step, whole_name, whole_value,

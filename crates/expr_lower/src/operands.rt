@@ -19,7 +19,7 @@ pub struct Triple {
 }
 
 /// The last one.
-pub fn last(parts: &mut VExprs) -> VExpr
+fn last(parts: &mut VExprs) -> VExpr
     requires { 1 ≤ length parts.old }
     ensures { parts.old ≡ parts.new ++ result ∷ [] }
 {

@@ -9,7 +9,6 @@ use Rattle.sv_types.specs.Expressions.{meaning}
 use Rattle.v_tree.specs.declared.names.Helper.{Helper}
 use Rattle.v_tree.specs.declared.names.NameMap.{NameMap}
 use Rattle.path_flatten.specs.Helping.{Grows}
-use Rattle.expr_lower.specs.Named.{signal_name}
 use Rattle.typed_paths.specs.Typed.{IsTyped}
 use Rattle.target_walk.specs.declared.given.Given.{Given}
 use Rattle.target_walk.specs.declared.never.Targets.{Targets}
@@ -40,13 +39,17 @@ module _ (n : ℕ) (t : SvType) (i e inner : Expr) (is : IsInner n t i e inner) 
     puts = h.targets.puts;
     alone = h.targets.in_word.alone;
     spreads = h.targets.in_word.is_alone.spreads;
+    name = h.targets.in_word.is_alone.name;
+    name_is = h.targets.in_word.is_alone.name_is;
     own = h.targets.in_word.is_alone.own;
     all = h.targets.in_word.puts.all;
     apart = h.targets.in_word.puts.apart;
   }
 
   pub shape-from : (r : Result Targets AllocError) → IfOk r (ElementTargets within names fs hs n t i inner) → IfOk r (HasWordShape names n t)
-  shape-from (Ok x) h = record { word = h.word; own = h.targets.in_word.puts.own (signal_name names.signals n) (length (layout t).element.two_state) h.targets.in_word.is_alone.own }
+  shape-from (Ok x) h =
+      let alone = h.targets.in_word.is_alone in
+      record { word = h.word; name = alone.name; name_is = alone.name_is; own = h.targets.in_word.puts.own alone.name (length (layout t).element.two_state) alone.own }
   shape-from (Err x) h = tt
 
   pub lowers-from : IsTyped e → (meaning e).misfits ≡ 0 → (r : Result Targets AllocError) → IfOk r (ElementTargets within names fs hs n t i inner) → IfOk r (LowersInMemory within names fs hs n t e)

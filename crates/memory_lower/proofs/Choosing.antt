@@ -13,7 +13,7 @@ use Rattle.target_flatten.specs.Writing.{pieces}
 use Rattle.target_walk.specs.declared.never.Targets.{Targets}
 use Rattle.typed_paths.specs.Typed.{Indexing, IsTypedPath, IsTyped, of_signal, of_local, of_member, of_index, of_part, of_slide}
 use Rattle.expr_lower.specs.Leaves.{Leaf, Signals, Elements, Inside, Locals, onto, indexed, leaves}
-use Rattle.expr_lower.specs.Named.{is_memory}
+use Rattle.name_maps.specs.Named.{is_memory, OneSignal}
 use Rattle.expr_lower.proofs.AskedLeaves.{leaves-Signal, leaves-Local, leaves-Member, leaves-Index, leaves-Part, leaves-Slide}
 use Rattle.target_lower.specs.declared.within.Within.{Within}
 use Rattle.target_lower.specs.Targets.{StandsOnVector, LowersTarget, HasShape}
@@ -58,7 +58,7 @@ first-of number t e xs part (of_part y from left right ys b is has bounds path) 
 first-of number t e xs part (of_slide y from i n up ys b is has bounds path) =
     first-onto y from (leaves i) (leaves-Slide y from i n up is) (λ k u j goes. by_slide y from i n up is goes) (first-of number t from ys b path)
 
-first-vector : (names : NameMap) (e : Expr) → ((n : ℕ) (t : SvType) (i : Expr) → GoesOn n t i e → is_memory names.signals n ≡ false) → First e → StandsOnVector names (leaves e)
+first-vector : (names : NameMap) (e : Expr) → ((n : ℕ) (t : SvType) (i : Expr) → GoesOn n t i e → OneSignal names.signals n → is_memory names.signals n ≡ false) → First e → StandsOnVector names (leaves e)
 first-vector names e none (whole n form all) = subst (StandsOnVector names) (sym all) tt
 first-vector names e none (element n t i ls goes all) = subst (StandsOnVector names) (sym all) (none n t i goes)
 first-vector names e none (in_signal n of ls all) = subst (StandsOnVector names) (sym all) tt
@@ -89,7 +89,7 @@ element-first n t i e (by_part y from left right form goes) =
 element-first n t i e (by_slide y from j m up form goes) =
     let h = element-first n t i from goes in record { of = h.of; others = h.others ++ leaves j; is = leaves-Slide y from j m up form ∙ ap (λ l. onto l ++ leaves j) h.is }
 
-pub vector-with : (names : NameMap) (n : ℕ) (t : SvType) (i e : Expr) → GoesOn n t i e → is_memory names.signals n ≡ false → StandsOnVector names (leaves e)
+pub vector-with : (names : NameMap) (n : ℕ) (t : SvType) (i e : Expr) → GoesOn n t i e → (OneSignal names.signals n → is_memory names.signals n ≡ false) → StandsOnVector names (leaves e)
 vector-with names n t i e goes no_memory = subst (StandsOnVector names) (sym (element-first n t i e goes).is) no_memory
 
 -- what is written in a vector
@@ -105,7 +105,7 @@ vector-all within names fs hs e (Err x) vector h = tt
 some-same : (x y : ℕ) → Some x ≡ Some y → x ≡ y
 some-same x y e = cc
 
-memory-written : (within : Within) (names : NameMap) (fs : List Function) (hs : List Helper) (n : ℕ) (t : SvType) (e : Expr) (x : Targets) → is_memory names.signals n ≡ true → LowersInMemory within names fs hs n t e x → LowersWritten within names fs hs e x
+memory-written : (within : Within) (names : NameMap) (fs : List Function) (hs : List Helper) (n : ℕ) (t : SvType) (e : Expr) (x : Targets) → (OneSignal names.signals n → is_memory names.signals n ≡ true) → LowersInMemory within names fs hs n t e x → LowersWritten within names fs hs e x
 memory-written within names fs hs n t e x memory h im a sc calls distinct all helps =
     let s = h im a sc calls distinct memory all helps in
     record {
@@ -114,7 +114,7 @@ memory-written within names fs hs n t e x memory h im a sc calls distinct all he
       own = λ r root. subst (λ k. AllWrite (im.number k) (pieces x.writes) sc) (some-same n r (sym s.root ∙ root)) s.own;
     }
 
-pub memory-all : (within : Within) (names : NameMap) (fs : List Function) (hs : List Helper) (n : ℕ) (t : SvType) (e : Expr) (r : Result Targets AllocError) → is_memory names.signals n ≡ true → IfOk r (LowersInMemory within names fs hs n t e)
+pub memory-all : (within : Within) (names : NameMap) (fs : List Function) (hs : List Helper) (n : ℕ) (t : SvType) (e : Expr) (r : Result Targets AllocError) → (OneSignal names.signals n → is_memory names.signals n ≡ true) → IfOk r (LowersInMemory within names fs hs n t e)
     → IfOk r (LowersWritten within names fs hs e)
 memory-all within names fs hs n t e (Ok x) memory h = memory-written within names fs hs n t e x memory h
 memory-all within names fs hs n t e (Err x) memory h = tt

@@ -42,7 +42,7 @@ use Rattle.target_walk.specs.declared.given.Given.{Given}
 use Rattle.target_walk.specs.declared.given.Given.TheVariants as G
 use Rattle.expr_lower.specs.Leaves.{Elements, leaves, Each}
 use Rattle.expr_lower.specs.Lowering.{LeafStands, ShowsElements, IsShownInWords}
-use Rattle.expr_lower.specs.Named.{signal_name, is_memory}
+use Rattle.name_maps.specs.Named.{signal_name, is_memory, OneSignal}
 use Rattle.expr_lower.specs.Paths.{Indexes}
 use Rattle.target_lower.specs.declared.within.Within.{Within}
 use Rattle.target_lower.specs.Made.{CallsFrom, StandsForIndex, AreMade}
@@ -96,12 +96,12 @@ zero-stored false = refl
 
 module _ (within : Within) (names : NameMap) (fs : List Function) (hs : List Helper) (n : ℕ) (t : SvType) (i e : Expr) (made : Targets) (h : IsInWord within names fs hs n t i e made) (xs : List Indexing) (part : Bool)
     (path : IsTypedPath n t e xs part) (typed : (meaning e).misfits ≡ 0)
-    (im : Images) (a : Around) (sc : Scope) (calls : CallsFrom within fs a.callee) (distinct : AreDistinct im) (memory : is_memory names.signals n ≡ true) (all : Each (LeafStands names fs im a sc) (leaves e)) (helps : EachHelps hs sc) where
+    (im : Images) (a : Around) (sc : Scope) (calls : CallsFrom within fs a.callee) (distinct : AreDistinct im) (memory : OneSignal names.signals n → is_memory names.signals n ≡ true) (all : Each (LeafStands names fs im a sc) (leaves e)) (helps : EachHelps hs sc) where
   abbrev w : ℕ
   w = length (layout t).element.two_state
 
   abbrev name : Name
-  name = signal_name names.signals n
+  name = h.name
 
   in_element : Inside n t i h.inner
   in_element = inside n t i e h.inner h.is_inner typed
@@ -113,7 +113,9 @@ module _ (within : Within) (names : NameMap) (fs : List Function) (hs : List Hel
   stand = subst (Each (LeafStands names fs im a sc)) kept.is all
 
   shown : IsShownInWords name im sc n (layout t)
-  shown = subst (λ b. ShowsElements b name im sc n (layout t)) memory stand.0
+  shown =
+      let leaf = stand.0 in
+      subst (λ k. IsShownInWords k im sc n (layout t)) (sym (h.name_is leaf.0)) (subst (λ b. ShowsElements b (signal_name names.signals n) im sc n (layout t)) (memory leaf.0) leaf.1)
 
   inner : InnerPath n t i h.inner xs part
   inner = inner-path n t i e h.inner h.is_inner xs part path

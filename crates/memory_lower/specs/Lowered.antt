@@ -9,6 +9,7 @@ use Rattle.sv_types.specs.Layouts.{Layout, layout}
 use Rattle.sv_types.specs.Surroundings.{Around}
 use Rattle.sv_types.specs.Meanings as S
 use Rattle.sv_types.specs.Expressions.{meaning}
+use Rattle.v_tree.specs.Names.{Name}
 use Rattle.v_tree.specs.declared.expressions.VExpr.{VExpr}
 use Rattle.v_tree.specs.declared.names.Helper.{Helper}
 use Rattle.v_tree.specs.declared.names.NameMap.{NameMap}
@@ -28,7 +29,7 @@ use Rattle.case_targets.specs.declared.indices.PathIndex.{PathIndex}
 use Rattle.case_targets.specs.Naming.{SpreadsTo}
 use Rattle.expr_lower.specs.Leaves.{leaves, Each}
 use Rattle.expr_lower.specs.Lowering.{LeafStands}
-use Rattle.expr_lower.specs.Named.{signal_name, is_memory}
+use Rattle.name_maps.specs.Named.{signal_name, is_memory, OneSignal}
 use Rattle.expr_lower.specs.Paths.{Indexes}
 use Rattle.target_lower.specs.declared.within.Within.{Within}
 use Rattle.target_lower.specs.Made.{CallsFrom, IsKnownFrom, PutsIndices}
@@ -53,7 +54,7 @@ pub record StandsInMemory (im : Images) (a : Around) (sc : Scope) (n : ℕ) (of 
 -- so they do wherever the signal is a memory, the text has what the path's leaves need and these helpers, and no two things have one
 -- image
 abbrev pub LowersInMemory : Within → NameMap → List Function → List Helper → ℕ → SvType → Expr → Targets → Type 0
-LowersInMemory within names fs hs n t e x = (im : Images) (a : Around) (sc : Scope) → CallsFrom within fs a.callee → AreDistinct im → is_memory names.signals n ≡ true → Each (LeafStands names fs im a sc) (leaves e) → EachHelps hs sc
+LowersInMemory within names fs hs n t e x = (im : Images) (a : Around) (sc : Scope) → CallsFrom within fs a.callee → AreDistinct im → (OneSignal names.signals n → is_memory names.signals n ≡ true) → Each (LeafStands names fs im a sc) (leaves e) → EachHelps hs sc
     → StandsInMemory im a sc n (layout t) (meaning e) x
 
 -- the word of an element's index: by the number that it is known to have, or by the index that is lowered alone
@@ -76,6 +77,8 @@ pub record IsInWord (within : Within) (names : NameMap) (fs : List Function) (hs
   pub puts : PutsIndices within names fs hs inner [] indices
   pub alone : Targets
   pub spreads : SpreadsTo (length (layout t).element.two_state) inner indices alone
-  pub own : AllOwn (signal_name names.signals n) (length (layout t).element.two_state) alone.writes
+  pub name : Name
+  pub name_is : OneSignal names.signals n → name ≡ signal_name names.signals n
+  pub own : AllOwn name (length (layout t).element.two_state) alone.writes
   pub all : AllInWord word alone.writes made.writes
   pub apart : NamedInWord word alone.writes alone.named made.named

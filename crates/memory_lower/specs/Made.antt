@@ -1,5 +1,5 @@
 -- What is made of a select path on an element of a signal that is a memory in the text (IEEE 1364-2005 clause 4.9).
-use Rattle.std.specs.Prelude.{ℕ, ◌≤◌, List, [], length}
+use Rattle.std.specs.Prelude.{◌≡◌, ℕ, ◌≤◌, List, [], length}
 use Rattle.sv_types.specs.declared.expression.Expr.{Expr}
 use Rattle.sv_types.specs.declared.statement.Function.{Function}
 use Rattle.sv_types.specs.declared.types.SvType.{SvType}
@@ -7,6 +7,7 @@ use Rattle.sv_types.specs.Layouts.{layout, width_of}
 use Rattle.sv_types.specs.Surroundings.{Parameter}
 use Rattle.sv_types.specs.Meanings as S
 use Rattle.sv_types.specs.Expressions.{meaning}
+use Rattle.v_tree.specs.Names.{Name}
 use Rattle.v_tree.specs.declared.names.Helper.{Helper}
 use Rattle.v_tree.specs.declared.names.NameMap.{NameMap}
 use Rattle.target_flatten.specs.Owning.{AllOwn}
@@ -17,7 +18,7 @@ use Rattle.case_targets.specs.declared.indices.PathIndex.{PathIndex}
 use Rattle.case_targets.specs.Naming.{SpreadsTo}
 use Rattle.eval_parts.specs.Limits.{FitsAlone}
 use Rattle.expr_lower.specs.Leaves.{leaves, Each, IsLowered}
-use Rattle.expr_lower.specs.Named.{signal_name}
+use Rattle.name_maps.specs.Named.{signal_name, OneSignal}
 use Rattle.typed_paths.specs.Typed.{IsTyped}
 use Rattle.target_lower.specs.declared.within.Within.{Within}
 use Rattle.target_lower.specs.Made.{PutsIndices}
@@ -49,7 +50,9 @@ WordOf t (G.Lowered x d) (W.Lowered r) = FindsWord x t r × NamesWord x r
 -- targets for a path in an element alone with these indices, in a vector of the element's bits that has the signal's name
 pub record IsAloneFor (names : NameMap) (n : ℕ) (t : SvType) (inner : Expr) (ps : List PathIndex) (alone : Targets) : Type 0 where
   pub spreads : SpreadsTo (length (layout t).element.two_state) inner ps alone
-  pub own : AllOwn (signal_name names.signals n) (length (layout t).element.two_state) alone.writes
+  pub name : Name
+  pub name_is : OneSignal names.signals n → name ≡ signal_name names.signals n
+  pub own : AllOwn name (length (layout t).element.two_state) alone.writes
 
 -- the same in a word, and what is named apart there
 pub record IsPutInWord (word : Word) (alone made : Targets) : Type 0 where

@@ -4,20 +4,24 @@ use Rattle.sv_types.specs.declared.expression.Expr.{Expr}
 use Rattle.sv_types.specs.declared.statement.Function.{Function}
 use Rattle.sv_types.specs.declared.types.SvType.{SvType}
 use Rattle.sv_types.specs.Layouts.{layout}
+use Rattle.v_tree.specs.Names.{Name}
 use Rattle.v_tree.specs.declared.names.Helper.{Helper}
 use Rattle.v_tree.specs.declared.names.NameMap.{NameMap}
 use Rattle.target_walk.specs.declared.never.Targets.{Targets}
-use Rattle.expr_lower.specs.Named.{signal_name, is_memory}
+use Rattle.name_maps.specs.Named.{signal_name, is_memory, OneSignal}
 use Rattle.target_lower.specs.declared.within.Within.{Within}
 use Rattle.target_lower.specs.Targets.{HasShape}
 use Rattle.element_paths.specs.Elements.{GoesOn}
 use Rattle.memory_targets.specs.declared.words.Word.{Word}
 use Rattle.memory_targets.specs.Owning.{AllOwnInWord}
 
--- each is the signal's name with the select of one word, and with one more at most, none where an element has one bit
+-- each is one name with the select of one word, and with one more at most, none where an element has one bit; the name is the
+-- signal's, if the map says one thing of it
 pub record HasWordShape (names : NameMap) (n : ℕ) (t : SvType) (x : Targets) : Type 0 where
   pub word : Word
-  pub own : AllOwnInWord (signal_name names.signals n) (length (layout t).element.two_state) word x.writes
+  pub name : Name
+  pub name_is : OneSignal names.signals n → name ≡ signal_name names.signals n
+  pub own : AllOwnInWord name (length (layout t).element.two_state) word x.writes
 
 -- so they are for a path that goes on from an element of a memory
 pub record IsShapedInWords (names : NameMap) (e : Expr) (x : Targets) : Type 0 where
@@ -25,7 +29,7 @@ pub record IsShapedInWords (names : NameMap) (e : Expr) (x : Targets) : Type 0 w
   pub of : SvType
   pub index : Expr
   pub goes : GoesOn signal of index e
-  pub memory : is_memory names.signals signal ≡ true
+  pub memory : OneSignal names.signals signal → is_memory names.signals signal ≡ true
   pub shape : HasWordShape names signal of x
 
 -- in a vector, or in words

@@ -20,7 +20,7 @@ use Rattle.target_walk.specs.declared.never.Targets.{Targets}
 use Rattle.target_walk.specs.Naming.{target_names}
 use Rattle.expr_lower.specs.Leaves.{leaves, Each}
 use Rattle.expr_lower.specs.Lowering.{LeafStands}
-use Rattle.expr_lower.specs.Named.{is_memory}
+use Rattle.name_maps.specs.Named.{is_memory, OneSignal}
 use Rattle.target_lower.specs.declared.within.Within.{Within}
 use Rattle.target_lower.specs.Made.{CallsFrom}
 use Rattle.target_lower.specs.Targets.{StandsOnVector}
@@ -30,7 +30,7 @@ use Rattle.element_paths.specs.declared.elements.Element.{Element}
 -- an element of a memory from which a path goes on; else the path stands on none
 pub record IsInMemory (names : NameMap) (e : Expr) (x : Element) : Type 0 where
   pub goes : GoesOn x.signal x.of.now x.index.now e
-  pub memory : is_memory names.signals x.signal ≡ true
+  pub memory : OneSignal names.signals x.signal → is_memory names.signals x.signal ≡ true
 
 abbrev pub FindsInMemory : NameMap → Expr → Option Element → Type 0
 FindsInMemory names e None = StandsOnVector names (leaves e)

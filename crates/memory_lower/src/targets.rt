@@ -81,8 +81,8 @@ fn element_targets(
 }
 
 /// Targets for a select path that goes on from an element of a signal, which is a memory in the text: all of their guards and indices
-/// are valued before the first one is written, by calls of some helpers more. Each is the signal's name with the select of one word, and
-/// with one more at most, none where an element has one bit. Or want of memory.
+/// are valued before the first one is written, by calls of some helpers more. Each is the signal's name, if the map says one thing of
+/// it, with the select of one word, and with one more at most, none where an element has one bit. Or want of memory.
 pub fn lower_in_memory(
     alloc: Global,
     names: &NameMap,

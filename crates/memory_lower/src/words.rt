@@ -12,9 +12,9 @@ use case_targets::{PathIndex, spread_target};
 use eval_parts::bounds_of;
 use memory_targets::{Word, in_words};
 use memory_words::{known_word, word_of};
+use name_maps::signal_text;
 use std::alloc::{AllocError, Global};
 use sv_types::{Expr, SvType};
-use target_lower::signal_text;
 use target_walk::{Given, Targets};
 use v_tree::NameMap;
 

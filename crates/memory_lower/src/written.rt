@@ -1,37 +1,25 @@
 //! Targets for select paths on vectors and memories of the text.
 
-ghost use Rattle.std.specs.Prelude.{◌≡◌, IfOk, OnOk};
+ghost use Rattle.std.specs.Prelude.{IfOk, OnOk};
 ghost use Rattle.sv_types.specs.Expressions.{meaning};
 ghost use Rattle.eval_parts.specs.Limits.{FitsAlone};
 ghost use Rattle.eval_forms.specs.Callees.{formals_in};
 ghost use Rattle.eval_runs.specs.Functions.{AllCanRun};
 ghost use Rattle.path_flatten.specs.Helping.{Grows};
 ghost use Rattle.expr_lower.specs.Leaves.{leaves, Each, IsLowered};
-ghost use Rattle.expr_lower.specs.Named.{is_memory};
 ghost use Rattle.typed_paths.specs.Typed.{IsTyped};
 ghost use Rattle.memory_lower.specs.Shapes.{HasWrittenShape};
 ghost use Rattle.memory_lower.specs.Written.{FindsInMemory, LowersWritten};
 
 use crate::targets::lower_in_memory;
 use element_paths::{Element, element_under};
+use name_maps::is_memory;
 use path_flatten::Helpers;
 use std::alloc::{AllocError, Global};
 use sv_types::{Expr, Function};
 use target_lower::{Within, lower_target};
 use target_walk::Targets;
-use v_tree::{NameMap, SignalName};
-
-/// Whether a signal is a memory.
-fn is_memory(names: &[SignalName], n: u32) -> bool
-    ensures { result ≡ is_memory names.now n }
-{
-    for name in names {
-        if name.signal == n {
-            return name.memory;
-        }
-    }
-    false
-}
+use v_tree::NameMap;
 
 /// The element of a signal from which a path goes on, if the signal is a memory in the text.
 fn element_in_memory<'a>(names: &NameMap, e: &'a Expr) -> Option<Element<'a>>

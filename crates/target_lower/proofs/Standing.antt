@@ -36,7 +36,7 @@ use Rattle.expr_lower.specs.Lowering.{IsShown, LeafStands}
 use Rattle.target_lower.specs.declared.within.Within.{Within}
 use Rattle.target_lower.specs.declared.within.Within.TheVariants.{Process, Routine}
 use Rattle.target_lower.specs.Made.{CallsFrom, AreMade, PutsIndices}
-use Rattle.target_lower.specs.Roots.{index_leaves, StandsOn, IsInImage, name_under}
+use Rattle.target_lower.specs.Roots.{index_leaves, StandsOn, IsInImage}
 use Rattle.target_lower.specs.Targets.{StandsAsTarget, IsInVector, StandsOnVector, LowersTarget, BareIf, HasShape}
 use Rattle.target_lower.proofs.Following.{indices-named}
 use Rattle.target_lower.proofs.Making.{made-stand, made-named, made-fixed}
@@ -57,7 +57,7 @@ module _ (within : Within) (names : NameMap) (fs : List Function) (hs : List Hel
     (made : AreMade within names fs hs typed.indices ps)
     (im : Images) (a : Around) (sc : Scope) (calls : CallsFrom within fs a.callee) (distinct : AreDistinct im) (in_vector : StandsOnVector names (leaves e)) (all : Each (LeafStands names fs im a sc) (leaves e)) (helps : EachHelps hs sc) where
   abbrev name : Name
-  name = name_under names h.root.held
+  name = h.name
 
   on : StandsOn h.root e typed.number typed.of typed.indices
   on = h.root_is typed.number typed.of typed.indices typed.part typed.path
@@ -72,7 +72,9 @@ module _ (within : Within) (names : NameMap) (fs : List Function) (hs : List Hel
   stands = stands-on typed.number typed.of e typed.indices typed.part typed.path
 
   shown : IsShown name im sc typed.number (layout typed.of)
-  shown = root-shown names fs im a sc h.root.held typed.number (layout typed.of) on.leaf on.held on.is_leaf vector-leaf leaves-stand.0
+  shown =
+      let stood = root-shown names fs im a sc h.root.held typed.number (layout typed.of) on.leaf on.held on.is_leaf vector-leaf leaves-stand.0 in
+      subst (λ n. IsShown n im sc typed.number (layout typed.of)) (sym (h.name_is stood.0)) stood.1
 
   zeros-agree : Agree im zeros zeros
   zeros-agree = record { same = λ n b less. refl; stored = λ n b less. zero-stored (im.two_state n b) }
@@ -134,7 +136,7 @@ lowers-target within names fs hs e ps x h typed fits puts im a sc calls distinct
 
 -- they have their shape
 bare-if : (within : Within) (names : NameMap) (fs : List Function) (hs : List Helper) (e : Expr) (ps : List PathIndex) (x : Targets) (h : IsInImage names e ps x) → PutsIndices within names fs hs e [] ps
-    → BareIf within fs e (name_under names h.root.held) x
+    → BareIf within fs e h.name x
 bare-if Process names fs hs e ps x h puts =
     λ number t xs part path constant. h.bare (made-fixed names fs hs xs ps (subst (AreMade Process names fs hs xs) (sym puts.is) (puts.made number t xs part path)) constant)
 bare-if Routine names fs hs e ps x h puts = tt
@@ -142,4 +144,4 @@ bare-if Routine names fs hs e ps x h puts = tt
 pub has-shape : (within : Within) (names : NameMap) (fs : List Function) (hs : List Helper) (e : Expr) (ps : List PathIndex) (x : Targets) → IsInImage names e ps x → PutsIndices within names fs hs e [] ps
     → HasShape within names fs hs e x
 has-shape within names fs hs e ps x h puts =
-    record { root = h.root; root_is = h.root_is; own = h.own; indices = ps; puts = puts; bare = h.bare; constant = bare-if within names fs hs e ps x h puts }
+    record { root = h.root; root_is = h.root_is; name = h.name; name_is = h.name_is; own = h.own; indices = ps; puts = puts; bare = h.bare; constant = bare-if within names fs hs e ps x h puts }

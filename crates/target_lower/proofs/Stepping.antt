@@ -20,14 +20,14 @@ use Rattle.case_targets.specs.declared.indices.PathIndex.{PathIndex}
 use Rattle.target_walk.specs.declared.given.Given.{Given}
 use Rattle.expr_lower.specs.Leaves.{Leaf, Signals, Elements, Inside, Locals, onto, indexed, leaves}
 use Rattle.expr_lower.specs.Lowering.{IsShown, ShowsElements, LeafStands}
-use Rattle.expr_lower.specs.Named.{signal_name, local_name}
+use Rattle.name_maps.specs.Named.{signal_name, local_name, OneSignal}
 use Rattle.expr_lower.proofs.AskedLeaves.{leaves-Signal, leaves-Local, leaves-Member, leaves-Index, leaves-Part, leaves-Slide}
 use Rattle.target_lower.specs.declared.roots.Held.{Held}
 use Rattle.target_lower.specs.declared.roots.Held.TheVariants as H
 use Rattle.target_lower.specs.declared.roots.Root.{Root}
 use Rattle.target_lower.specs.declared.within.Within.{Within}
 use Rattle.target_lower.specs.Made.{GivenFor, path_index, IsMade, AreMade, PutsIndex, PutsIndices}
-use Rattle.target_lower.specs.Roots.{IsUnder, IsRootLeaf, index_leaves, StandsOn, IsRootOf, name_under}
+use Rattle.target_lower.specs.Roots.{IsUnder, IsRootLeaf, index_leaves, StandsOn, IsRootOf, OneHeld, name_under}
 use Rattle.target_lower.specs.Targets.{IsInVector}
 use Rattle.target_lower.proofs.Making.{made-more, index-made, index-short}
 
@@ -165,21 +165,22 @@ root-Slide r e from i n up is h number t xs part path =
       all = leaves-Slide e from i n up is ∙ ap (λ l. onto l ++ leaves i) s.all ∙ ap (λ l. l ++ leaves i) k.2 ∙ ap (λ l. k.0 ∷ index_leaves l) (sym o.all);
     }
 
--- its name shows its image, if it isn't an element of a memory
+-- the map says one thing of it, and its name shows its image, if it isn't an element of a memory
 signal-shown : (names : NameMap) (fs : List Function) (im : Images) (a : Around) (sc : Scope) (n : ℕ) (of : Layout) (leaf : Leaf) → IsRootLeaf of (H.Signal n) leaf → IsInVector names leaf
-    → LeafStands names fs im a sc leaf → IsShown (signal_name names.signals n) im sc n of
+    → LeafStands names fs im a sc leaf → OneSignal names.signals n × IsShown (signal_name names.signals n) im sc n of
 signal-shown names fs im a sc n of leaf (inl is) vector stands = subst (LeafStands names fs im a sc) is stands
 signal-shown names fs im a sc n of leaf (inr (inl is)) vector stands =
-    subst (λ b. ShowsElements b (signal_name names.signals n) im sc n of) (subst (IsInVector names) is vector) (subst (LeafStands names fs im a sc) is stands)
+    let stood = subst (LeafStands names fs im a sc) is stands in
+    (stood.0, subst (λ b. ShowsElements b (signal_name names.signals n) im sc n of) (subst (IsInVector names) is vector stood.0) stood.1)
 signal-shown names fs im a sc n of leaf (inr (inr is)) vector stands = subst (LeafStands names fs im a sc) is stands
 
 pub root-shown : (names : NameMap) (fs : List Function) (im : Images) (a : Around) (sc : Scope) (h : Held) (number : ℕ) (of : Layout) (leaf : Leaf) → IsUnder h number → IsRootLeaf of h leaf → IsInVector names leaf
-    → LeafStands names fs im a sc leaf → IsShown (name_under names h) im sc number of
+    → LeafStands names fs im a sc leaf → OneHeld names h × IsShown (name_under names h) im sc number of
 root-shown names fs im a sc H.Nothing number of leaf it root vector stands = absurd it
 root-shown names fs im a sc (H.Signal n) number of leaf it root vector stands =
-    subst (λ k. IsShown (signal_name names.signals n) im sc k of) it (signal-shown names fs im a sc n of leaf root vector stands)
+    let stood = signal-shown names fs im a sc n of leaf root vector stands in (stood.0, subst (λ k. IsShown (signal_name names.signals n) im sc k of) it stood.1)
 root-shown names fs im a sc (H.Local n) number of leaf it root vector stands =
-    subst (λ k. IsShown (local_name names.locals n) im sc k of) it (subst (LeafStands names fs im a sc) root stands)
+    let stood = subst (LeafStands names fs im a sc) root stands in (stood.0, subst (λ k. IsShown (local_name names.locals n) im sc k of) it stood.1)
 
 -- what is answered
 pub ok-both : {A E : Type 0} (P Q R : A → Type 0) (r : Result A E) → IfOk r P → IfOk r Q → ((x : A) → P x → Q x → R x) → IfOk r R

@@ -1,5 +1,5 @@
 -- What a select path that is written stands on, and its image.
-use Rattle.std.specs.Prelude.{◌≡◌, ◌⊎◌, ℕ, Bool, List, [], ◌∷◌, ◌++◌}
+use Rattle.std.specs.Prelude.{◌≡◌, ◌⊎◌, ⊤, ℕ, Bool, List, [], ◌∷◌, ◌++◌}
 use Rattle.sv_types.specs.declared.expression.Expr.{Expr}
 use Rattle.sv_types.specs.declared.types.SvType.{SvType}
 use Rattle.sv_types.specs.Layouts.{Layout, layout, width_of}
@@ -7,7 +7,7 @@ use Rattle.sv_types.specs.Surroundings.{local_number}
 use Rattle.v_tree.specs.Names.{Name}
 use Rattle.v_tree.specs.declared.names.NameMap.{NameMap}
 use Rattle.expr_lower.specs.Leaves.{Leaf, Signals, Elements, Inside, Locals, leaves}
-use Rattle.expr_lower.specs.Named.{signal_name, local_name}
+use Rattle.name_maps.specs.Named.{signal_name, local_name, OneSignal, OneLocal}
 use Rattle.typed_paths.specs.Typed.{Indexing, IsTypedPath}
 use Rattle.target_flatten.specs.Owning.{AllOwn}
 use Rattle.target_walk.specs.declared.never.Targets.{Targets}
@@ -45,6 +45,12 @@ pub record StandsOn (r : Root) (e : Expr) (number : ℕ) (t : SvType) (xs : List
 abbrev pub IsRootOf : Root → Expr → Type 0
 IsRootOf r e = (number : ℕ) (t : SvType) (xs : List Indexing) (part : Bool) → IsTypedPath number t e xs part → StandsOn r e number t xs
 
+-- the map says one thing of it
+abbrev pub OneHeld : NameMap → Held → Type 0
+OneHeld names H.Nothing = ⊤
+OneHeld names (H.Signal n) = OneSignal names.signals n
+OneHeld names (H.Local n) = OneLocal names.locals n
+
 -- the name under which it stands in the text
 abbrev pub name_under : NameMap → Held → Name
 name_under names H.Nothing = []
@@ -55,6 +61,8 @@ name_under names (H.Local n) = local_name names.locals n
 pub record IsInImage (names : NameMap) (e : Expr) (ps : List PathIndex) (x : Targets) : Type 0 where
   pub root : Root
   pub root_is : IsRootOf root e
+  pub name : Name
+  pub name_is : OneHeld names root.held → name ≡ name_under names root.held
   pub spreads : SpreadsTo root.bits e ps x
-  pub own : AllOwn (name_under names root.held) root.bits x.writes
-  pub bare : BareOf (name_under names root.held) ps x
+  pub own : AllOwn name root.bits x.writes
+  pub bare : BareOf name ps x

@@ -25,12 +25,12 @@ use Rattle.case_targets.specs.declared.indices.PathIndex.{PathIndex}
 use Rattle.case_targets.specs.Naming.{IsBare, BareOf}
 use Rattle.expr_lower.specs.Leaves.{Leaf, Signals, Elements, Inside, Locals, Calls, Valued, Joined, Unlowered, leaves, Each}
 use Rattle.expr_lower.specs.Lowering.{LeafStands}
-use Rattle.expr_lower.specs.Named.{is_memory}
+use Rattle.name_maps.specs.Named.{is_memory, OneSignal}
 use Rattle.target_lower.specs.declared.roots.Root.{Root}
 use Rattle.target_lower.specs.declared.within.Within.{Within}
 use Rattle.target_lower.specs.declared.within.Within.TheVariants.{Process, Routine}
 use Rattle.target_lower.specs.Made.{CallsFrom, IsConstant, PutsIndices}
-use Rattle.target_lower.specs.Roots.{IsRootOf, name_under}
+use Rattle.target_lower.specs.Roots.{IsRootOf, OneHeld, name_under}
 
 -- On all valuations that agree, targets write to the image of what a path stands on each bit that a write through the path does,
 -- with its bit of the value, and no other bit; so images change as signals and locals do by an assignment to the path. They, and an
@@ -45,7 +45,7 @@ pub record StandsAsTarget (im : Images) (a : Around) (sc : Scope) (e : S.Meaning
 -- a path doesn't stand on an element of a memory of the text
 abbrev pub IsInVector : NameMap → Leaf → Type 0
 IsInVector names (Signals n of) = ⊤
-IsInVector names (Elements n of) = is_memory names.signals n ≡ false
+IsInVector names (Elements n of) = OneSignal names.signals n → is_memory names.signals n ≡ false
 IsInVector names (Inside n of) = ⊤
 IsInVector names (Locals n of) = ⊤
 IsInVector names (Calls f of n) = ⊤
@@ -72,14 +72,17 @@ abbrev pub BareIf : Within → List Function → Expr → Name → Targets → T
 BareIf Process fs e name x = (number : ℕ) (t : SvType) (xs : List Indexing) (part : Bool) → IsTypedPath number t e xs part → AllConstant fs xs → IsBare name x
 BareIf Routine fs e name x = ⊤
 
--- Each target is the name of what the path stands on with a select at most, and with none where that has one bit. They are made with
--- some indices that are put together for the path. Where all of these are known, no target has a guard, its select is decimal, and
--- nothing is named apart; so it is in a process where the path's indices are constant.
+-- Each target is one name with a select at most, and with none where what the path stands on has one bit; the name is that of what the
+-- path stands on, if the map says one thing of it. They are made with some indices that are put together for the path. Where all of
+-- these are known, no target has a guard, its select is decimal, and nothing is named apart; so it is in a process where the path's
+-- indices are constant.
 pub record HasShape (within : Within) (names : NameMap) (fs : List Function) (hs : List Helper) (e : Expr) (x : Targets) : Type 0 where
   pub root : Root
   pub root_is : IsRootOf root e
-  pub own : AllOwn (name_under names root.held) root.bits x.writes
+  pub name : Name
+  pub name_is : OneHeld names root.held → name ≡ name_under names root.held
+  pub own : AllOwn name root.bits x.writes
   pub indices : List PathIndex
   pub puts : PutsIndices within names fs hs e [] indices
-  pub bare : BareOf (name_under names root.held) indices x
-  pub constant : BareIf within fs e (name_under names root.held) x
+  pub bare : BareOf name indices x
+  pub constant : BareIf within fs e name x

@@ -8,6 +8,5 @@ mod targets;
 mod within;
 
 pub use indices::{Indices, index_given, put_indices};
-pub use roots::signal_text;
 pub use targets::lower_target;
 pub use within::Within;

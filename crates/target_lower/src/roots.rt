@@ -2,14 +2,14 @@
 
 ghost use Rattle.std.specs.Prelude.{◌≡◌, ◌≤◌, IfOk};
 ghost use Rattle.sv_types.specs.Expressions.{meaning};
-ghost use Rattle.expr_lower.specs.Named.{signal_name, local_name};
-ghost use Rattle.target_lower.specs.Roots.{IsRootOf, name_under};
+ghost use Rattle.target_lower.specs.Roots.{IsRootOf, OneHeld, name_under};
 
 use eval_parts::{Step, step_of};
+use name_maps::{local_text, signal_text};
 use std::alloc::{AllocError, Global};
 use sv_source::Text;
 use sv_types::{Expr, width};
-use v_tree::{LocalName, NameMap, SignalName};
+use v_tree::NameMap;
 
 /// A signal or local by its number, if there is one.
 #[derive(Clone, Copy)]
@@ -55,35 +55,9 @@ pub(crate) fn root_of(e: &Expr) -> Root
     }
 }
 
-/// The name of a signal in the text, empty if it has none. Or want of memory.
-pub fn signal_text(alloc: Global, names: &[SignalName], n: u32) -> Result<Text, AllocError>
-    ensures { IfOk result (λ t. t ≡ signal_name names.now n) }
-{
-    for name in names {
-        if name.signal == n {
-            let text = name.name.copy(alloc)?;
-            return Ok(text);
-        }
-    }
-    Ok(Text::new(alloc))
-}
-
-/// The name of a local.
-fn local_text(alloc: Global, names: &[LocalName], n: u32) -> Result<Text, AllocError>
-    ensures { IfOk result (λ t. t ≡ local_name names.now n) }
-{
-    for name in names {
-        if name.local == n {
-            let text = name.name.copy(alloc)?;
-            return Ok(text);
-        }
-    }
-    Ok(Text::new(alloc))
-}
-
 /// The name under which a signal or local stands in the text.
 pub(crate) fn name_of(alloc: Global, names: &NameMap, held: Held) -> Result<Text, AllocError>
-    ensures { IfOk result (λ t. t ≡ name_under names.now held) }
+    ensures { IfOk result (λ t. OneHeld names.now held → t ≡ name_under names.now held) }
 {
     match held {
         Held::Nothing => Ok(Text::new(alloc)),

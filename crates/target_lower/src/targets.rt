@@ -40,9 +40,9 @@ fn targets(
 }
 
 /// Targets for a select path that is written, all of whose guards and indices are valued before the first one is written, by calls
-/// of some helpers more. Each is the name of what the path stands on with a select at most, and none where that has one bit. In a
-/// process, where all indices are constant and their values don't take too long, there are no guards and each select is decimal, as a
-/// continuous assignment wants it (IEEE 1364-2005 clause 6.1.2). Or want of memory.
+/// of some helpers more. Each is the name of what the path stands on, if the map says one thing of it, with a select at most, and
+/// none where that has one bit. In a process, where all indices are constant and their values don't take too long, there are no
+/// guards and each select is decimal, as a continuous assignment wants it (IEEE 1364-2005 clause 6.1.2). Or want of memory.
 pub fn lower_target(
     alloc: Global,
     names: &NameMap,

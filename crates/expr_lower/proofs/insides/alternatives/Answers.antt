@@ -19,4 +19,5 @@ loop-i-preserved c =
 
 pub returns-clause-lists : goal.returns-clause-lists
 returns-clause-lists c =
-    listed-all c.args.x.now c.args.choices.now c.loop-i.i c.args.parts c.loop-i.rest c.args.helpers.now c.loop-i.helpers c.loop-i.made c.loop-i.invariant (omega arith) c.requires.count
+    listed-all c.args.x.now c.args.choices.now c.loop-i.i c.args.parts c.loop-i.rest c.args.helpers.now c.loop-i.helpers c.loop-i.made c.in_ok-ordered.ordered c.loop-i.invariant (omega arith) c.requires.count
+    c.in_ok-ordered.ensures

@@ -13,5 +13,5 @@ returns-in_ok-nothing-clause-combines c =
 
 pub returns-in_ok-made-clause-combines : goal.returns-in_ok-made-clause-combines
 returns-in_ok-made-clause-combines c =
-    combines-listed c.args.e.now c.args.x.now c.args.choices.now c.alternatives.new.helpers (meanings c.args.parts) c.in_ok-bits.bits c.last-first.new.parts c.last-first.result (T.meaning c.in_ok-made.made) c.requires.form
-    c.in_ok-bits.ensures.lists c.last-first.ensures c.in_ok-made.ensures
+    combines-listed c.args.e.now c.args.x.now c.args.choices.now c.alternatives.new.helpers (meanings c.args.parts) (meanings c.in_ok-bits.bits) (T.meaning c.in_ok-made.made) c.requires.form
+    (sym c.is_empty.ensures ∙ c.if-is_empty.false) c.in_ok-bits.ensures.lists c.in_ok-made.ensures

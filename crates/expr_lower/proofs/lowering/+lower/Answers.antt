@@ -27,14 +27,13 @@ use Rattle.path_steps.specs.declared.known.KnownIndex.{KnownIndex}
 use Rattle.path_steps.specs.Known.{IsKnown}
 use Rattle.expr_lower.specs.Elements.{StandsInWords}
 use Rattle.expr_lower.specs.Leaves.{IsLowered}
-use Rattle.expr_lower.specs.Named.{signal_name, local_name}
+use Rattle.name_maps.specs.Named.{signal_name, local_name, OneSignal, OneLocal}
 use Rattle.expr_lower.specs.Lowering.{Lowers}
 use Rattle.expr_lower.specs.Paths.{Finds, Indexes}
 use Rattle.expr_lower.proofs.AskedLeaves.{EachAsked}
-use Rattle.expr_lower.proofs.Asking.{Made, made-none, made-more, made-next, each-long, each-more, length-meanings}
+use Rattle.expr_lower.proofs.Asking.{at-front, Made, made-none, made-more, made-next, each-long, each-more, length-meanings}
 use Rattle.expr_lower.proofs.Built.{operands-of}
 use Rattle.expr_lower.proofs.Following.{lowers-path, finds-Signal, finds-Local, finds-value, finds-Member, finds-Part, finds-known, finds-word, finds-known-word, finds-known-slide, finds-by-index, finds-by-slide, slide-size}
-use Rattle.expr_lower.proofs.NameLists.{at-front}
 use Rattle.expr_lower.proofs.Rooted.{alike}
 use Rattle.expr_lower.proofs.Stepwise as W
 use Rattle.expr_lower.proofs.Values.{lowers-Signal, lowers-Local, meanings-next}
@@ -79,14 +78,14 @@ lower-returns-in_ok-signal-in-Some-Signal-clause-lowers t c =
     let n = c.in-Some-Signal.n in
     let is = subst (λ st. IsStep st c.args.e.now) c.in-Some-Signal.field-0-is c.in-Some-Signal.ensures.step in
     lowers-Signal c.args.e.now n c.args.names.now c.args.functions.now c.args.helpers.now c.args.width c.args.signed (T.reference c.in_ok-text-in-Some-Signal.text []) (T.meaning c.in_ok-signal-in-Some-Signal.signal) c.own_sign.result is
-    (ap (λ t. T.reference t []) (c.in_ok-text-in-Some-Signal.ensures ∙ ap (λ l. signal_name l n) c.as_slice.ensures)) c.in_ok-signal-in-Some-Signal.ensures c.own_sign.ensures
+    (λ one. ap (λ t. T.reference t []) (subst (λ l. OneSignal l n → c.in_ok-text-in-Some-Signal.text ≡ signal_name l n) c.as_slice.ensures c.in_ok-text-in-Some-Signal.ensures one)) c.in_ok-signal-in-Some-Signal.ensures c.own_sign.ensures
 
 pub lower-returns-in_ok-local-in-Some-Local-clause-lowers : goal.lower-returns-in_ok-local-in-Some-Local-clause-lowers
 lower-returns-in_ok-local-in-Some-Local-clause-lowers t c =
     let n = c.in-Some-Local.n in
     let is = subst (λ st. IsStep st c.args.e.now) c.in-Some-Local.field-0-is c.in-Some-Local.ensures.step in
     lowers-Local c.args.e.now n c.args.names.now c.args.functions.now c.args.helpers.now c.args.width c.args.signed (T.reference c.in_ok-text-in-Some-Local.text []) (T.meaning c.in_ok-local-in-Some-Local.local) c.own_sign-in-Some-Local.result is
-    (ap (λ t. T.reference t []) (c.in_ok-text-in-Some-Local.ensures ∙ ap (λ l. local_name l n) c.as_slice-in-Some-Local.ensures)) c.in_ok-local-in-Some-Local.ensures c.own_sign-in-Some-Local.ensures
+    (λ one. ap (λ t. T.reference t []) (subst (λ l. OneLocal l n → c.in_ok-text-in-Some-Local.text ≡ local_name l n) c.as_slice-in-Some-Local.ensures c.in_ok-text-in-Some-Local.ensures one)) c.in_ok-local-in-Some-Local.ensures c.own_sign-in-Some-Local.ensures
 
 pub parts-operands-requires-clause-some : goal.parts-operands-requires-clause-some
 parts-operands-requires-clause-some t c = (let h = has-bits c.args.e.now c.requires.fits.typed in omega (arith, h, wide-is c.args.e.now))
@@ -170,14 +169,14 @@ follow-returns-in_ok-name-in-Signal-clause-finds t c =
     let e = c.args.e.now in
     let n = c.in-Signal.n in
     finds-Signal c.args.names.now c.args.functions.now c.args.helpers.now e n c.own_width.result c.in_ok-name-in-Signal.name c.whole_name.result (subst (λ st. IsStep st e) c.in-Signal.is c.requires.step)
-    (c.in_ok-name-in-Signal.ensures ∙ ap (λ l. signal_name l n) c.as_slice.ensures) (c.own_width.ensures ∙ wide-is e) c.whole_name.ensures.reads c.whole_name.ensures.root
+    (subst (λ l. OneSignal l n → c.in_ok-name-in-Signal.name ≡ signal_name l n) c.as_slice.ensures c.in_ok-name-in-Signal.ensures) (c.own_width.ensures ∙ wide-is e) c.whole_name.ensures.reads c.whole_name.ensures.root
 
 pub follow-returns-in_ok-name-in-Local-clause-finds : goal.follow-returns-in_ok-name-in-Local-clause-finds
 follow-returns-in_ok-name-in-Local-clause-finds t c =
     let e = c.args.e.now in
     let n = c.in-Local.n in
     finds-Local c.args.names.now c.args.functions.now c.args.helpers.now e n c.own_width-in-Local.result c.in_ok-name-in-Local.name c.whole_name-in-Local.result
-    (subst (λ st. IsStep st e) c.in-Local.is c.requires.step) (c.in_ok-name-in-Local.ensures ∙ ap (λ l. local_name l n) c.as_slice-in-Local.ensures) (c.own_width-in-Local.ensures ∙ wide-is e)
+    (subst (λ st. IsStep st e) c.in-Local.is c.requires.step) (subst (λ l. OneLocal l n → c.in_ok-name-in-Local.name ≡ local_name l n) c.as_slice-in-Local.ensures c.in_ok-name-in-Local.ensures) (c.own_width-in-Local.ensures ∙ wide-is e)
     c.whole_name-in-Local.ensures.reads c.whole_name-in-Local.ensures.root
 
 pub follow-find-requires : goal.follow-find-requires

@@ -1,4 +1,3 @@
-use Rattle.std.proofs.Common.{subst}
 use Rattle.target_flatten.specs.Owning.{AllOwn}
 use Rattle.target_walk.specs.declared.never.Targets.{Targets}
 use Rattle.case_targets.specs.Naming.{SpreadsTo, BareOf}
@@ -18,7 +17,9 @@ returns c =
     (λ x spreads h. record {
       root = root;
       root_is = c.root_of-root.ensures.root;
+      name = name;
+      name_is = c.in_ok-name.ensures;
       spreads = spreads;
-      own = subst (λ n. AllOwn n root.bits x.writes) c.in_ok-name.ensures h.0;
-      bare = subst (λ n. BareOf n ps x) c.in_ok-name.ensures h.1;
+      own = h.0;
+      bare = h.1;
     })
