@@ -69,7 +69,12 @@ pub(crate) fn assigned(
 }
 
 /// What an operand that is lowered alone gives to a place of a type of as many bits: no helper is needed to value it alone.
-pub(crate) fn whole(alloc: Global, of: VExpr, to: &SvType, helpers: &mut Helpers) -> Result<VExpr, AllocError>
+pub(crate) fn whole(
+    alloc: Global,
+    of: VExpr,
+    to: &SvType,
+    helpers: &mut Helpers,
+) -> Result<VExpr, AllocError>
     requires narrow { width_of to.now ≤ 4194304 }
     ensures grows { OnOk result (Grows helpers.old helpers.new) }
     ensures keeps { IfOk result (λ m. Keeps to.now (means.meaning of) helpers.new (means.meaning m)) }
