@@ -136,7 +136,18 @@ pub const CASTS: &[(&[Word], u32, &str)] = &[
     (
         &[Vector(3, 0), Signal(0), Vector(7, 0), Cast],
         8,
-        "sv2v_h_cast_8($unsigned(a))",
+        "{{4{'0}},a}",
+    ),
+    // 8'(a) of a signed operand, and 4'(a)
+    (
+        &[SignedVector(3, 0), Signal(0), Vector(7, 0), Cast],
+        8,
+        "sv2v_h_cast_8($signed($signed(a)))",
+    ),
+    (
+        &[Vector(7, 0), Signal(0), Vector(3, 0), Cast],
+        4,
+        "sv2v_h_cast_4(a)",
     ),
     // $signed(a)
     (

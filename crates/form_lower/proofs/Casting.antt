@@ -1,6 +1,7 @@
 -- What is cast and what is assigned.
-use Rattle.std.proofs.Common.{◌≡◌, ℕ, zero, suc, ◌*◌, ◌<◌, ◌≤◌, max, Bool, true, false, List, [], ◌∷◌, ◌++◌, append-nil, length, take, replicate, refl, arith, ap, sym, ◌∙◌, subst}
+use Rattle.std.proofs.Common.{◌≡◌, ℕ, zero, suc, ◌+◌, ◌-◌, ◌*◌, ◌<◌, ◌≤◌, max, Bool, true, false, List, [], ◌∷◌, ◌++◌, append-nil, length, length-append, take, replicate, refl, arith, ap, sym, ◌∙◌, subst}
 use Rattle.b4_core.specs.declared.bit.Bit4.{Bit4}
+use Rattle.b4_core.specs.declared.bit.Bit4.TheVariants.{Zero}
 use Rattle.b4_core.specs.Vectors.{ext}
 use Rattle.row_machine.specs.Valuation.{Valuation}
 use Rattle.sv_types.specs.declared.types.SvType.{SvType}
@@ -18,9 +19,10 @@ use Rattle.v_meaning.specs.Values as T
 use Rattle.lowering_laws.specs.Helpers.{Stores}
 use Rattle.lowering_laws.specs.Same.{Same, SameAlone, HasBits}
 use Rattle.lowering_laws.specs.Terms.{braced}
-use Rattle.lowering_laws.proofs.Constants.{number-same, signed-same}
+use Rattle.lowering_laws.proofs.Constants.{number-same, signed-same, bits-alone, length-fill}
 use Rattle.lowering_laws.proofs.Contexts.{alone-width, alone-value}
-use Rattle.lowering_laws.proofs.Extensions.{ext-at, ext-then-cut}
+use Rattle.lowering_laws.proofs.Extensions.{ext-at, ext-cut, ext-then-cut, take-whole}
+use Rattle.lowering_laws.proofs.Pieces.{literal-bits, fill-bits}
 use Rattle.path_flatten.specs.Helping.{EachHelps, Grows}
 use Rattle.path_flatten.specs.Naming.{SameNumbers, NamesLike}
 use Rattle.path_flatten.specs.Storing.{StoresBits, signed_as}
@@ -28,7 +30,7 @@ use Rattle.path_flatten.proofs.Helping.{helped, helps-before}
 use Rattle.path_flatten.proofs.Naming.{same-by, same-then}
 use Rattle.path_flatten.proofs.Stepping.{braced-has}
 use Rattle.form_lower.specs.Calls.{Calls, NamesOf}
-use Rattle.form_lower.specs.Assigned.{cutter, Assigns, Keeps, Converts, Casts}
+use Rattle.form_lower.specs.Assigned.{cutter, padded, Assigns, Keeps, Widens, Converts, Casts}
 
 -- four-state bits are stored as they are
 four-stored : (n : ℕ) (x : List Bit4) → length x ≡ n → stored (replicate n false) x ≡ x
@@ -134,14 +136,31 @@ cast-by of at w s e a m sc v has =
     let c = stored of.two_state (ext (length of.two_state) (S.signed e) (S.alone e a)) in
     bits-stand (O.cast of at e) w s a of.signed m c sc v has (length-stored of.two_state _ (length-ext (length of.two_state) (S.signed e) (S.alone e a))) refl refl
 
--- an operand that is cut or extended to a place
-pub converts-assigned : (e : S.Meaning) (t : SvType) (m : T.Meaning) (hs : List Helper) (n k : T.Meaning) → n ≡ T.signing (S.signed e) m → Assigns (layout t).two_state n hs k → Converts e (layout t).two_state m hs k
-converts-assigned e t m hs n k alone assigned = record {
+-- a signed operand that is extended to a place
+pub converts-signed : (e : S.Meaning) (t : SvType) (m : T.Meaning) (hs : List Helper) (n k : T.Meaning) → S.signed e ≡ true → n ≡ T.signing true m → Assigns (layout t).two_state n hs k → Converts e (layout t).two_state m hs k
+converts-signed e t m hs n k signed is assigned =
+    let alone : n ≡ T.signing (S.signed e) m = is ∙ ap (λ b. T.signing b m) (sym signed) in
+    record {
+      bits = λ a sc v all long h.
+          assigned.bits (ext (width_of t) (S.signed e) (S.alone e a)) sc v all (ap (λ (y : T.Meaning). T.given y (width_of t) sc v) alone ∙ signing-given (width_of t) e a m sc v h long)
+          (length-ext (width_of t) (S.signed e) (S.alone e a));
+      names = λ sc.
+          subst (λ l. SameNumbers l (k.names sc)) (ap (λ (y : T.Meaning). y.names sc ++ []) alone ∙ ap (λ l. l ++ []) (signing-named (S.signed e) m sc) ∙ append-nil (m.names sc ++ [])) (assigned.names sc);
+    }
+
+-- one that is cut: no context is wider than it is
+cut-given : (n : ℕ) (e : S.Meaning) (a : Around) (m : T.Meaning) (sc : Scope) (v : Valuation) → n ≤ S.wide e → SameAlone e a m sc v → length (S.alone e a) ≡ S.wide e
+    → T.given m n sc v ≡ ext n (S.signed e) (S.alone e a)
+cut-given n e a m sc v few h long =
+    let wide = alone-width e a m sc v h in
+    let larger : max n (m.width sc) ≡ m.width sc = omega arith in
+    ap (λ k. take n (m.value k m.signed sc v)) larger ∙ ap (take n) (alone-value e a m sc v h) ∙ sym (ext-cut n (S.signed e) (S.alone e a) (omega arith))
+
+pub converts-cut : (e : S.Meaning) (t : SvType) (m : T.Meaning) (hs : List Helper) (k : T.Meaning) → width_of t ≤ S.wide e → Assigns (layout t).two_state m hs k → Converts e (layout t).two_state m hs k
+converts-cut e t m hs k few assigned = record {
   bits = λ a sc v all long h.
-      assigned.bits (ext (width_of t) (S.signed e) (S.alone e a)) sc v all (ap (λ (y : T.Meaning). T.given y (width_of t) sc v) alone ∙ signing-given (width_of t) e a m sc v h long)
-      (length-ext (width_of t) (S.signed e) (S.alone e a));
-  names = λ sc.
-      subst (λ l. SameNumbers l (k.names sc)) (ap (λ (y : T.Meaning). y.names sc ++ []) alone ∙ ap (λ l. l ++ []) (signing-named (S.signed e) m sc) ∙ append-nil (m.names sc ++ [])) (assigned.names sc);
+      assigned.bits (ext (width_of t) (S.signed e) (S.alone e a)) sc v all (cut-given (width_of t) e a m sc v few h long) (length-ext (width_of t) (S.signed e) (S.alone e a));
+  names = assigned.names;
 }
 
 -- one of as many bits, in braces
@@ -161,6 +180,47 @@ converts-kept e t m hs k some wide kept = record {
       subst (λ c. HasBits k (stored (layout t).two_state c) sc v) (sym (ext-at (width_of t) (S.signed e) (S.alone e a) (long ∙ wide)))
       (kept.bits (S.alone e a) sc v all (alone-width e a m sc v h ∙ sym long) (alone-value e a m sc v h) (long ∙ wide) some);
   names = kept.names;
+}
+
+-- one of fewer bits, with zeros on top
+padded-has : (n : ℕ) (m : T.Meaning) (c : List Bit4) (sc : Scope) (v : Valuation) → m.width sc ≡ length c → T.alone m sc v ≡ c → HasBits (padded n m) (c ++ replicate n Zero) sc v
+unfolding T.concatenation
+padded-has n m c sc v width alone =
+    let zeros = fill-bits n Zero (T.literal (Zero ∷ [])) sc v (literal-bits (Zero ∷ []) sc v) in
+    let size = zeros.width in
+    let long = length-append c (replicate n Zero) in
+    record {
+      width = omega arith;
+      unsigned = refl;
+      value = λ w s. λ i. ext w s (alone i ++ bits-alone (T.repetition n (T.literal (Zero ∷ []) ∷ [])) (replicate n Zero) sc v zeros i);
+    }
+
+padded-named : (n : ℕ) (m : T.Meaning) (sc : Scope) → (padded n m).names sc ≡ T.all_names (m ∷ []) sc
+unfolding T.concatenation T.repetition T.literal
+padded-named n m sc = refl
+
+with-zeros : (n k : ℕ) (c : List Bit4) → length c + n ≡ k → c ++ replicate n Zero ≡ ext k false c
+with-zeros n k c long =
+    let more : n ≡ k - length c = omega arith in
+    λ i. sym (take-whole k c (omega arith)) i ++ replicate (more i) Zero
+
+pub widens : (n : ℕ) (t : SvType) (m : T.Meaning) (hs : List Helper) (b k : T.Meaning) → b ≡ padded n m → StoresBits t b hs k → NamesLike b k → Widens n t m hs k
+widens n t m hs b k is stores like = record {
+  bits = λ c sc v all width alone long some.
+      let size = length-append c (replicate n Zero) in
+      let zeros = length-fill n Zero in
+      subst (λ x. HasBits k (stored (layout t).two_state x) sc v) (with-zeros n (width_of t) c long)
+      (stores (c ++ replicate n Zero) sc v (subst (λ (y : T.Meaning). HasBits y (c ++ replicate n Zero) sc v) (sym is) (padded-has n m c sc v width alone)) (omega arith) some all);
+  names = names-then (m ∷ []) b k (λ sc. same-by (T.all_names (m ∷ []) sc) (b.names sc) (sym (ap (λ (y : T.Meaning). y.names sc) is ∙ padded-named n m sc))) like;
+}
+
+pub converts-widened : (e : S.Meaning) (t : SvType) (m : T.Meaning) (hs : List Helper) (n : ℕ) (k : T.Meaning) → 1 ≤ width_of t → S.signed e ≡ false → S.wide e + n ≡ width_of t → Widens n t m hs k
+    → Converts e (layout t).two_state m hs k
+converts-widened e t m hs n k some unsigned wide widened = record {
+  bits = λ a sc v all long h.
+      subst (λ s. HasBits k (stored (layout t).two_state (ext (width_of t) s (S.alone e a))) sc v) (sym unsigned)
+      (widened.bits (S.alone e a) sc v all (alone-width e a m sc v h ∙ sym long) (alone-value e a m sc v h) (omega arith) some);
+  names = widened.names;
 }
 
 pub casts : (e : S.Meaning) (t : SvType) (m : T.Meaning) (hs : List Helper) (b : Bool) (k r : T.Meaning) → Converts e (layout t).two_state m hs k → b ≡ (layout t).signed → r ≡ signed_as b k → Casts e t m hs r

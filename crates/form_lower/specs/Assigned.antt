@@ -1,6 +1,7 @@
 -- What is cast, and what is assigned to members, elements and formals (IEEE 1800-2017 clauses 6.24, 10.7, 10.9 and 13.5).
-use Rattle.std.specs.Prelude.{◌≡◌, ℕ, ◌<◌, ◌≤◌, Bool, true, List, [], ◌∷◌, length}
+use Rattle.std.specs.Prelude.{◌≡◌, ℕ, ◌+◌, ◌<◌, ◌≤◌, Bool, true, false, List, [], ◌∷◌, length}
 use Rattle.b4_core.specs.declared.bit.Bit4.{Bit4}
+use Rattle.b4_core.specs.declared.bit.Bit4.TheVariants.{Zero}
 use Rattle.b4_core.specs.Vectors.{ext}
 use Rattle.row_machine.specs.Valuation.{Valuation}
 use Rattle.sv_types.specs.declared.types.SvType.{SvType}
@@ -30,6 +31,16 @@ pub record Assigns (two_state : List Bool) (m : T.Meaning) (hs : List Helper) (r
 pub record Keeps (t : SvType) (m : T.Meaning) (hs : List Helper) (r : T.Meaning) : Type 0 where
   pub bits : (c : List Bit4) (sc : Scope) (v : Valuation) → EachHelps hs sc → m.width sc ≡ length c → T.alone m sc v ≡ c → length c ≡ width_of t → 1 ≤ width_of t
       → HasBits r (stored (layout t).two_state c) sc v
+  pub names : NamesOf (m ∷ []) r
+
+-- an expression with so many zeros on top, which is unsigned and valued alone
+abbrev pub padded : ℕ → T.Meaning → T.Meaning
+padded n m = T.concatenation (T.repetition n (T.literal (Zero ∷ []) ∷ []) ∷ m ∷ [])
+
+-- what an expression, valued alone, gives to a type that has so many bits more, with zeros on top
+pub record Widens (n : ℕ) (t : SvType) (m : T.Meaning) (hs : List Helper) (r : T.Meaning) : Type 0 where
+  pub bits : (c : List Bit4) (sc : Scope) (v : Valuation) → EachHelps hs sc → m.width sc ≡ length c → T.alone m sc v ≡ c → length c + n ≡ width_of t → 1 ≤ width_of t
+      → HasBits r (stored (layout t).two_state (ext (width_of t) false c)) sc v
   pub names : NamesOf (m ∷ []) r
 
 -- what an operand that is lowered alone gives to a place with these marks, by its own sign, as it is stored there

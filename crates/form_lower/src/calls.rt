@@ -20,14 +20,14 @@ pub fn one_item(alloc: Global, of: VExpr) -> Result<VExprs, AllocError>
     Ok(items)
 }
 
-/// Two arguments.
-fn two_arguments(alloc: Global, first: VExpr, second: VExpr) -> Result<VExprs, AllocError>
+/// Two items of a list.
+pub fn two_items(alloc: Global, first: VExpr, second: VExpr) -> Result<VExprs, AllocError>
     ensures { IfOk result (λ es. meanings es ≡ meaning first ∷ meaning second ∷ []) }
 {
-    let mut args = VExprs::new(alloc);
-    args.push(first)?;
-    args.push(second)?;
-    Ok(args)
+    let mut items = VExprs::new(alloc);
+    items.push(first)?;
+    items.push(second)?;
+    Ok(items)
 }
 
 /// A call of a helper.
@@ -69,6 +69,6 @@ pub fn call_two(
     ensures grows { OnOk result (Grows helpers.old helpers.new) }
     ensures calls { IfOk result (λ m. Calls helper (meaning first ∷ meaning second ∷ []) helpers.new (meaning m)) }
 {
-    let args = two_arguments(alloc, first, second)?;
+    let args = two_items(alloc, first, second)?;
     helper_call(alloc, helper, args, helpers)
 }

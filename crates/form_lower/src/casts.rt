@@ -6,15 +6,18 @@ ghost use Rattle.sv_types.specs.Layouts.{layout, width_of};
 ghost use Rattle.v_meaning.specs.Values as means;
 ghost use Rattle.path_flatten.specs.Helping.{Grows};
 ghost use Rattle.form_lower.specs.Calls.{Calls};
-ghost use Rattle.form_lower.specs.Assigned.{cutter, Assigns, Keeps, Converts, Casts};
+ghost use Rattle.form_lower.specs.Assigned as specs;
+ghost use Rattle.form_lower.specs.Assigned.{cutter, Assigns, Keeps, Widens, Converts, Casts};
 
-use crate::calls::{call_one, one_item};
+use crate::calls::{call_one, one_item, two_items};
+use crate::wilds::bit;
+use b4_core::Bit4;
 use eval_parts::{is_signed, own_sign, own_width};
 use path_flatten::{Helpers, braced};
 use path_reads::{stored_bits, with_sign};
 use std::alloc::{AllocError, Global};
 use sv_types::{Expr, SvType, width};
-use v_build::{repetition, signing};
+use v_build::{concatenation, repetition, signing};
 use v_tree::{Helper, HelperKind, VExpr};
 
 /// An expression no times, which has no bits.
@@ -81,6 +84,33 @@ pub(crate) fn whole(
     Ok(kept)
 }
 
+/// An expression with so many zeros on top, which is valued alone.
+fn padded(alloc: Global, of: VExpr, zeros: u32) -> Result<VExpr, AllocError>
+    ensures { IfOk result (λ m. means.meaning m ≡ specs.padded zeros (means.meaning of)) }
+{
+    let zero = bit(alloc, Bit4::Zero)?;
+    let fill = one_item(alloc, zero)?;
+    let items = two_items(alloc, repetition(zeros, fill), of)?;
+    Ok(concatenation(items))
+}
+
+/// What an unsigned operand that is lowered alone gives to a place of a type with so many bits more.
+fn widened(
+    alloc: Global,
+    of: VExpr,
+    zeros: u32,
+    to: &SvType,
+    helpers: &mut Helpers,
+) -> Result<VExpr, AllocError>
+    requires narrow { width_of to.now ≤ 4194304 }
+    ensures grows { OnOk result (Grows helpers.old helpers.new) }
+    ensures widens { IfOk result (λ m. Widens zeros to.now (means.meaning of) helpers.new (means.meaning m)) }
+{
+    let bits = padded(alloc, of, zeros)?;
+    let kept = stored_bits(alloc, bits, to, helpers)?;
+    Ok(kept)
+}
+
 /// What an operand that is lowered alone gives to a place of a type, as it is stored there.
 fn converted(
     alloc: Global,
@@ -95,18 +125,25 @@ fn converted(
     ensures converts { IfOk result (λ m. Converts (meaning x.now) (layout to.now).two_state (means.meaning part) helpers.new (means.meaning m)) }
 {
     let n = width(to);
-    if n != 0 && own_width(x) == n {
+    let own = own_width(x);
+    if n != 0 && own == n {
         let kept = whole(alloc, part, to, helpers)?;
         Ok(kept)
-    } else {
-        let alone = signing(alloc, own_sign(x), part)?;
-        let cut = assigned(alloc, alone, to, helpers)?;
+    } else if n <= own {
+        let cut = assigned(alloc, part, to, helpers)?;
         Ok(cut)
+    } else if own_sign(x) {
+        let alone = signing(alloc, true, part)?;
+        let by_sign = assigned(alloc, alone, to, helpers)?;
+        Ok(by_sign)
+    } else {
+        let wide = widened(alloc, part, n - own, to, helpers)?;
+        Ok(wide)
     }
 }
 
 /// A cast to a type of an operand that is lowered alone: size casts, sign casts, type casts, `$signed` and `$unsigned`. A helper is
-/// called only where the number of bits changes, or x and z become 0. Or want of memory.
+/// called only where bits are cut or a sign is repeated, or where x and z become 0. Or want of memory.
 pub fn cast(
     alloc: Global,
     x: &Expr,
