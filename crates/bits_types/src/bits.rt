@@ -1,6 +1,6 @@
 //! `$bits` of types and of values.
 
-ghost use Rattle.std.specs.Prelude.{◌≡◌, pos, IfOk};
+ghost use Rattle.std.specs.Prelude.{◌≡◌, ◌≤◌, pos, IfOk};
 ghost use Rattle.b4_core.specs.Bits.{bit_of};
 ghost use Rattle.b4_core.specs.Vectors.{vec};
 ghost use Rattle.expr_type.specs.Answers.{source};

@@ -10,7 +10,7 @@ use Rattle.sv_types.specs.declared.statement.Stmt.TheVariants as V
 use Rattle.flow_laws.proofs.Terms.{Each, OrNone, by-stmt}
 use Rattle.design_breaks.specs.Unrolling.{start_of, starts_of}
 use Rattle.design_breaks.specs.Mentions as M
-use Rattle.design_breaks.specs.Mentions.{Mentions, all_mentions}
+use Rattle.design_breaks.specs.Mentions.{Mentions, mentions, all_mentions}
 use Rattle.design_breaks.specs.Actions.{Actions, Item, actions, together, none_or, item_values, item_bodies}
 use Rattle.break_laws.proofs.ActionLevels as A
 use Rattle.break_laws.proofs.ActionLevels.{perhaps, item_actions}

@@ -1,7 +1,9 @@
 //! Whether the value of an expression is known, and which constant index in it takes too long.
 
-ghost use Rattle.std.specs.Prelude.{◌≡◌, ◌&&◌, false, true, None, Some};
+ghost use Rattle.std.specs.Prelude.{◌≡◌, ◌≤◌, ◌&&◌, IfOk, false, true, None, Some};
 ghost use Rattle.sv_types.specs.declared.expression.Form.{out-Form};
+ghost use Rattle.sv_types.specs.Flows.{covers};
+ghost use Rattle.sv_types.specs.Meanings.{wide};
 ghost use Rattle.sv_types.specs.Expressions.{meaning};
 ghost use Rattle.eval_parts.specs.Limits.{Fits, FitsAlone};
 ghost use Rattle.eval_parts.specs.Steps.{IsStep, is_path};

@@ -16,6 +16,7 @@ use Rattle.sv_types.specs.declared.types.SvType.TheVariants as T
 use Rattle.sv_types.specs.declared.types.SvType as TL
 use Rattle.sv_types.specs.declared.types.Value.{Value}
 use Rattle.sv_types.specs.declared.expression.Expr.{Expr, roll-Expr}
+use Rattle.sv_types.specs.declared.expression.Form.{Form}
 use Rattle.sv_types.specs.declared.expression.Form as FL
 use Rattle.sv_types.specs.declared.expression.Form.TheVariants as V
 use Rattle.sv_types.specs.declared.statement.Stmt.{Stmt}

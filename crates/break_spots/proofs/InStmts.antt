@@ -11,7 +11,7 @@ use Rattle.flow_laws.proofs.Terms.{Each, OrNone, Steps, by-stmt}
 use Rattle.spot_laws.proofs.StmtSpots as T
 use Rattle.spot_laws.proofs.StmtSpots.{item_spots, perhaps}
 use Rattle.break_spots.specs.Walk as W
-use Rattle.break_spots.specs.Walk.{look, in_turn, if_written, expr_walk, exprs_walk, initial_walk, stmt_walk, item_walk}
+use Rattle.break_spots.specs.Walk.{Walk, look, in_turn, if_written, expr_walk, exprs_walk, initial_walk, stmt_walk, item_walk}
 use Rattle.break_spots.proofs.InExprs.{Follows, first_in, first-append, in-both, by-levels, in-expr, in-exprs}
 use Rattle.break_spots.proofs.StmtLevels as L
 

@@ -1,6 +1,6 @@
 //! The built forms of ports.
 
-ghost use Rattle.std.specs.Prelude.{◌≡◌, IfOk};
+ghost use Rattle.std.specs.Prelude.{◌≡◌, ◌++◌, IfOk};
 ghost use Rattle.built_forms.specs.Built as means;
 
 use crate::forms::{Direction, Port, PortHead, Ports};

@@ -1,6 +1,6 @@
 //! The built forms of statements.
 
-ghost use Rattle.std.specs.Prelude.{◌≡◌, ◌||◌, is_some, IfOk};
+ghost use Rattle.std.specs.Prelude.{◌≡◌, ◌++◌, ◌||◌, is_some, IfOk};
 ghost use Rattle.built_forms.specs.Built as means;
 
 use crate::expressions::expr;

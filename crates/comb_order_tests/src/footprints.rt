@@ -1,5 +1,5 @@
 use bit_needs::{Footprint, needs_of};
-use bit_sets::{Span, Use, Uses};
+use bit_sets::{Span, Spans, Use, Uses};
 use comb_order::footprint_in;
 use flow_sets::{Found, Write, Writes, and_then, reading, use_at, writing};
 use peel::peel;

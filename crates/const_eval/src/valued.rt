@@ -1,6 +1,6 @@
 //! The values of expressions (IEEE 1800-2017 clause 11).
 
-ghost use Rattle.std.specs.Prelude.{◌≤◌};
+ghost use Rattle.std.specs.Prelude.{◌≡◌, ◌≤◌};
 ghost use Rattle.sv_types.specs.Expressions.{meaning};
 ghost use Rattle.sv_types.specs.Functions.{callees_within};
 ghost use Rattle.sv_types.specs.Layouts.{width_of};

@@ -5,7 +5,7 @@ use std::alloc::{AllocError, Global};
 use sv_types::{Functions, Way};
 use tree_words::Word::{
     Assign, Binary, Bits, Block, Call, Constant, Continue, Declare, Equal, Formal, Function, If,
-    Int, Local, Loop, Return, Scalar, Signal, Signed, Type, Upto, Vector,
+    Int, Local, Loop, More, Return, Scalar, Signal, Signed, Type, Upto, Vector,
 };
 use tree_words::{Word, functions};
 

@@ -1,6 +1,6 @@
 //! What stands in typed expressions.
 
-ghost use Rattle.std.specs.Prelude.{◌≡◌, map, IfOk, OnOk};
+ghost use Rattle.std.specs.Prelude.{◌≡◌, ◌++◌, ◌∷◌, [], map, IfOk, OnOk};
 ghost use Rattle.expr_type.specs.Uses as uses;
 
 use expr_type::Uses;

@@ -1,5 +1,5 @@
 -- What valuing a constant answers, by what the code for it answers.
-use Rattle.std.proofs.Common.{◌≡◌, ◌≤◌, ℕ, Bool, true, false, cond, List, [], ◌∷◌, length, Option, Some, refl, sym, ap, ◌∙◌, subst, arith, rules}
+use Rattle.std.proofs.Common.{◌≡◌, ◌≤◌, ℕ, zero, suc, Bool, true, false, cond, List, [], ◌∷◌, length, Option, Some, refl, sym, ap, ◌∙◌, subst, arith, rules}
 use Rattle.std.specs.Prelude.{Result, Ok, Err}
 use Rattle.std.proofs.Math.Path.{fun_ext}
 use Rattle.b4_core.specs.declared.bit.Bit4.{Bit4}
@@ -14,6 +14,7 @@ use Rattle.sv_types.specs.declared.types.Value.TheVariants.{Bits, rolls-Bits}
 use Rattle.sv_types.specs.Expressions.{meaning}
 use Rattle.sv_types.specs.Functions.{callees}
 use Rattle.sv_types.specs.Layouts.{Layout, layout, stored, width_of}
+use Rattle.sv_types.specs.Meanings.{Meaning}
 use Rattle.sv_types.specs.Operators.{assigned_to}
 use Rattle.sv_types.specs.Surroundings.{Around, Stop, is_signal}
 use Rattle.sv_types.specs.Values.{Shape, bits, flat, shape, value_of_bits, value_step}
@@ -26,7 +27,7 @@ use Rattle.eval_stmts.specs.declared.env.Env.{Env}
 use Rattle.eval_stmts.specs.Values.{AssignedTo}
 use Rattle.const_eval.specs.declared.fails.EvalFail.{EvalFail}
 use Rattle.const_eval.specs.declared.fails.EvalFail.TheVariants as F
-use Rattle.const_eval.specs.Values.{ValueIs, surroundings}
+use Rattle.const_eval.specs.Values.{ValueIs, run_of, surroundings}
 use Rattle.constant_types.specs.Known.{HasNoSlots}
 use Rattle.constant_types.proofs.Sizes.{goes-on, has-stopped}
 use Rattle.expr_type.specs.declared.halt.Halt.{Halt}

@@ -15,7 +15,7 @@ use Rattle.given_types.specs.Admitting.{Admits}
 use Rattle.pattern_laws.specs.Reasons.{Reason, lesser_reason}
 use Rattle.pattern_laws.proofs.Order.{HereIf, lesser-reason}
 use Rattle.pattern_laws.proofs.Reasons.{where-broken}
-use Rattle.constant_values.specs.Rules.{MayStand, ruled, stream_is_sooner, with_stream}
+use Rattle.constant_values.specs.Rules.{IsFree, MayStand, ruled, stream_is_sooner, with_stream}
 
 module _ (k : Source) (first : ℕ) (stop : Bool) (e : Expr) where
   abbrev at_stream : Break

@@ -1,5 +1,5 @@
 -- The meaning of an expression is that of its core form.
-use Rattle.std.proofs.Common.{◌≡◌, ℕ, zero, suc, ◌+◌, ◌-◌, ◌<◌, ◌≤◌, Bool, true, false, ◌&&◌, cond, pos, int_le, int_lt, max, take, List, [], ◌∷◌, ◌++◌, map, length, replicate, slice_index_or, Option, Some, None, refl, sym, ap, subst, ◌∙◌, arith, append-nil}
+use Rattle.std.proofs.Common.{◌≡◌, ℕ, zero, suc, ◌+◌, ◌-◌, ◌<◌, ◌≤◌, Bool, true, false, ◌&&◌, cond, pos, int_le, int_lt, max, take, List, [], ◌∷◌, ◌++◌, map, length, replicate, zip, slice_index_or, Option, Some, None, refl, sym, ap, subst, ◌∙◌, arith, append-nil}
 use Rattle.std.proofs.lemmas.Bool.Decides.{nat_tests}
 use Rattle.b4_core.specs.declared.bit.Bit4.{Bit4}
 use Rattle.b4_core.specs.declared.bit.Bit4.TheVariants.{Zero, X}
@@ -11,7 +11,7 @@ use Rattle.b4_core.specs.Unary.{unary_value}
 use Rattle.b4_core.specs.Binary.{binary_value}
 use Rattle.row_machine.specs.Valuation.{Place, Valuation}
 use Rattle.row_machine.specs.Places.{bits_from, vector_at}
-use Rattle.picks.specs.Windows.{whole, picked, bit_at, seen}
+use Rattle.picks.specs.Windows.{whole, picked, bit_at, tabulated, seen}
 use Rattle.sv_types.proofs.OperatorLengths.{length-ext, length-unary, length-binary}
 use Rattle.sv_types.proofs.Picks.{tabulated-same}
 use Rattle.sv_types.proofs.ReadLaws.{tabulated-list}
@@ -22,7 +22,7 @@ use Rattle.sv_types.specs.declared.types.SvType.{SvType}
 use Rattle.sv_types.specs.declared.expression.Expr as X
 use Rattle.sv_types.specs.declared.expression.Form.{Form, Form-F, out-Form, roll-Form, roll-out-Form}
 use Rattle.sv_types.specs.declared.expression.Form.TheVariants as V
-use Rattle.sv_types.specs.Layouts.{Layout, layout, stored}
+use Rattle.sv_types.specs.Layouts.{Layout, layout, stored, stored_bit}
 use Rattle.sv_types.specs.Layouts as Layouts
 use Rattle.sv_types.specs.Surroundings.{Around, Sight, Use}
 use Rattle.sv_types.specs.Meanings.{Meaning, wide, signed, use_of}

@@ -1,11 +1,11 @@
 -- Induction over statements, of which those that have a core form are told apart.
-use Rattle.std.proofs.Common.{◌≡◌, Bool, List, [], ◌∷◌, map, Option, Some, None, sym, subst}
+use Rattle.std.proofs.Common.{◌≡◌, ℕ, Bool, List, [], ◌∷◌, map, Option, Some, None, sym, subst}
 use Rattle.sv_source.specs.declared.token.Spot.{Spot}
 use Rattle.sv_types.specs.declared.expression.Expr.{Expr}
 use Rattle.sv_types.specs.declared.statement.Local.{Local}
 use Rattle.sv_types.specs.declared.statement.Stmt.{Stmt, Stmt-F, ind-Stmt, roll-Stmt, map-Stmt}
 use Rattle.sv_types.specs.declared.statement.Stmt.TheVariants as V
-use Rattle.sv_types.specs.declared.statement.CaseItem.{CaseItem}
+use Rattle.sv_types.specs.declared.statement.CaseItem.{CaseItem, CaseItem-F, roll-CaseItem, map-CaseItem}
 use Rattle.core_forms.specs.Forms.{stmt_of}
 use Rattle.core_forms.proofs.Levels.{of-Case, of-Loop, of-Call, of-Made, of-Break, of-Continue, of-Return}
 

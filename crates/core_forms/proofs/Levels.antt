@@ -1,5 +1,5 @@
 -- Statements, one level at a time: their core form and their expressions.
-use Rattle.std.proofs.Common.{◌≡◌, ℕ, Bool, List, ◌∷◌, ◌++◌, map, Option, Some, None, ap, ◌∙◌, rules}
+use Rattle.std.proofs.Common.{◌≡◌, ℕ, Bool, List, [], ◌∷◌, ◌++◌, map, Option, Some, None, ap, ◌∙◌, rules}
 use Rattle.std.specs.Option.{option_map}
 use Rattle.sv_source.specs.declared.token.Spot.{Spot}
 use Rattle.sv_types.specs.declared.expression.Expr.{Expr}
@@ -8,6 +8,7 @@ use Rattle.sv_types.specs.declared.statement.Local.{Local}
 use Rattle.sv_types.specs.declared.statement.Stmt.{Stmt, the_lemmas}
 use Rattle.sv_types.specs.declared.statement.Stmt.TheVariants as V
 use Rattle.sv_types.specs.declared.statement.CaseItem.{CaseItem}
+use Rattle.sv_core.specs.declared.design.Stmt.{Stmt as Core}
 use Rattle.core_forms.specs.Forms.{then_two, each, expr_of, target_of, block_of, other_of, if_of, assign_with, stmt_of}
 use Rattle.core_forms.specs.Typing.{all_of, none_or, exprs_in}
 use Rattle.core_forms.proofs.Gathering.{each-map}

@@ -1,9 +1,9 @@
 -- A design is, as a machine, its core form.
-use Rattle.std.proofs.Common.{◌≡◌, ℕ, zero, suc, ◌+◌, Bool, true, false, ◌&&◌, ◌||◌, cond, filter, List, [], ◌∷◌, ◌++◌, map, flat_map, replicate, slice_index_or, Option, Some, None, refl, sym, ap, subst, ◌∙◌, inl, inr, arith}
+use Rattle.std.proofs.Common.{◌≡◌, ◌↔◌, ◌⊎◌, ℕ, zero, suc, ◌+◌, ◌==◌, ◌≤◌, ◌^◌, Bool, true, false, not, ◌&&◌, ◌||◌, cond, filter, List, [], ◌∷◌, ◌++◌, map, flat_map, length, replicate, slice_index_or, Option, Some, None, refl, sym, ap, subst, ◌∙◌, inl, inr, arith}
 use Rattle.std.specs.Prelude.{slice_get, nat_le, if◌then◌else◌}
 use Rattle.std.specs.List.{AllZip, list_any}
-use Rattle.std.proofs.lemmas.Bool.{and_parts, eqb-true, eq-eqb}
-use Rattle.b4_core.specs.declared.bit.Bit4.TheVariants.{X}
+use Rattle.std.proofs.lemmas.Bool.{and_parts, eqb-true, eq-eqb, or_cases, false≢true}
+use Rattle.b4_core.specs.declared.bit.Bit4.TheVariants.{X, Z}
 use Rattle.b4_core.specs.Bitwise as Bitwise
 use Rattle.row_machine.specs.Valuation.{Member, Place, Valuation, Changes, has}
 use Rattle.row_machine.specs.Machine as M
@@ -23,10 +23,11 @@ use Rattle.sv_types.specs.declared.design.Process as R
 use Rattle.sv_types.specs.declared.design.Design as Final
 use Rattle.sv_types.specs.declared.expression.Expr as X
 use Rattle.sv_types.specs.declared.statement.Outcome.TheVariants.{Normal}
-use Rattle.sv_types.specs.Layouts.{layout, default_bits}
+use Rattle.sv_types.specs.Layouts.{layout, default_bits, stored_bit}
 use Rattle.sv_types.specs.Layouts as Layouts
 use Rattle.sv_types.specs.Values.{bits}
 use Rattle.sv_types.specs.Surroundings.{Use, is_signal}
+use Rattle.sv_types.specs.Runs.{State}
 use Rattle.sv_types.specs.Flows.{covers, covered, uses_of}
 use Rattle.sv_types.specs.Statements as D
 use Rattle.sv_types.specs.Machine as F
@@ -43,11 +44,11 @@ use Rattle.sv_core.specs.declared.design.Stmt.{Stmt}
 use Rattle.sv_core.specs.Statements as S
 use Rattle.sv_core.specs.Statements.{width_of}
 use Rattle.sv_core.specs.Machine as C
-use Rattle.core_forms.specs.Forms.{then_one, each, edge_of, kind_of, process_with, process_of, signal_kind_of, signal_with, signal_of, top_of, design_with, stmt_of, core_of}
-use Rattle.core_forms.specs.Typing.{width_or_zero, width_in, ExprTyped, exprs_in, IsPlain}
+use Rattle.core_forms.specs.Forms.{then_one, then_two, each, edge_of, kind_of, process_with, process_of, signal_kind_of, signal_with, signal_of, top_of, design_with, stmt_of, core_of}
+use Rattle.core_forms.specs.Typing.{IsVector, width_or_zero, width_in, ExprTyped, exprs_in, IsPlain}
 use Rattle.core_forms.specs.Laws.{IsModest, CoresRunAlike, CoresHaveTheTraces}
-use Rattle.core_forms.proofs.Expressions.{one-some, two-some, none-some, numbers_of}
-use Rattle.core_forms.proofs.Statements.{AreLow, Runs, stmt-same, progress}
+use Rattle.core_forms.proofs.Expressions.{one-some, two-some, none-some, Unsure, numbers_of}
+use Rattle.core_forms.proofs.Statements.{AreLow, Same, Runs, stmt-same, progress, around}
 
 -- lists of which each element has a core form
 each-get : {A B : Type 0} (f : A → Option B) (xs : List A) (ys : List B) → each f xs ≡ Some ys → (n : ℕ) (x : A) → slice_get xs n ≡ Some x → (y : B) × (slice_get ys n ≡ Some y) × (f x ≡ Some y)

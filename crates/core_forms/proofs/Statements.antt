@@ -1,14 +1,16 @@
 -- A statement reads, writes and does what its core form does.
-use Rattle.std.proofs.Common.{◌≡◌, ℕ, zero, suc, ◌+◌, ◌-◌, ◌≤◌, ◌^◌, Bool, true, false, ◌&&◌, ◌||◌, cond, max, take, drop, slice_index_or, List, [], ◌∷◌, ◌++◌, map, length, Option, Some, None, refl, sym, ap, subst, ◌∙◌, inl, inr, arith, append-nil}
+use Rattle.std.proofs.Common.{◌≡◌, ℕ, zero, suc, ◌+◌, ◌-◌, ◌<◌, ◌≤◌, ◌^◌, Bool, true, false, ◌&&◌, ◌||◌, cond, max, take, drop, slice_index_or, List, [], ◌∷◌, ◌++◌, map, length, Option, Some, None, refl, sym, ap, subst, ◌∙◌, inl, inr, arith, append-nil}
 use Rattle.std.specs.Prelude.{nat_lt, ◌==◌, slice_get}
+use Rattle.std.specs.Option.{option_map}
 use Rattle.std.proofs.lemmas.Bool.{le-leb, ltb-true, ltb-false, eqb-true}
 use Rattle.b4_core.specs.declared.bit.Bit4.{Bit4}
 use Rattle.b4_core.specs.declared.bit.Bit4.TheVariants.{Zero, One, X, Z}
 use Rattle.b4_core.specs.Bits as Bits
 use Rattle.b4_core.specs.Bitwise.{truth_of}
+use Rattle.b4_core.specs.Vectors.{ext}
 use Rattle.row_machine.specs.Valuation.{Member, Place, Valuation, Changes, put, changed}
 use Rattle.row_machine.specs.Places.{bits_from, vector_at, assigned}
-use Rattle.row_machine.specs.Steps.{Progress, then_changes, later_or, is_one}
+use Rattle.row_machine.specs.Steps.{Progress, then_changes, later_or, is_one, in_order}
 use Rattle.row_machine.specs.Steps as Steps
 use Rattle.row_machine.proofs.Members.{member-front, member-back}
 use Rattle.picks.specs.Windows.{whole, written}
@@ -22,7 +24,7 @@ use Rattle.sv_types.specs.declared.statement.Stmt as Y
 use Rattle.sv_types.specs.declared.statement.Stmt.TheVariants as YV
 use Rattle.sv_types.specs.Layouts.{Layout, layout, stored}
 use Rattle.sv_types.specs.Layouts as Layouts
-use Rattle.sv_types.specs.Surroundings.{Around, Callee, Sight, is_signal}
+use Rattle.sv_types.specs.Surroundings.{Around, Callee, Sight, Use, is_signal}
 use Rattle.sv_types.specs.Meanings.{Meaning, wide}
 use Rattle.sv_types.specs.Expressions.{meaning}
 use Rattle.sv_types.specs.Paths as P
@@ -34,19 +36,19 @@ use Rattle.sv_types.specs.Flows.{Flows, uses_of}
 use Rattle.sv_types.specs.Statements as D
 use Rattle.sv_types.specs.Statements.{steps, runs, flows}
 use Rattle.sv_types.proofs.Levels as L
-use Rattle.sv_types.proofs.DoingLevels.{doing-Block, doing-If, doing-Assign}
+use Rattle.sv_types.proofs.DoingLevels.{perhaps, doing-Block, doing-If, doing-Assign}
 use Rattle.sv_core.specs.declared.design.Signal.{Signal}
 use Rattle.sv_core.specs.declared.design.Expr.{Expr}
-use Rattle.sv_core.specs.declared.design.Stmt.{Stmt, Stmt-F, fold-roll-Stmt}
+use Rattle.sv_core.specs.declared.design.Stmt.{Stmt, Stmt-F, fold-Stmt, fold-roll-Stmt}
 use Rattle.sv_core.specs.declared.design.Stmt.TheVariants.{Block, If, Assign, rolls-Block, rolls-If, rolls-Assign}
 use Rattle.sv_core.specs.Value.{width_alone, value_at}
 use Rattle.sv_core.specs.Statements as S
 use Rattle.sv_core.specs.Statements.{width_of, held_at, expr_signals}
-use Rattle.core_forms.specs.Forms.{FormLayer, then_one, then_two, each, expr_of, target_in, target_of, applied, assign_with, stmt_of}
-use Rattle.core_forms.specs.Typing.{ExprIn, ExprTyped, all_of, exprs_in}
+use Rattle.core_forms.specs.Forms.{FormLayer, then_one, then_two, each, expr_of, target_in, target_of, block_of, applied, other_of, if_of, assign_with, stmt_of}
+use Rattle.core_forms.specs.Typing.{IsVector, ExprIn, ExprTyped, all_of, none_or, exprs_in}
 use Rattle.core_forms.proofs.Levels.{of-block, of-If, of-Assign, in-Block, in-If, in-Assign}
 use Rattle.core_forms.proofs.Induction.{Each, OrNone, Steps as StmtSteps, by_statement}
-use Rattle.core_forms.proofs.Expressions.{one-some, two-some, none-some, Unsure, numbers_of, numbers-append, IsFlat, flat, flat-width, stored-plain, Looks, ExprMeans, expr-means, by-form, length-value, take-long}
+use Rattle.core_forms.proofs.Expressions.{one-some, two-some, none-some, Unsure, numbers_of, numbers-append, IsFlat, flat, flat-width, length-alike, stored-plain, Looks, Means, ExprMeans, expr-means, by-form, length-value, take-long}
 
 -- the core form, one level at a time
 core-block : (ss : List Stmt) → S.doing (Block ss) ≡ S.sequence (map S.doing ss)

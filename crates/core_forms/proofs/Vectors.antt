@@ -1,10 +1,10 @@
 -- Vectors of four-state bits.
-use Rattle.std.proofs.Common.{◌≡◌, ℕ, zero, suc, ◌+◌, ◌-◌, ◌==◌, ◌≤◌, min, Bool, true, false, pos, [], ◌∷◌, ◌++◌, length, replicate, refl, sym, ap, subst, ◌∙◌, arith}
+use Rattle.std.proofs.Common.{◌≡◌, ℕ, zero, suc, ◌+◌, ◌-◌, ◌==◌, ◌≤◌, min, Bool, true, false, pos, List, [], ◌∷◌, ◌++◌, length, replicate, refl, sym, ap, subst, ◌∙◌, arith}
 use Rattle.std.specs.Prelude.{if◌then◌else◌}
 use Rattle.std.proofs.lemmas.Bool.{eqb-true}
 use Rattle.sv_types.specs.declared.types.SvType.{SvType}
 use Rattle.sv_types.specs.declared.types.SvType.TheVariants.{PackedArray}
-use Rattle.sv_types.specs.Layouts.{Layout, width_of, repeated, count_of}
+use Rattle.sv_types.specs.Layouts.{Layout, layout, width_of, repeated, stacked, count_of}
 use Rattle.sv_types.proofs.Lengths.{layout-Scalar, layout-PackedArray}
 use Rattle.core_forms.specs.Typed.{bit_type, vector_of}
 use Rattle.core_forms.specs.Typing.{IsVector}

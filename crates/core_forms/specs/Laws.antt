@@ -1,5 +1,5 @@
 -- A design is, as a machine, its core form.
-use Rattle.std.specs.Prelude.{◌≡◌, ◌≤◌, ◌^◌, ◌⊎◌, ◌↔◌, ℕ, List, slice_get, Some, length}
+use Rattle.std.specs.Prelude.{◌≡◌, ◌≤◌, ◌^◌, ◌⊎◌, ◌↔◌, ℕ, List, map, slice_get, Option, Some, length}
 use Rattle.row_machine.specs.Valuation.{Valuation, Member}
 use Rattle.row_machine.specs.Trace.{HasTrace}
 use Rattle.row_machine.specs.Footprints.{SameRuns}

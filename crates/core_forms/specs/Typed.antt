@@ -1,5 +1,6 @@
 -- A core design as a design of the elaborated language. Where its parts stood in the source isn't known.
-use Rattle.std.specs.Prelude.{ℕ, suc, ◌-◌, ◌==◌, min, max, Bool, true, false, pos, List, [], ◌∷◌, map, if◌then◌else◌}
+use Rattle.std.specs.Prelude.{ℕ, suc, ◌-◌, ◌==◌, min, max, Bool, true, false, pos, List, [], ◌∷◌, length, map, Option, Some, None, if◌then◌else◌}
+use Rattle.b4_core.specs.declared.bit.Bit4.{Bit4}
 use Rattle.b4_core.specs.declared.operators.UnOp.TheVariants.{Not}
 use Rattle.sv_source.specs.declared.token.Spot.{Spot}
 use Rattle.sv_types.specs.declared.types.SvType.{SvType}

@@ -1,24 +1,26 @@
 -- Which signals processes read and may write.
-use Rattle.std.proofs.Common.{◌≡◌, ℕ, ◌+◌, ◌<◌, ◌≤◌, List, [], ◌∷◌, ◌++◌, length, take, take_all, Option, Some, None, slice_get, sym, ap, ◌∙◌, subst, arith}
+use Rattle.std.proofs.Common.{◌≡◌, ℕ, ◌+◌, ◌<◌, ◌≤◌, true, false, List, [], ◌∷◌, ◌++◌, length, take, take_all, get_or, Option, Some, None, slice_get, refl, sym, ap, ◌∙◌, subst, arith}
 use Rattle.std.specs.Prelude.{IfSome}
 use Rattle.std.proofs.lemmas.List.{take_more}
 use Rattle.std.proofs.lemmas.Option.{slice_get_within, get_or_from_slice_get}
 use Rattle.round_runner.proofs.Elements.{element}
 use Rattle.round_runner.specs.Parts.{ReadsAlone, WritesAlone}
 use Rattle.row_machine.specs.Machine as M
-use Rattle.row_machine.specs.Valuation.{Changes}
+use Rattle.row_machine.specs.Valuation.{Valuation, Changes, Place}
 use Rattle.v_hangs.specs.Hangs.{FunctionsReadIn, HangsOn, WritesIn}
+use Rattle.v_drives.specs.Designs.{ByTable}
 use Rattle.v_drives.specs.Quiet.{AreQuietIn}
 use Rattle.v_meaning.specs.Machine.{to_signals}
 use Rattle.v_modules.specs.declared.table.Table.{Table}
 use Rattle.v_processes.specs.declared.process.Proc.{Proc}
+use Rattle.v_steps.specs.Steps.{ran}
 use Rattle.cycle_dst.specs.declared.combs.Comb.{Comb}
 use Rattle.cycle_dst.specs.declared.prints.Known.{Known}
 use Rattle.cycle_dst.specs.declared.prints.Prints.{Prints}
 use Rattle.cycle_dst.specs.Circuits.{CombOf, Runnable, process_in}
 use Rattle.cycle_dst.specs.Pairs.{Pairs}
 use Rattle.cycle_dst.specs.Prints.{AllPrints, IsKnown, KnownFor, PrintsBy, PrintsIn, PrintsOf}
-use Rattle.cycle_dst.proofs.Pairs.{pairs-push}
+use Rattle.cycle_dst.proofs.Pairs.{no-pairs, pairs-push}
 
 -- before the first process nothing is known
 pub none-known : (ts : List Table) (k : Known) → k.of ≡ length ts → IsKnown ts k

@@ -7,7 +7,7 @@ use Rattle.round_runner.specs.Stores.{Holds, holding, widths}
 use Rattle.v_tree.specs.declared.items.VModule.{VModule}
 use Rattle.v_rules.specs.Tables.{Tables}
 use Rattle.v_meaning.specs.Machine as V
-use Rattle.v_meaning.specs.Machine.{size}
+use Rattle.v_meaning.specs.Machine.{machine, size}
 use Rattle.v_meaning.specs.Modules.{signals, items_of, parts}
 use Rattle.v_instances.specs.Slots.{signal_of}
 use Rattle.v_modules.specs.Tables as T

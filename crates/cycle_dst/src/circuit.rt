@@ -15,7 +15,7 @@ use crate::combs::Comb;
 use crate::copies::copied;
 use crate::prints::Prints;
 use crate::single::{edge_comes, run_process, update_process};
-use b4_core::Vec4;
+use b4_core::{Items, Vec4};
 use round_runner::Processes;
 use std::alloc::{AllocError, Global};
 use sv_source::Text;

@@ -1,19 +1,19 @@
 //! Values of names.
 
-ghost use Rattle.std.specs.Prelude.{◌≡◌, ◌≤◌, ◌<◌, [], List, None, Some, IfOk};
+ghost use Rattle.std.specs.Prelude.{◌≡◌, ◌≤◌, ◌<◌, length, [], List, None, Some, is_some, IfOk};
 ghost use Rattle.std.specs.Option.{option_copied};
 ghost use Rattle.sv_types.specs.Expressions.{meaning};
 ghost use Rattle.sv_types.specs.Layouts.{width_of};
 ghost use Rattle.eval_parts.specs.Limits.{FitsAlone};
 ghost use Rattle.eval_forms.specs.Callees.{formals_in};
 ghost use Rattle.eval_runs.specs.Functions.{AllCanRun};
-ghost use Rattle.expr_type.specs.Answers.{source};
+ghost use Rattle.expr_type.specs.Answers.{Gives, HaltsBy, reason, source};
 ghost use Rattle.expr_type.specs.Names as names;
 ghost use Rattle.expr_type.specs.Operands.{in_range};
 ghost use Rattle.expr_type.specs.Types.{NameValue, least_value, most_value};
 ghost use Rattle.expr_type.specs.Types as types;
 ghost use Rattle.expr_type.specs.Uses.{stream_marks};
-ghost use Rattle.enum_types.specs.Bits.{BitsOf};
+ghost use Rattle.enum_types.specs.Bits.{BitsOf, value_in};
 ghost use Rattle.enum_types.specs.Taken.{Holds};
 ghost use Rattle.enum_values.specs.Values.{AreInBase, Names, last_number, long_halt, unwritten, written};
 

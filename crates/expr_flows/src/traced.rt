@@ -4,7 +4,7 @@ ghost use Rattle.std.specs.Prelude.{◌≡◌, ◌≤◌, ◌^◌, ◌&&◌, tru
 ghost use Rattle.sv_types.specs.Layouts.{layout, width_of};
 ghost use Rattle.sv_types.specs.Paths.{known_base, narrowed};
 ghost use Rattle.sv_types.specs.Windows.{member_of, element_of, between, slide, whole};
-ghost use Rattle.eval_parts.specs.Places.{IsNear};
+ghost use Rattle.eval_parts.specs.Places.{IsNear, window_of};
 ghost use Rattle.expr_flows.specs.Traces.{IsShort, prefix_of, stepped};
 
 use eval_parts::{Window, between_at, element_at, entire, member_at, slide_at};

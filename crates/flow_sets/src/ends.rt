@@ -1,6 +1,6 @@
 //! The ways in which paths end.
 
-ghost use Rattle.std.specs.Prelude.{◌≡◌, Some, None, IfOk};
+ghost use Rattle.std.specs.Prelude.{◌≡◌, Some, None, [], IfOk};
 ghost use Rattle.flow_sets.specs.Ends as spec;
 ghost use Rattle.flow_sets.specs.Ends.{IsKnown, IsAfter, IsThen, IsEither, AreKnown, AreThen, AreEither};
 

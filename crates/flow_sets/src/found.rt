@@ -1,6 +1,6 @@
 //! What is known of a statement before it runs.
 
-ghost use Rattle.std.specs.Prelude.{◌≡◌, ◌++◌, ◌+◌, ◌<◌, ◌&&◌, ◌||◌, ℕ, Bool, List, [], length, Some, None, cond, min, is_some, IfOk};
+ghost use Rattle.std.specs.Prelude.{◌≡◌, ◌∷◌, ◌++◌, ◌+◌, ◌<◌, ◌^◌, ◌&&◌, ◌||◌, ℕ, Bool, List, [], length, Some, None, cond, min, is_some, IfOk};
 ghost use Rattle.bit_sets.specs.Sets.{covers, in_spans, tokens_at, IsSet};
 ghost use Rattle.sv_types.specs.Surroundings as S;
 ghost use Rattle.sv_types.specs.Flows as F;

@@ -1,6 +1,6 @@
 //! What declarations stand for by a frame's lists and their index.
 
-ghost use Rattle.std.specs.Prelude.{◌≡◌, []};
+ghost use Rattle.std.specs.Prelude.{◌≡◌, [], ◌∷◌};
 ghost use Rattle.expr_type.specs.Names as names;
 ghost use Rattle.frame_things.specs.Finding.{IsIndexOf, IsValue, IsType, IsSignal, IsMember};
 

@@ -1,6 +1,6 @@
 //! The index of a frame's lists.
 
-ghost use Rattle.std.specs.Prelude.{IfOk};
+ghost use Rattle.std.specs.Prelude.{◌≡◌, IfOk};
 ghost use Rattle.frame_things.specs.Finding.{IsIndexOf};
 
 use crate::members::{Members, members_of};

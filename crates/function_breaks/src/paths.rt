@@ -11,7 +11,7 @@ ghost use Rattle.function_breaks.specs.Owed.{owed_uses};
 ghost use Rattle.function_breaks.specs.Early as E;
 ghost use Rattle.least_breaks.specs.Least.{IsLeastToken};
 
-use bit_sets::{Spans, Use, common, union_of};
+use bit_sets::{Span, Spans, Use, common, union_of};
 use bit_tokens::{least_inside, least_outside};
 use flow_sets::Found;
 use least_breaks::least_of;

@@ -1,6 +1,6 @@
 //! The bits that a function is to write.
 
-ghost use Rattle.std.specs.Prelude.{◌≡◌, ◌≤◌, ◌∷◌, [], map, reverse, IfOk};
+ghost use Rattle.std.specs.Prelude.{◌≡◌, ◌≤◌, ◌∷◌, ◌++◌, [], map, reverse, length, IfOk, OnOk};
 ghost use Rattle.sv_types.specs.Layouts.{width_of};
 ghost use Rattle.sv_types.specs.declared.types.Member.{Member};
 ghost use Rattle.eval_parts.specs.Targets.{AllNarrow};

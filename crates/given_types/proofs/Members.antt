@@ -1,5 +1,5 @@
 -- Members one by one.
-use Rattle.std.proofs.Common.{◌≡◌, ◌<◌, ◌+◌, ℕ, suc, Bool, ◌&&◌, List, ◌∷◌, length, map, drop, get_or, refl, ap, sym, rules, ◌∙◌, arith, add-one, drop-cons}
+use Rattle.std.proofs.Common.{◌≡◌, ◌<◌, ◌+◌, ℕ, suc, Bool, true, false, ◌&&◌, List, [], ◌∷◌, length, map, drop, get_or, refl, ap, sym, rules, ◌∙◌, arith, add-one, drop-cons}
 use Rattle.sv_types.specs.declared.types.SvType.{SvType}
 use Rattle.sv_types.specs.declared.types.Member.{Member, the_lemmas}
 use Rattle.pattern_fit.specs.Same.{same_members}

@@ -1,6 +1,6 @@
 //! Casts (IEEE 1800-2017 clauses 6.24.1 and 20.5): what is cast is valued alone.
 
-ghost use Rattle.std.specs.Prelude.{◌≡◌, IfOk};
+ghost use Rattle.std.specs.Prelude.{◌≡◌, ◌≤◌, IfOk};
 ghost use Rattle.expr_type.specs.Answers.{Gives, source};
 ghost use Rattle.expr_type.specs.Forms as form;
 ghost use Rattle.expr_type.specs.Operands as rule;

@@ -13,7 +13,7 @@ use expr_type::{Source, Valued};
 use operand_types::{by_itself, vector};
 use std::alloc::{AllocError, Global};
 use sv_source::Boxed;
-use sv_types::{Form, SvType};
+use sv_types::{Form, SvType, of_bits};
 
 // The type `integer`.
 fn integer(alloc: Global) -> Result<SvType, AllocError>

@@ -1,6 +1,7 @@
 //! What stands on the right of `inside`.
 
 ghost use Rattle.std.specs.Prelude.{◌≡◌, ◌≤◌, map, max, IfOk};
+ghost use Rattle.std.specs.List.{list_any};
 ghost use Rattle.expr_type.specs.Operands.{too_wide, width};
 ghost use Rattle.expr_type.specs.Operators as operator;
 ghost use Rattle.expr_type.specs.Operators.{over};

@@ -25,7 +25,7 @@ use Rattle.sv_build.specs.Items as X
 use Rattle.expr_type.specs.Placed.{Ascend}
 use Rattle.order_laws.specs.Ordered.{Tokens, in_row, if_there, expr_tokens, type_tokens, declarator_tokens}
 use Rattle.least_laws.specs.Trees as W
-use Rattle.least_laws.specs.Trees.{binds_tokens, instance_tokens, generate_loop_tokens, choice_tokens, block_tokens, item_tokens, else_tokens, module_tokens, package_item_tokens, unit_tokens}
+use Rattle.least_laws.specs.Trees.{binds_tokens, instance_tokens, connection_tokens, generate_loop_tokens, choice_tokens, block_tokens, item_tokens, else_tokens, module_tokens, package_item_tokens, unit_tokens}
 use Rattle.least_laws.proofs.Tests.{by-test}
 use Rattle.least_laws.proofs.Spans.{Spans, AllSpan}
 use Rattle.least_laws.proofs.ItemRows as G

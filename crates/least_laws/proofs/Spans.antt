@@ -10,7 +10,7 @@ use Rattle.ll_engine.specs.declared.tree.Tree.{Tree, Tree-F, out-Tree, out-roll-
 use Rattle.ll_engine.specs.declared.tree.Tree.TheVariants.{Leaf, Node, rolls-Leaf, rolls-Node}
 use Rattle.ll_engine.specs.Grammar.{terminal, named, is_optional, IsRowOf}
 use Rattle.ll_engine.specs.Reading as G
-use Rattle.ll_engine.specs.Reading.{Nested, left_after, level, inside}
+use Rattle.ll_engine.specs.Reading.{Nested, at_nesting, left_after, level, inside}
 use Rattle.ll_engine.specs.Texts.{Within}
 use Rattle.sv_tree.specs.Table.{table}
 use Rattle.expr_build.specs.Nodes.{kids_in, kids_of, kid, row_in, row_of, token_of, token, mark, mark_in, token_in, tree_or, is_none, is_blank}

@@ -12,7 +12,7 @@ use Rattle.expr_build.specs.Nodes.{kid, token, row_of, is_blank}
 use Rattle.expr_build.specs.Expressions.{expr_of, nesting_limit}
 use Rattle.expr_build.specs.Words.{qualified_of}
 use Rattle.expr_build.specs.Types as Y
-use Rattle.expr_build.specs.Types.{dims_of, type_within, type_of, declarator_of, declarators_of, declarators_behind, optional_initializer_of, initializer_of}
+use Rattle.expr_build.specs.Types.{dims_of, type_within, type_of, declarator_of, declarators_of, declarators_behind, optional_initializer_of, initializer_of, alone, scoped}
 use Rattle.expr_type.specs.Placed.{Ascend}
 use Rattle.order_laws.specs.Ordered.{name_tokens, dims_tokens, initial_tokens, base_tokens, enum_name_tokens, enum_names_tokens, field_tokens, fields_tokens, type_tokens, member_tokens, declarator_tokens, declarators_tokens}
 use Rattle.least_laws.proofs.Tests.{by-test}

@@ -1,6 +1,6 @@
 //! The bits that digits write, the least significant one first (IEEE 1800-2017 clause 5.7.1).
 
-ghost use Rattle.std.specs.Prelude.{◌≡◌, ◌+◌, ◌-◌, ◌++◌, drop, flat_map, replicate, reverse, IfOk, OnOk};
+ghost use Rattle.std.specs.Prelude.{◌≡◌, ◌+◌, ◌-◌, ◌++◌, drop, flat_map, length, replicate, reverse, take, IfOk, OnOk};
 ghost use Rattle.std.specs.List.{list_all};
 ghost use Rattle.b4_core.specs.Bits.{bit_of};
 ghost use Rattle.b4_core.specs.Vectors.{digits};

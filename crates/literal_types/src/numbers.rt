@@ -1,6 +1,6 @@
 //! The numbers that digits write (IEEE 1800-2017 clause 5.7.1).
 
-ghost use Rattle.std.specs.Prelude.{◌≡◌, ◌%◌, ◌^◌, filter, min, IfOk};
+ghost use Rattle.std.specs.Prelude.{◌≡◌, ◌≤◌, ◌%◌, ◌^◌, filter, min, IfOk};
 ghost use Rattle.expr_type.specs.Literals as number;
 
 use crate::characters::{digit_value, is_digit};

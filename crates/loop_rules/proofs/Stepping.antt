@@ -1,5 +1,5 @@
 -- What is known in the turns of a loop.
-use Rattle.std.proofs.Common.{◌≡◌, ℕ, suc, true, false, List, ◌∷◌, Option, Some, None, ap, sym, ◌∙◌, subst}
+use Rattle.std.proofs.Common.{◌≡◌, ℕ, zero, suc, Bool, true, false, List, ◌∷◌, Option, Some, None, Result, Ok, Err, refl, ap, sym, ◌∙◌, subst}
 use Rattle.b4_core.specs.declared.bit.Bit4.{Bit4}
 use Rattle.sv_types.specs.declared.expression.Expr.{Expr}
 use Rattle.sv_types.specs.declared.statement.Function.{Function}
@@ -11,6 +11,7 @@ use Rattle.sv_types.specs.Expressions.{meaning}
 use Rattle.sv_types.specs.Flows.{knowing}
 use Rattle.sv_types.proofs.Heads.{heads}
 use Rattle.eval_stmts.specs.declared.controls.Control.{Control}
+use Rattle.expr_flows.specs.declared.known.Known.{Known}
 use Rattle.expr_flows.specs.declared.known.Variable.{Variable}
 use Rattle.expr_flows.specs.Known.{sight_in}
 use Rattle.part_flows.specs.Locals.{LocalHolds}

@@ -1,5 +1,6 @@
 -- The turns of a loop, as the code has them.
-use Rattle.std.specs.Prelude.{◌≡◌, ⊤, ℕ, suc, true, false, Option, Some, None, Result, Ok, Err}
+use Rattle.std.specs.Prelude.{◌≡◌, ⊤, ℕ, suc, true, false, List, Option, Some, None, Result, Ok, Err}
+use Rattle.b4_core.specs.declared.bit.Bit4.{Bit4}
 use Rattle.sv_types.specs.Surroundings.{Sight}
 use Rattle.sv_types.specs.Runs.{is_true}
 use Rattle.sv_types.specs.Expressions.{meaning}

@@ -4,6 +4,9 @@ ghost use Rattle.std.specs.Prelude.{◌≡◌, ◌≤◌, ◌^◌, length, IfOk}
 ghost use Rattle.comb_order.specs.Bits.{KeepsLimits};
 ghost use Rattle.design_breaks.specs.Breaks as B;
 ghost use Rattle.edge_breaks.specs.Joins.{LinksStand};
+ghost use Rattle.flow_breaks.specs.Pieces.{AreFound};
+ghost use Rattle.proc_rules.specs.Functions.{AreBodies, AreFunctionLoops};
+ghost use Rattle.proc_rules.specs.Processes.{AreLoops};
 ghost use Rattle.unroll_laws.specs.Bodies.{DesignFits};
 ghost use Rattle.loop_rules.specs.Looked.{AreProcesses, AreFunctions};
 

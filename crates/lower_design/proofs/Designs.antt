@@ -1,7 +1,7 @@
 -- What is lowered of a design's core form is right for the design.
-use Rattle.std.proofs.Common.{◌≡◌, ◌⊎◌, ℕ, zero, suc, Bool, true, false, List, [], ◌∷◌, Some, None, sym, ap, subst, ◌∙◌, inl, inr, arith}
+use Rattle.std.proofs.Common.{◌≡◌, ◌⊎◌, ℕ, zero, suc, ◌≤◌, ◌^◌, Bool, true, false, List, [], ◌∷◌, length, Option, Some, None, refl, sym, ap, subst, ◌∙◌, inl, inr, arith}
 use Rattle.std.specs.Prelude.{nat_le, if◌then◌else◌}
-use Rattle.std.specs.List.{slice_get}
+use Rattle.std.specs.List.{slice_get, AllZip}
 use Rattle.std.proofs.lemmas.Bool.{false≢true}
 use Rattle.row_machine.specs.Valuation.{Valuation, Member}
 use Rattle.row_machine.specs.Places.{vector_at}
@@ -16,17 +16,20 @@ use Rattle.core_forms.specs.Forms.{then_one, each, signal_kind_of, signal_with, 
 use Rattle.core_forms.specs.Laws.{IsModest}
 use Rattle.core_forms.proofs.Expressions.{one-some, two-some, none-some}
 use Rattle.core_forms.proofs.Machines.{cores_have_the_traces}
+use Rattle.sv_core.specs.declared.design.SignalKind.{SignalKind}
+use Rattle.sv_core.specs.declared.design.SignalKind.TheVariants.{InputNet}
 use Rattle.sv_core.specs.declared.design.Signal.{Signal}
 use Rattle.sv_core.specs.declared.design.ProcessKind.{ProcessKind}
 use Rattle.sv_core.specs.declared.design.ProcessKind.TheVariants.{Continuous, Comb, Edges}
 use Rattle.sv_core.specs.declared.design.Process.{Process}
+use Rattle.sv_core.specs.declared.design.Stmt.{Stmt}
 use Rattle.sv_core.specs.declared.design.Design.{Design}
 use Rattle.sv_core.specs.Statements.{Doing, doing, stmt_doing}
 use Rattle.sv_core.specs.Machine as Core
 use Rattle.v_tree.specs.declared.items.VDesign.{VDesign}
 use Rattle.v_tree.specs.Rules.{FitsTop}
 use Rattle.v_meaning.specs.Machine as Target
-use Rattle.lower_design.specs.Translatable.{is_input, KindFits, targets_by, Translatable}
+use Rattle.lower_design.specs.Translatable.{is_input, KindFits, targets_by, targets_of, Translatable}
 use Rattle.lower_design.specs.Agreement.{Agree, TracesAgree, held, of_top}
 use Rattle.lower_design.specs.Lowering.{Lowers}
 use Rattle.lower_design.specs.Designs.{IsTranslatable, DesignsAgree, DesignTracesAgree, LowersDesign}

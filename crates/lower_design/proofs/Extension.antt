@@ -26,7 +26,7 @@ use Rattle.sv_core.specs.declared.design.Stmt.TheVariants as S
 use Rattle.sv_core.specs.declared.design.Design.{Design}
 use Rattle.sv_core.specs.Numbers.{each_once}
 use Rattle.sv_core.specs.Statements as SD
-use Rattle.sv_core.specs.Statements.{width_of, width_or_zero, doing, stmt_doing}
+use Rattle.sv_core.specs.Statements.{width_of, width_or_zero, doing, stmt_doing, expr_signals}
 use Rattle.sv_core.specs.Machine as Source
 use Rattle.sv_core.specs.Machine.{comb_process, edge_process}
 use Rattle.v_tree.specs.declared.items.VProcess.TheVariants.{Assign as Drive}
@@ -35,9 +35,10 @@ use Rattle.v_meaning.specs.Values.{meaning}
 use Rattle.v_meaning.specs.Statements.{covered, covers, assignment, doing_of}
 use Rattle.v_meaning.specs.Statements as TD
 use Rattle.v_meaning.specs.Modules as T
+use Rattle.v_meaning.specs.Modules.{always_on, on_change, on_edges}
 use Rattle.v_meaning.specs.Machine as Target
 use Rattle.v_meaning.specs.Machine.{size}
-use Rattle.lower_design.specs.Translatable.{Translatable, KindFits, targets_by}
+use Rattle.lower_design.specs.Translatable.{Translatable, KindFits, targets_by, targets_of}
 use Rattle.lower_design.specs.Shape.{name_of, trigger, whole_of}
 use Rattle.lower_design.specs.Lowered.{triggered, lowered_expr, lowered_stmt, process_by, driver_in, whole_target, is_driven, drives, drives_in, drives_by, is_triggered, lowered}
 use Rattle.lower_design.proofs.Names.{true_or_false, member-at}

@@ -15,7 +15,7 @@ use Rattle.sv_core.specs.declared.design.Process.{Process}
 use Rattle.sv_core.specs.declared.design.Stmt.TheVariants as S
 use Rattle.sv_core.specs.declared.design.Design.{Design}
 use Rattle.sv_core.specs.Statements as SD
-use Rattle.sv_core.specs.Statements.{doing, stmt_doing}
+use Rattle.sv_core.specs.Statements.{doing, stmt_doing, expr_signals}
 use Rattle.v_tree.specs.Reading.{nesting_limit}
 use Rattle.v_tree.specs.Tokens.{is_name}
 use Rattle.v_tree.specs.Grammatical.{fit, fit_of_lval, form_of_branch, is_decimal, is_perhaps, is_branch, is_process, is_signal, has_some, is_item, is_of_grammar}

@@ -20,12 +20,12 @@ use Rattle.sv_core.specs.declared.design.Design.{Design}
 use Rattle.sv_core.specs.Statements as SD
 use Rattle.sv_core.specs.Statements.{doing, stmt_doing, expr_signals}
 use Rattle.v_tree.specs.Names.{Name, among, distinct}
-use Rattle.v_tree.specs.Scopes.{Declared, nowhere, bits_of}
+use Rattle.v_tree.specs.Scopes.{Thing, Declared, nowhere, repeated, bits_of}
 use Rattle.v_tree.specs.Scopes as Scopes
 use Rattle.v_tree.specs.ExprRules.{Around, rules_of, only_if, total, name_broken, is_net}
 use Rattle.v_tree.specs.StmtRules.{Target, lval_target, at_star, at_edges}
 use Rattle.v_tree.specs.Rules as Rules
-use Rattle.v_tree.specs.Rules.{Port, ports_of, declared_in, declared_by, signal_broken, width_broken, initial_broken, edges_broken, process_broken, items_broken, item_size, listed_ports, unlisted, undeclared, ports_size, module_broken, most_bits, Keeps, items_named, signal_bits, instantiated, instances_below, bits_below, FitsTop}
+use Rattle.v_tree.specs.Rules.{Port, ports_of, declared_in, declared_by, event_size, signal_broken, width_broken, initial_broken, edges_broken, process_broken, item_broken, items_broken, item_size, listed_ports, unlisted, undeclared, ports_size, module_broken, most_bits, Keeps, items_named, signal_bits, instantiated, instances_below, bits_below, FitsTop}
 use Rattle.v_tree.specs.declared.items.VItem.{VItem}
 use Rattle.v_tree.specs.declared.items.VItem.TheVariants as I
 use Rattle.v_tree.specs.declared.items.VModule.{VModule}

@@ -1,5 +1,5 @@
 -- The lowered design is right for its source.
-use Rattle.std.proofs.Common.{◌≡◌, true, List, [], ◌∷◌, map, sym, ap, subst, ◌∙◌}
+use Rattle.std.proofs.Common.{◌≡◌, ◌<◌, true, List, [], ◌∷◌, map, length, sym, ap, subst, ◌∙◌, arith}
 use Rattle.row_machine.specs.Valuation.{Place, Valuation, has}
 use Rattle.row_machine.specs.Places.{places_of, vector_at}
 use Rattle.row_machine.specs.Agreement.{lifted, TracesAgree as MachinesAgree}
@@ -16,9 +16,9 @@ use Rattle.lower_design.specs.Agreement.{Agree, TracesAgree, held, of_top}
 use Rattle.lower_design.specs.Shape.{path_or_nothing}
 use Rattle.lower_design.specs.Lowering.{Lowers}
 use Rattle.lower_design.specs.Lowered.{lowered}
-use Rattle.lower_design.proofs.Places.{vectors-same}
+use Rattle.lower_design.proofs.Places.{has-signal, vectors-same}
 use Rattle.lower_design.proofs.Refinement.{under_own, lifted_below, same_rows}
-use Rattle.lower_design.proofs.Items.{all-signals, top-items, sc, found-at}
+use Rattle.lower_design.proofs.Items.{all-signals, top-items, sc, found-at, below-get}
 use Rattle.lower_design.proofs.Machines.{is_own, place-own}
 use Rattle.lower_design.proofs.Meanings.{image}
 use Rattle.lower_design.proofs.Extension.{extra, translated}

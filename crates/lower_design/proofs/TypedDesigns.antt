@@ -1,5 +1,5 @@
 -- A core design that is translated is translated as an elaborated design too.
-use Rattle.std.proofs.Common.{◌≡◌, ◌⊎◌, ℕ, zero, suc, ◌+◌, ◌<◌, ◌≤◌, max, Bool, true, false, List, [], ◌∷◌, ◌++◌, map, length, Option, Some, None, refl, sym, ap, subst, ◌∙◌, inl, inr, arith}
+use Rattle.std.proofs.Common.{◌≡◌, ◌⊎◌, ℕ, zero, suc, ◌+◌, ◌<◌, ◌≤◌, max, Bool, true, false, List, [], ◌∷◌, ◌++◌, map, flat_map, length, Option, Some, None, refl, sym, ap, subst, ◌∙◌, inl, inr, arith}
 use Rattle.std.specs.Prelude.{nat_le, if◌then◌else◌}
 use Rattle.std.specs.List.{slice_get}
 use Rattle.std.specs.Option.{option_map}
@@ -10,15 +10,17 @@ use Rattle.b4_core.specs.declared.operators.UnOp.TheVariants.{Not}
 use Rattle.b4_core.specs.declared.operators.BinOp.{BinOp}
 use Rattle.row_machine.specs.Valuation.{Member}
 use Rattle.row_machine.proofs.Members.{append-member, member-front, member-back, map-member}
+use Rattle.sv_types.specs.declared.types.SvType.{SvType}
 use Rattle.sv_types.specs.declared.expression.Expr.{Expr as Typed}
-use Rattle.sv_types.specs.declared.expression.Form.{Form-F, out-Form, out-roll-Form}
+use Rattle.sv_types.specs.declared.expression.Form.{Form, Form-F, out-Form, out-roll-Form}
 use Rattle.sv_types.specs.declared.expression.Form.TheVariants as V
 use Rattle.sv_types.specs.declared.design.Signal.{Signal as TypedSignal}
 use Rattle.sv_types.specs.declared.design.Process.{Process as TypedProcess}
 use Rattle.sv_types.specs.Layouts as Layouts
 use Rattle.core_forms.specs.Forms.{then_one, then_two, each, primary_in, primary_of, operand_with, operand_in, operand_of, binary_with, expr_in, expr_of, target_in, if_of, assign_with, stmt_of, edge_of, kind_of, process_with, process_of, signal_kind_of, signal_of, design_with, core_of}
 use Rattle.core_forms.specs.Typing.{IsVector, width_or_zero, width_in, PrimaryIn, PrimaryTyped, OperandIn, OperandTyped, ExprIn, ExprTyped, all_of, exprs_in, IsPlain}
-use Rattle.core_forms.specs.Typed.{nowhere, vector_of, node, bits_of, typed_primary, inverted_if, typed_operand, typed_expr, typed_stmt, typed_edge, typed_kind, typed_process, typed_signal_kind, typed_signal, typed}
+use Rattle.core_forms.specs.Typed.{nowhere, vector_of, node, typed_form, bits_of, typed_primary, inverted_if, typed_operand, typed_expr, typed_stmt, typed_edge, typed_kind, typed_process, typed_signal_kind, typed_signal, typed}
+use Rattle.core_forms.proofs.Gathering.{each-map}
 use Rattle.core_forms.proofs.Levels.{of-block, of-If, of-Assign, in-Block, in-If, in-Assign}
 use Rattle.core_forms.proofs.TypedLevels.{typed-Block, typed-If, typed-Assign}
 use Rattle.core_forms.proofs.Vectors.{vector-is, vector-width}
@@ -27,6 +29,7 @@ use Rattle.sv_core.specs.declared.design.SignalKind.TheVariants.{InputNet, Outpu
 use Rattle.sv_core.specs.declared.design.Signal.{Signal}
 use Rattle.sv_core.specs.declared.design.Primary.{Primary}
 use Rattle.sv_core.specs.declared.design.Primary.TheVariants as P
+use Rattle.sv_core.specs.declared.design.Operand.{Operand}
 use Rattle.sv_core.specs.declared.design.Expr.{Expr}
 use Rattle.sv_core.specs.declared.design.Expr.TheVariants.{Single, Binary}
 use Rattle.sv_core.specs.declared.design.EdgeOn.{EdgeOn}
@@ -43,7 +46,7 @@ use Rattle.lower_design.specs.Designs.{IsTranslatable}
 use Rattle.lower_design.proofs.Induction.{Steps, by_statement}
 use Rattle.lower_design.proofs.Levels.{block-level, alone-level, either-level, assign-level}
 use Rattle.lower_design.proofs.Names.{member-at}
-use Rattle.lower_design.proofs.Items.{get-below}
+use Rattle.lower_design.proofs.Items.{get-below, below-get}
 use Rattle.lower_design.proofs.Extension.{uses-signals}
 
 -- lists that are made there and back

@@ -1,6 +1,6 @@
 //! Declarations of signals.
 
-ghost use Rattle.std.specs.Prelude.{◌≡◌, ◌<◌, ◌||◌, ℕ, [], ◌∷◌, map, filter, length, slice_index_or, false, None, IfOk};
+ghost use Rattle.std.specs.Prelude.{◌≡◌, ◌<◌, ◌||◌, ℕ, [], ◌∷◌, ◌++◌, map, filter, length, slice_index_or, replicate, false, None, IfOk};
 ghost use Rattle.std.specs.List.{list_any};
 ghost use Rattle.sv_core.specs.declared.design.Process.{Process as DesignProcess};
 ghost use Rattle.sv_core.specs.declared.design.Signal.{Signal as DesignSignal};

@@ -1,6 +1,6 @@
 //! The target design of a core design.
 
-ghost use Rattle.std.specs.Prelude.{◌≡◌, IfOk};
+ghost use Rattle.std.specs.Prelude.{◌≡◌, ◌++◌, IfOk};
 ghost use Rattle.lower_design.specs.Lowered.{AllFit, lowered, lowered_items, process_items};
 ghost use Rattle.lower_design.specs.Lowering.{Lowers};
 ghost use Rattle.lower_design.specs.Translatable.{Translatable};

@@ -1,6 +1,7 @@
 //! Processes and what they run.
 
-ghost use Rattle.std.specs.Prelude.{◌≡◌, ◌∷◌, map, None, IfOk};
+ghost use Rattle.std.specs.Prelude.{◌≡◌, [], ◌∷◌, map, None, IfOk};
+ghost use Rattle.std.specs.Option.{option_map};
 ghost use Rattle.sv_core.specs.declared.design.ProcessKind.TheVariants.{Continuous};
 ghost use Rattle.v_tree.specs.declared.statements.VBranch.TheVariants.{Statement};
 ghost use Rattle.v_tree.specs.declared.statements.VStmt.TheVariants.{Block};

@@ -26,7 +26,7 @@ use Rattle.memory_breaks.specs.Marks.{Part, marked, writes_marked}
 use Rattle.memory_breaks.specs.Memories.{is_unknown, is_kept_by_edges, is_memory}
 use Rattle.memory_breaks.specs.Processes as P
 use Rattle.memory_breaks.specs.Wide as W
-use Rattle.memory_breaks.specs.Wide.{IsKnown, AreMarked}
+use Rattle.memory_breaks.specs.Wide.{IsKnown, AreMarked, wide_breaks}
 use Rattle.memory_breaks.proofs.Marking.{one-marked}
 use Rattle.memory_breaks.proofs.Writing as G
 use Rattle.memory_breaks.proofs.Writing.{all_by, edged_of, other_of}

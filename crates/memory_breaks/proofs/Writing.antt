@@ -25,7 +25,7 @@ use Rattle.flow_targets.proofs.Sparing.{spares}
 use Rattle.design_breaks.specs.Actions.{actions}
 use Rattle.design_breaks.specs.Memories.{is_edged, flow, may_write, mentions_whole}
 use Rattle.design_breaks.specs.Breaks as B
-use Rattle.design_breaks.specs.Breaks.{formals, names_it}
+use Rattle.design_breaks.specs.Breaks.{formals, names_it, is_settled}
 use Rattle.memory_breaks.specs.declared.processes.Written.{Written}
 use Rattle.memory_breaks.specs.Marks.{Part, marked, writes_marked}
 use Rattle.memory_breaks.specs.Processes as W

@@ -1,6 +1,7 @@
 //! What all processes name, mention and may write.
 
 ghost use Rattle.std.specs.Prelude.{◌≡◌, false, length, replicate, IfOk, OnOk};
+ghost use Rattle.sv_types.specs.declared.design.Design.{Design};
 ghost use Rattle.design_breaks.specs.Memories.{is_edged};
 ghost use Rattle.memory_breaks.specs.Processes as spec;
 

@@ -7,7 +7,7 @@ ghost use Rattle.flow_breaks.specs.Pieces.{AreFound};
 ghost use Rattle.design_breaks.specs.Breaks as B;
 ghost use Rattle.least_breaks.specs.Least.{IsLeast};
 ghost use Rattle.memory_breaks.specs.Wide as spec;
-ghost use Rattle.memory_breaks.specs.Wide.{AreMarked};
+ghost use Rattle.memory_breaks.specs.Wide.{IsKnown, AreMarked};
 
 use crate::memories::{Known, is_memory, is_unpacked_array};
 use crate::processes::{Written, all_unsettled, all_whole, all_written};

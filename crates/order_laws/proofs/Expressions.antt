@@ -15,7 +15,7 @@ use Rattle.expr_type.specs.Expressions.{CastMeaning, DimensionMeaning, ItemMeani
 use Rattle.expr_type.specs.Placed.{Ascend}
 use Rattle.order_laws.specs.Meanings.{ExprInOrder}
 use Rattle.order_laws.specs.Ordered as O
-use Rattle.order_laws.specs.Ordered.{Tokens, cast_tokens, dimension_tokens, expr_tokens, in_row, pattern_item_tokens, pattern_tokens, range_tokens, select_tokens, slice_tokens}
+use Rattle.order_laws.specs.Ordered.{Tokens, cast_tokens, dimension_tokens, expr_tokens, if_there, in_row, name_tokens, pattern_item_tokens, pattern_tokens, range_tokens, select_tokens, slice_tokens}
 use Rattle.order_laws.proofs.Forms as F
 use Rattle.order_laws.proofs.Items as I
 use Rattle.order_laws.proofs.Meant.{CastInOrder, DimensionInOrder, ItemInOrder, PatternInOrder, RangeInOrder, SelectStands, SliceInOrder}

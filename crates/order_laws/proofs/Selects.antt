@@ -14,7 +14,7 @@ use Rattle.sv_types.specs.declared.types.SvType.{SvType}
 use Rattle.sv_types.specs.Layouts.{width_of}
 use Rattle.expr_type.specs.Expressions.{DimensionMeaning, Meaning, between, bounds, dimension_step, most_of_unpacked, part_dimension, part_step, select_step, slice_size_step, type_of_name}
 use Rattle.expr_type.specs.Forms as F
-use Rattle.expr_type.specs.Forms.{SelectMeaning, dimensioned, dimensions, slice_of, slice_within, type_of_thing, under}
+use Rattle.expr_type.specs.Forms.{SelectMeaning, dimensioned, dimensions, slice_by_name, slice_of, slice_within, type_of_thing, under}
 use Rattle.expr_type.specs.KeywordTypes.{Dim, keyword_type, named_type}
 use Rattle.expr_type.specs.Literals as L
 use Rattle.expr_type.specs.Names.{Context, Source, position, thing, word}

@@ -12,7 +12,7 @@ use Rattle.expr_type.specs.Statements.{variables_of, selected_type, parameters, 
 use Rattle.expr_type.specs.Placed.{Ascend}
 use Rattle.order_laws.specs.Meanings.{ExprInOrder}
 use Rattle.order_laws.specs.Ordered as O
-use Rattle.order_laws.specs.Ordered.{Tokens, in_row, expr_tokens, exprs_tokens, selects_tokens, type_tokens, declarators_tokens, start_tokens, loop_step_tokens, stmt_tokens, block_item_tokens, case_item_tokens, else_tokens, items_tokens}
+use Rattle.order_laws.specs.Ordered.{Tokens, in_row, scope_tokens, name_tokens, expr_tokens, exprs_tokens, selects_tokens, type_tokens, declarators_tokens, start_tokens, loop_step_tokens, stmt_tokens, block_item_tokens, case_item_tokens, else_tokens, items_tokens}
 use Rattle.order_laws.proofs.Tokens.{split}
 use Rattle.order_laws.proofs.Typings.{Each, any-from}
 use Rattle.order_laws.proofs.Parts.{Ordered, PartsInOrder, each-in-row, each-known, each-of, named}

@@ -1,11 +1,12 @@
 -- What is kept beside a table, one more thing at a time.
-use Rattle.std.proofs.Common.{◌≡◌, ℕ, ◌+◌, ◌<◌, ◌⊎◌, inl, inr, Bool, true, false, nat_eq, if◌then◌else◌, List, [], ◌∷◌, ◌++◌, length, drop, get_or, Option, Some, None, refl, sym, ap, ◌∙◌, append_assoc, arith}
+use Rattle.std.proofs.Common.{◌≡◌, ℕ, suc, ◌+◌, ◌<◌, ◌≤◌, ◌⊎◌, inl, inr, Bool, true, false, nat_eq, if◌then◌else◌, List, [], ◌∷◌, ◌++◌, length, drop, get_or, Option, Some, None, refl, sym, ap, ◌∙◌, append_assoc, arith}
 use Rattle.std.specs.Prelude.{filter, flat_map}
 use Rattle.std.proofs.lemmas.Bool.Decides.{nat_tests}
 use Rattle.std.proofs.lemmas.List.{drop_more, drop_all}
 use Rattle.sv_source.specs.declared.token.Token.{Token}
 use Rattle.package_scope.specs.Finding.{use_found, found_at, put_found, declared_at, numbered_at, is_loop_of, with_loop}
 use Rattle.package_scope.specs.Rules.{finds, use_or, use_at, declaration_of, number_at}
+use Rattle.package_scope.specs.declared.table.Declaration.{Declaration}
 use Rattle.package_scope.specs.declared.table.Found.{Found}
 use Rattle.package_scope.specs.declared.table.LoopRun.{LoopRun}
 use Rattle.package_scope.specs.declared.table.Table.{Table}

@@ -1,5 +1,5 @@
 -- One scope further out, and one scope further on.
-use Rattle.std.proofs.Common.{◌≡◌, ℕ, ◌+◌, ◌<◌, false, nat_eq, cond, List, ◌∷◌, length, drop, get_or, sym, ap, ◌∙◌, add-one}
+use Rattle.std.proofs.Common.{◌≡◌, ℕ, suc, ◌+◌, ◌<◌, false, nat_eq, cond, List, ◌∷◌, length, drop, get_or, sym, ap, ◌∙◌, add-one}
 use Rattle.std.proofs.lemmas.List.{drop_more}
 use Rattle.package_scope.specs.Innermost.{holds, last_holder}
 use Rattle.package_scope.specs.Lookup.{in_scope, or_outer, unless_last, outwards}

@@ -1,11 +1,14 @@
 -- What is kept for `.*`, one more thing at a time.
-use Rattle.std.proofs.Common.{◌≡◌, ℕ, suc, ◌+◌, ◌-◌, ◌<◌, ◌≤◌, ◌⊎◌, inl, inr, min, Bool, true, false, ◌||◌, cond, nat_eq, if◌then◌else◌, List, [], ◌∷◌, length, take, drop, get_or, Option, Some, None, is_some, refl, sym, ap, ◌∙◌, arith, length-take}
+use Rattle.std.proofs.Common.{◌≡◌, ℕ, zero, suc, ◌+◌, ◌-◌, ◌<◌, ◌≤◌, ◌⊎◌, inl, inr, min, Bool, true, false, ◌||◌, cond, nat_eq, if◌then◌else◌, List, [], ◌∷◌, length, take, drop, get_or, Option, Some, None, is_some, refl, sym, ap, ◌∙◌, add-one, arith, length-take}
 use Rattle.std.proofs.lemmas.Bool.{cases_lt}
 use Rattle.std.proofs.lemmas.List.{drop_more, drop_all, drop-take, take_all}
 use Rattle.std.specs.List.{list_any}
+use Rattle.package_scope.specs.Index.{under, puts}
 use Rattle.package_scope.specs.Lookup.{or_later}
 use Rattle.package_scope.specs.Rests.{put_end, end_or, link_from}
 use Rattle.package_scope.specs.Rules.{head_of, is_link_to}
+use Rattle.package_scope.specs.declared.names.Names.{Names}
+use Rattle.package_scope.specs.declared.names.Slots.{Slots}
 use Rattle.package_scope.specs.declared.table.Head.{Head}
 use Rattle.package_scope.specs.declared.table.Link.{Link}
 

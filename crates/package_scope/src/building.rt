@@ -1,13 +1,13 @@
 //! The table of a text, from what happens to names in it.
 
-ghost use Rattle.std.specs.Prelude.{◌≡◌, IfOk, OnOk};
+ghost use Rattle.std.specs.Prelude.{◌≡◌, [], ◌∷◌, IfOk, OnOk};
 ghost use Rattle.package_scope.specs.Tables as means;
 
 use crate::table::{
     DeclKind, Declaration, Head, Link, LoopRun, NamedImport, Rest, Scope, Table, Use,
     WildcardImport,
 };
-use name_events::{Declared, Event, Role, ScopeKind, SelectPath};
+use name_events::{Declared, Event, Role, ScopeKind, SelectPath, events_of};
 use std::alloc::{AllocError, Global};
 use sv_source::{Items, Text, Token, at};
 use sv_tree::SourceTree;

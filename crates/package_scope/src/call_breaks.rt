@@ -1,6 +1,6 @@
 //! Calls in circles, and early calls.
 
-ghost use Rattle.std.specs.Prelude.{◌≡◌, ◌++◌, IfOk, OnOk};
+ghost use Rattle.std.specs.Prelude.{◌≡◌, ◌++◌, flat_map, IfOk, OnOk};
 ghost use Rattle.package_scope.specs.Rules as means;
 
 use crate::breaks::Break;

@@ -2,6 +2,7 @@
 
 ghost use Rattle.std.specs.Prelude.{◌≡◌, ◌||◌, ℕ, List, None, IfOk, OnOk};
 ghost use Rattle.package_scope.specs.Earliest as means;
+ghost use Rattle.package_scope.specs.Index.{number_in};
 ghost use Rattle.package_scope.specs.Least.{joined, least_over};
 ghost use Rattle.package_scope.specs.Rules as rules;
 

@@ -1,6 +1,6 @@
 //! What a name stands for.
 
-ghost use Rattle.std.specs.Prelude.{◌≡◌, slice_get};
+ghost use Rattle.std.specs.Prelude.{◌≡◌, length, filter, slice_get};
 ghost use Rattle.package_scope.specs.Index.{Indexed, number_in, slots_in, under_number};
 ghost use Rattle.package_scope.specs.Lookup as means;
 ghost use Rattle.package_scope.specs.Packages as packages;

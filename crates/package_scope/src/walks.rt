@@ -1,6 +1,6 @@
 //! What stands around a scope.
 
-ghost use Rattle.std.specs.Prelude.{◌≡◌, ◌<◌, ◌^◌, cond, length};
+ghost use Rattle.std.specs.Prelude.{◌≡◌, ◌<◌, ◌^◌, cond, length, is_some};
 ghost use Rattle.package_scope.specs.Innermost.{holds, last_holder};
 ghost use Rattle.package_scope.specs.Rules as means;
 

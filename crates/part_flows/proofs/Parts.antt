@@ -6,7 +6,7 @@ use Rattle.row_machine.specs.Valuation.{put}
 use Rattle.bit_sets.specs.declared.span.Span.{Span}
 use Rattle.bit_sets.specs.declared.span.Use.{Use}
 use Rattle.sv_types.specs.Surroundings as S
-use Rattle.sv_types.specs.Surroundings.{Sight, local_number}
+use Rattle.sv_types.specs.Surroundings.{Sight, Parameter, local_number}
 use Rattle.sv_types.specs.Meanings.{Meaning}
 use Rattle.sv_types.specs.Windows.{Window, whole, written as put_written}
 use Rattle.sv_types.specs.Flows as F

@@ -1,7 +1,7 @@
 //! What is known of calls of tasks and void functions (IEEE 1800-2017 clause 13.5): the inputs are read, and then the outputs are
 //! written in the order of the formals.
 
-ghost use Rattle.std.specs.Prelude.{◌≡◌, true, map};
+ghost use Rattle.std.specs.Prelude.{◌≡◌, ◌≤◌, true, map};
 ghost use Rattle.sv_types.specs.Expressions.{meaning};
 ghost use Rattle.sv_types.specs.Flows as F;
 ghost use Rattle.sv_types.specs.Functions.{parameter};

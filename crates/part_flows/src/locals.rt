@@ -3,6 +3,7 @@
 ghost use Rattle.std.specs.Prelude.{◌≡◌, ◌∷◌, IfOk, OnOk, length};
 ghost use Rattle.std.specs.Prelude.{Bool, List};
 ghost use Rattle.sv_types.specs.Flows as F;
+ghost use Rattle.sv_types.specs.Surroundings.{local_number};
 ghost use Rattle.flow_sets.specs.Ends.{AreKnown};
 ghost use Rattle.flow_sets.specs.Flows.{IsFlow};
 ghost use Rattle.part_flows.specs.Locals.{LocalHolds};

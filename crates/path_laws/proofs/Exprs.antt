@@ -23,7 +23,7 @@ use Rattle.expr_type.specs.KeywordTypes.{Dim, keyword_type}
 use Rattle.expr_type.specs.TargetNames.{actual_target, packed_target, is_packed_target}
 use Rattle.expr_type.specs.Forms.{SelectMeaning, dimensioned, dimensions, type_of_thing}
 use Rattle.expr_type.specs.Expressions as E
-use Rattle.expr_type.specs.Expressions.{Meaning, CastMeaning, DimensionMeaning, PatternMeaning, ItemMeaning, SliceMeaning, RangeMeaning, keyword_dimensions, type_of_name, if_all, expr_step, meaning, dimension_meaning, select_meaning, slice_meaning}
+use Rattle.expr_type.specs.Expressions.{Meaning, CastMeaning, DimensionMeaning, PatternMeaning, ItemMeaning, SliceMeaning, RangeMeaning, keyword_dimensions, type_of_name, if_all, joined_targets, expr_step, meaning, dimension_meaning, select_meaning, slice_meaning}
 use Rattle.typing_fits.proofs.Contexts.{refused-then}
 use Rattle.typing_fits.proofs.Operators.{ok-is}
 use Rattle.typing_walks.proofs.Walk.{cast_meaning, pattern_meaning, item_meaning, range_meaning}

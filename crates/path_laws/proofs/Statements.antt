@@ -40,7 +40,7 @@ use Rattle.expr_type.specs.TargetNames.{named_target}
 use Rattle.expr_type.specs.Targets as T
 use Rattle.expr_type.specs.Targets.{Target, ToPath, target, parts_of, simple_name}
 use Rattle.expr_type.specs.Statements as S
-use Rattle.expr_type.specs.Statements.{operator_of, is_later, combined, assign, assignment, continuous, one, step_operator, counted, Declared, behind, variables_of, selected_type, parameters, IsValue, OfValue, BlockPart, IsStatement, IsDeclared, PartMeaning, behind_part, block_parts, in_block, built, block, empty, result, return_value, returned, condition, Branches, branches, case_kind, CaseItem, CaseFound, CaseMeaning, whole_item, case_items, default_body, item_at, selector_at, widest, case_stmt, first_by, LoopVariable, loop_type, loop_variable, in_loop, id_of, loop_step, control, Turns, turns, loop_stmt, Actual, all_actuals, call_stmt_of, counted_call, ways, actuals, call_stmt, StmtMeaning, else_if, item_meaning, stmt_meaning}
+use Rattle.expr_type.specs.Statements.{operator_of, is_later, combined, assign, assignment, continuous, one, step_operator, counted, Declared, behind, variables_of, selected_type, parameters, IsValue, OfValue, BlockPart, IsStatement, IsDeclared, PartMeaning, behind_part, block_parts, in_block, built, block, empty, result, return_value, returned, condition, Branches, branches, case_kind, CaseItem, CaseFound, CaseMeaning, whole_item, case_items, default_body, item_at, selector_at, widest, case_stmt, first_by, LoopVariable, loop_type, loop_variable, in_loop, id_of, loop_step, Control, control, Turns, turns, loop_stmt, Actual, all_actuals, call_stmt_of, counted_call, ways, actuals, call_stmt, StmtMeaning, else_if, typed_stmt, item_meaning, stmt_meaning}
 use Rattle.typing_fits.proofs.Calls.{all-front, none-all}
 use Rattle.typing_fits.proofs.Contexts.{refused-then, whole-part, joined-both}
 use Rattle.typing_fits.proofs.Selects.{long-then}

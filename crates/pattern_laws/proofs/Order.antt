@@ -3,7 +3,7 @@ use Rattle.std.proofs.Common.{◌≡◌, ◌⊎◌, inl, inr, ◌<◌, ◌≤◌
 use Rattle.std.specs.Prelude.{Ok, Err, nat_lt, ◌&&◌, ◌||◌, ◌==◌}
 use Rattle.std.proofs.lemmas.Bool.Decides.{nat_tests}
 use Rattle.expr_type.specs.Answers.{Break, first_break, or_next, reason}
-use Rattle.expr_type.specs.Breaks.{At, And, Behind, Breaks, Key, Quiet, first, key_at}
+use Rattle.expr_type.specs.Breaks.{At, And, Behind, Breaks, Key, Position, Quiet, first, key_at}
 use Rattle.expr_type.specs.Breaks as B
 use Rattle.expr_type.specs.Names.{Source, position}
 use Rattle.expr_type.specs.Typings.{Checked, first_before, lesser}

@@ -22,7 +22,7 @@ use Rattle.pattern_types.specs.declared.looks.Look.{Look}
 use Rattle.pattern_types.specs.Meaning as R
 use Rattle.pattern_types.specs.declared.takes.Taking.{Taking}
 use Rattle.pattern_types.specs.Leaves.{length_behind}
-use Rattle.pattern_types.specs.Meaning.{Pattern, fitted_in, item_keys, items_in, key_of, keyed_keys, keys_of, parts_of, pattern_of, tick_of, times_of, written_items}
+use Rattle.pattern_types.specs.Meaning.{Pattern, fitted_in, item_keys, items_in, key_of, keyed_keys, keys_of, filled, parts_of, pattern_of, tick_of, times_of, written_items}
 use Rattle.pattern_laws.specs.Reasons.{IsWhole, Reason}
 use Rattle.pattern_types.specs.Reasons.{Says, break_at, reason_of}
 use Rattle.pattern_types.specs.Takes.{IsTaking, default_keys, or_unfit, takes_in}

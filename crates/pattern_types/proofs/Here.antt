@@ -22,12 +22,12 @@ use Rattle.pattern_types.specs.declared.operand.NameKey.TheVariants as N
 use Rattle.pattern_types.specs.declared.operand.ItemKey.{ItemKey}
 use Rattle.pattern_types.specs.declared.operand.ItemKey.TheVariants as IK
 use Rattle.pattern_types.specs.declared.operand.Operand as O
-use Rattle.pattern_types.specs.declared.operand.Operand.{Operand-F, roll-Operand, map-Operand, ind-Operand}
+use Rattle.pattern_types.specs.declared.operand.Operand.{Operand-F, roll-Operand, map-Operand, ind-Operand, the_lemmas}
 use Rattle.pattern_types.specs.declared.operand.Operand.TheVariants as OV
 use Rattle.pattern_types.specs.declared.operand.Item as J
 use Rattle.pattern_types.specs.declared.operand.Item.{Item-F, roll-Item, map-Item}
 use Rattle.pattern_types.specs.Meaning as M
-use Rattle.pattern_types.specs.Meaning.{fitted_in, items_of, key_of, key_of_name, keys_of, operand_of, parts_of, pattern_of, written_items}
+use Rattle.pattern_types.specs.Meaning.{filled, fitted_in, item_of, items_in, items_of, key_of, key_of_name, keys_of, operand_of, parts_of, pattern_of, tick_of, written_items}
 use Rattle.pattern_types.proofs.Levels.{operand-Pattern, operand-Plain, operand-Stream}
 use Rattle.pattern_laws.proofs.Order.{Here, HereIf, lesser-here}
 use Rattle.pattern_laws.proofs.Tried.{HereGiven, least-here}

@@ -1,9 +1,10 @@
 //! What patterns make of a type where nothing in them breaks a rule.
 
-ghost use Rattle.std.specs.Prelude.{◌≡◌, ◌<◌, get_or, map, option_copied, replicate, zip, length};
+ghost use Rattle.std.specs.Prelude.{◌≡◌, ◌<◌, get_or, map, option_copied, replicate, zip, length, IfOk};
 ghost use Rattle.expr_type.specs.Answers.{Gives, source};
 ghost use Rattle.expr_type.specs.Operands as rule;
-ghost use Rattle.expr_type.specs.Patterns.{types_in, made};
+ghost use Rattle.expr_type.specs.Operators.{expr_at};
+ghost use Rattle.expr_type.specs.Patterns.{types_in, made, value_of};
 ghost use Rattle.expr_type.specs.Typings.{all_of};
 ghost use Rattle.sv_types.specs.declared.expression.Form.TheVariants as F;
 ghost use Rattle.pattern_types.specs.Filling.{at_place, item_number, spread_of, both_of, Adds, Fills, MakesPattern};

@@ -5,7 +5,7 @@ ghost use Rattle.expr_type.specs.Answers.{source};
 ghost use Rattle.expr_type.specs.Patterns.{has_members, times_over};
 ghost use Rattle.pattern_types.specs.Keys.{all_near, all_stand, plain_key};
 ghost use Rattle.pattern_types.specs.Meaning.{item_keys, items_in, keyed_keys, parts_in, times_of, values_of};
-ghost use Rattle.pattern_types.specs.Places.{rest_at};
+ghost use Rattle.pattern_types.specs.Places.{default_from, rest_at};
 ghost use Rattle.pattern_types.specs.Far.{IsTakenFar, near_bounds};
 ghost use Rattle.pattern_types.specs.Takes.{counts_fit, default_keys, halt_of, taken_of, TakesGive};
 

@@ -1,5 +1,5 @@
 -- What is found of all parts of a design holds of each.
-use Rattle.std.proofs.Common.{◌≡◌, ◌≤◌, ◌<◌, ◌^◌, ℕ, zero, suc, Bool, true, false, ◌||◌, not, cond, List, [], ◌∷◌, length, Some, None, inl, inr, refl, sym, subst}
+use Rattle.std.proofs.Common.{◌≡◌, ◌≤◌, ◌<◌, ◌^◌, ℕ, zero, suc, Bool, true, false, ◌||◌, not, cond, List, [], ◌∷◌, length, Some, None, inl, inr, refl, sym, ◌∙◌, subst}
 use Rattle.std.specs.Prelude.{is_some, slice_get}
 use Rattle.row_machine.specs.Valuation.{Member}
 use Rattle.sv_types.specs.declared.design.Design.{Design}
@@ -12,7 +12,7 @@ use Rattle.sv_types.specs.declared.statement.Function.{Function}
 use Rattle.sv_types.specs.declared.statement.Stmt.{Stmt}
 use Rattle.sv_types.specs.Layouts.{width_of}
 use Rattle.sv_types.specs.Statements.{doing}
-use Rattle.sv_types.specs.Surroundings.{is_signal}
+use Rattle.sv_types.specs.Surroundings.{Parameter, is_signal}
 use Rattle.eval_forms.specs.Callees.{formals_in}
 use Rattle.eval_runs.specs.Functions.{AllCanRun}
 use Rattle.eval_stmts.specs.Environments.{AllHeld}
@@ -21,7 +21,7 @@ use Rattle.stmt_flows.specs.Full.{stmt_full}
 use Rattle.full_calls.specs.Full.{FullIf}
 use Rattle.unroll_laws.specs.Passing.{passes_few}
 use Rattle.unroll_laws.specs.Bodies.{BodyFits, DesignFits}
-use Rattle.comb_order.specs.Bits.{AreNarrow}
+use Rattle.comb_order.specs.Bits.{KeepsLimits, AreNarrow}
 use Rattle.edge_breaks.specs.Joins.{LinksStand}
 use Rattle.proc_rules.specs.declared.bodies.Loops.{Loops}
 use Rattle.proc_rules.specs.Processes.{IsLoops}

@@ -17,7 +17,7 @@ use Rattle.sv_types.specs.Expressions.{meaning}
 use Rattle.eval_parts.proofs.TypeKinds.{wide-is}
 use Rattle.run_fits.specs.EvalStmts.{values_of}
 use Rattle.expr_type.specs.declared.operand.Valued.{Valued}
-use Rattle.expr_type.specs.Typings.{Checked, refused, at_all, where_whole, joined, all_of}
+use Rattle.expr_type.specs.Typings.{Checked, refused, unless, at_all, where_whole, joined, all_of}
 use Rattle.expr_type.specs.Names.{Called, Context, position, spot}
 use Rattle.expr_type.specs.Operands.{Operand, too_wide, width, given}
 use Rattle.expr_type.specs.Operators.{exprs, by_itself}

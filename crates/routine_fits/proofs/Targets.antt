@@ -17,7 +17,7 @@ use Rattle.expr_type.specs.Typings.{Checked, refused, where_whole, lesser}
 use Rattle.expr_type.specs.Shapes.{is_unpacked}
 use Rattle.expr_type.specs.Names.{Context, Source, position, spot}
 use Rattle.expr_type.specs.Operands as X
-use Rattle.expr_type.specs.Operands.{Operand, width, given, is_value}
+use Rattle.expr_type.specs.Operands.{Operand, too_wide, width, given, is_value}
 use Rattle.expr_type.specs.Operators.{all_bits, exprs, binary_of}
 use Rattle.expr_type.specs.Targets.{Target, ToPath, ToParts, ToStream, parts_of, has_enough, with_no_enum, given_to_parts, assigned}
 use Rattle.expr_type.specs.Statements.{operator_of, is_later, as_operand, combined, assign, assignment}

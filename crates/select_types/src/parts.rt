@@ -1,6 +1,6 @@
 //! Parts (IEEE 1800-2017 clauses 7.4.5, 7.4.6 and 11.5.1).
 
-ghost use Rattle.std.specs.Prelude.{◌≡◌, ◌≤◌, ◌-ℤ◌, pos, IfOk};
+ghost use Rattle.std.specs.Prelude.{◌≡◌, ◌≤◌, ◌-ℤ◌, pos, unsigned_abs, IfOk};
 ghost use Rattle.expr_type.specs.Answers.{Gives, source};
 ghost use Rattle.expr_type.specs.Selects as select;
 ghost use Rattle.operand_types.specs.Allowed.{IsNarrow};

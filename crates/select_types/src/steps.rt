@@ -1,6 +1,6 @@
 //! Steps of select paths (IEEE 1800-2017 clauses 7.2.1, 7.4.5 and 7.4.6).
 
-ghost use Rattle.std.specs.Prelude.{◌≡◌, nat_lt, IfOk};
+ghost use Rattle.std.specs.Prelude.{◌≡◌, ◌≤◌, nat_lt, IfOk};
 ghost use Rattle.expr_type.specs.Answers.{Gives, source};
 ghost use Rattle.expr_type.specs.Selects as select;
 ghost use Rattle.operand_types.specs.Allowed.{IsNarrow};

@@ -2,6 +2,7 @@
 
 ghost use Rattle.std.specs.Prelude.{◌≡◌, ℕ, None, IfOk, OnOk};
 ghost use Rattle.std.specs.Option.{option_map};
+ghost use Rattle.expr_type.specs.Functions.{name_of};
 ghost use Rattle.expr_type.specs.Routines.{named_at, routines};
 ghost use Rattle.source_routines.specs.Texts.{text_of, texts, routine_in, put_routine};
 

@@ -28,7 +28,7 @@ use Rattle.sv_types.proofs.Levels as L
 use Rattle.sv_types.proofs.Levels.{form_meaning, alternative, meaning-form}
 use Rattle.sv_types.proofs.Terms.{Each, Steps, by-expr}
 use Rattle.design_breaks.specs.Indices as I
-use Rattle.design_breaks.specs.Indices.{Said, SaidForm, SaidChoice, said, lesser, first_of, takes_too_long, all_said}
+use Rattle.design_breaks.specs.Indices.{Long, Said, SaidForm, SaidChoice, said, lesser, first_of, takes_too_long, all_said}
 use Rattle.design_breaks.specs.Spots as P
 use Rattle.design_breaks.specs.Spots.{Spots, all, expr_spots, exprs_spots}
 use Rattle.spot_laws.proofs.Each.{each-left, each-right, IfSome}

@@ -11,13 +11,14 @@ use Rattle.sv_types.specs.declared.statement.Outcome.TheVariants as N
 use Rattle.sv_types.specs.Surroundings.{Parameter, Sight}
 use Rattle.sv_types.specs.Expressions.{meaning}
 use Rattle.sv_types.specs.Flows as F
+use Rattle.sv_types.specs.Flows.{Flow, Flows}
 use Rattle.sv_types.specs.Statements as S
-use Rattle.sv_types.specs.Statements.{Doing, Item, doing, scope_flow}
+use Rattle.sv_types.specs.Statements.{Doing, Item, doing, scope_flow, initial_of}
 use Rattle.sv_types.proofs.DoingLevels as D
 use Rattle.sv_types.proofs.DoingLevels.{item_of}
 use Rattle.sv_types.proofs.Terms.{Each}
 use Rattle.design_breaks.specs.Unrolling as U
-use Rattle.design_breaks.specs.Unrolling.{starts_of}
+use Rattle.design_breaks.specs.Unrolling.{Control, starts_of}
 use Rattle.design_breaks.specs.Actions as A
 use Rattle.design_breaks.specs.Actions.{Actions, Assignment, Passed, actions, passed_to}
 use Rattle.design_breaks.specs.Spots.{Spots, all, or_none, expr_spots, exprs_spots, stmt_spots}

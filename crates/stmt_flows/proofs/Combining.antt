@@ -4,7 +4,7 @@ use Rattle.sv_types.specs.declared.statement.CaseItem.{CaseItem}
 use Rattle.sv_types.specs.declared.statement.Stmt.{Stmt}
 use Rattle.sv_types.specs.Surroundings.{Parameter, Sight}
 use Rattle.sv_types.specs.Flows as F
-use Rattle.sv_types.specs.Flows.{Flow}
+use Rattle.sv_types.specs.Flows.{Flow, Flows}
 use Rattle.sv_types.specs.Statements.{doing}
 use Rattle.flow_sets.specs.declared.found.Found.{Found}
 use Rattle.flow_sets.specs.Flows.{IsFlow}

@@ -5,7 +5,7 @@ use Rattle.sv_types.specs.declared.statement.Local.{Local}
 use Rattle.sv_types.specs.declared.statement.Stmt.{Stmt}
 use Rattle.sv_types.specs.Surroundings.{Sight}
 use Rattle.sv_types.specs.Flows as F
-use Rattle.sv_types.specs.Flows.{Flow}
+use Rattle.sv_types.specs.Flows.{Flow, Flows}
 use Rattle.sv_types.specs.Statements.{doing, made, scope_flow}
 use Rattle.eval_stmts.specs.Limits.{perhaps}
 use Rattle.flow_sets.specs.declared.found.Found.{Found}

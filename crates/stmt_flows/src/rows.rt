@@ -1,6 +1,6 @@
 //! Flows one after another and side by side, where statements may be counted.
 
-ghost use Rattle.std.specs.Prelude.{IfOk};
+ghost use Rattle.std.specs.Prelude.{◌≡◌, IfOk};
 ghost use Rattle.sv_types.specs.Flows as F;
 ghost use Rattle.flow_sets.specs.Ends.{AreKnown};
 ghost use Rattle.flow_sets.specs.Flows.{IsFlow};

@@ -1,6 +1,6 @@
 //! Blocks and their locals (IEEE 1800-2017 clause 9.3.1), and what stands for replaced calls.
 
-ghost use Rattle.std.specs.Prelude.{IfOk, ◌≡◌, ◌∷◌, true, Bool, List, [], length, Some};
+ghost use Rattle.std.specs.Prelude.{IfOk, ◌≡◌, ◌∷◌, true, Bool, List, [], length, map, Option, Some};
 ghost use Rattle.sv_types.specs.Expressions.{meaning};
 ghost use Rattle.sv_types.specs.Flows as F;
 ghost use Rattle.sv_types.specs.Statements.{scope_flow, marks_of, initial_of};
@@ -14,6 +14,8 @@ ghost use Rattle.expr_flows.specs.Known.{sight};
 ghost use Rattle.expr_flows.specs.Full.{is_full, all_full};
 ghost use Rattle.part_flows.specs.Flows.{FlowGives};
 ghost use Rattle.stmt_flows.specs.Full.{written_start, written_starts};
+ghost use Rattle.stmt_flows.specs.Gives.{FoundGives};
+ghost use Rattle.stmt_flows.specs.Long.{SomeHoldLong};
 ghost use Rattle.stmt_flows.specs.Scopes.{ScopeGives};
 
 use crate::fails::StmtFail;

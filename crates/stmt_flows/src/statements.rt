@@ -1,6 +1,6 @@
 //! What is known of statements before they run (IEEE 1800-2017 clauses 9.3.1 and 12).
 
-ghost use Rattle.std.specs.Prelude.{◌≡◌, ◌++◌, ◌^◌, ◌<◌, true, length, map};
+ghost use Rattle.std.specs.Prelude.{◌≡◌, ◌∷◌, ◌++◌, ◌^◌, ◌<◌, true, length, map};
 ghost use Rattle.sv_types.specs.Expressions.{meaning};
 ghost use Rattle.sv_types.specs.Flows as F;
 ghost use Rattle.sv_types.specs.Statements.{doing, made};
@@ -12,7 +12,7 @@ ghost use Rattle.expr_flows.specs.Full.{is_full, all_full};
 ghost use Rattle.expr_flows.specs.Known.{sight, sight_in};
 ghost use Rattle.stmt_flows.specs.Full.{stmt_full, perhaps_full, stmts_full, items_full, written_starts};
 ghost use Rattle.stmt_flows.specs.Gives.{FoundGives, AnyGives, flows_of, perhaps_flow as spec_perhaps, item_flows};
-ghost use Rattle.stmt_flows.specs.Long.{LongIn, LongInOne, those, item_bodies};
+ghost use Rattle.stmt_flows.specs.Long.{LongIn, LongInOne, SomeHoldLong, those, item_bodies};
 ghost use Rattle.stmt_flows.specs.Turns.{LoopFits, IsInside, StopsHere, TurnsGive, LoopGives, loop_of, variable_of};
 ghost use Rattle.stmt_flows.specs.Statements as spec;
 

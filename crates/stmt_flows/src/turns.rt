@@ -15,7 +15,7 @@ ghost use Rattle.flow_sets.specs.Flows.{IsFlow};
 ghost use Rattle.expr_flows.specs.Full.{all_full};
 ghost use Rattle.expr_flows.specs.Known.{sight, sight_in};
 ghost use Rattle.stmt_flows.specs.Scopes.{OwnGives};
-ghost use Rattle.stmt_flows.specs.Turns.{AfterGives, AreTurns, EnterGives, FinalGives, IsInside, LastGives, loop_of, variable_of, marks_of_control};
+ghost use Rattle.stmt_flows.specs.Turns.{AfterGives, AreTurns, EnterGives, FinalGives, IsInside, LastGives, loop_of, variable_of, turns_of, marks_of_control};
 
 use crate::fails::StmtFail;
 use crate::scopes::started;

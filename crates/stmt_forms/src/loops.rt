@@ -1,6 +1,6 @@
 //! `for` loops.
 
-ghost use Rattle.std.specs.Prelude.{◌≡◌, ◌≤◌, false, pos, IfOk};
+ghost use Rattle.std.specs.Prelude.{◌≡◌, ◌≤◌, ℕ, false, pos, IfOk};
 ghost use Rattle.b4_core.specs.Vectors.{vec};
 ghost use Rattle.expr_type.specs.Answers.{Gives, source};
 ghost use Rattle.expr_type.specs.Forms.{cast_expr};

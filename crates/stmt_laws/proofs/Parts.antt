@@ -1,6 +1,7 @@
 -- Parts of statements: what is looked at, conditions, targets, actuals and the heads of loops.
-use Rattle.std.proofs.Common.{◌≡◌, ℕ, Bool, true, false, List, [], ◌∷◌, map, Option, Some, None, refl, arith, subst}
+use Rattle.std.proofs.Common.{◌≡◌, ℕ, Bool, true, false, ◌==◌, cond, List, [], ◌∷◌, map, Option, Some, None, refl, arith, ap, sym, ◌∙◌, subst}
 use Rattle.std.specs.Prelude.{pos, Ok, Err}
+use Rattle.std.proofs.lemmas.Bool.Decides.{nat_tests}
 use Rattle.b4_core.specs.Vectors.{vec}
 use Rattle.sv_tree.specs.declared.expressions.Expr as S
 use Rattle.sv_tree.specs.declared.expressions.Select.{Select}
@@ -21,11 +22,11 @@ use Rattle.sv_types.proofs.OperatorLengths.{length-vec}
 use Rattle.expr_type.specs.declared.operand.Valued.{Valued}
 use Rattle.expr_type.specs.Breaks.{Breaks, At, Quiet}
 use Rattle.expr_type.specs.Typings.{Checked, Typing, whole, broken, rule, checked, both, looked_at, tried, known_behind}
-use Rattle.expr_type.specs.Names.{Context, LocalId, Local, position, local_id}
+use Rattle.expr_type.specs.Names.{Context, LocalId, Thing, Local, position, thing, found, or_thing, local_in, value_in, type_in, signal_in, Interface, Other, local_id}
 use Rattle.expr_type.specs.Operands.{Operand, first_of, unstreamed}
 use Rattle.expr_type.specs.Operators.{by_itself, not_too_long}
 use Rattle.expr_type.specs.Expressions.{Meaning, operand, select_meaning}
-use Rattle.expr_type.specs.TargetNames.{named_target}
+use Rattle.expr_type.specs.TargetNames.{named_target, thing_target, is_net_found}
 use Rattle.expr_type.specs.Targets.{Target, ToPath, ToParts, ToStream, simple_name, target}
 use Rattle.expr_type.specs.Types.{TypeFound, typed_text}
 use Rattle.expr_type.specs.Statements.{assignment, one, step_operator, counted, condition, first_by, loop_first, LoopVariable, loop_type, loop_variable, in_loop, id_of, loop_target, step_value, loop_step, Actual, as_value, as_target, actual_by, actuals}

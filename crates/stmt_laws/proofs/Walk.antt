@@ -1,5 +1,5 @@
 -- Each statement of a sound text is sound.
-use Rattle.std.proofs.Common.{◌≡◌, Bool, true, ◌&&◌, List, [], ◌∷◌, map, Some, None, sym, ◌∙◌, subst}
+use Rattle.std.proofs.Common.{◌≡◌, Bool, true, ◌&&◌, List, [], ◌∷◌, map, Some, None, refl, sym, ◌∙◌, subst}
 use Rattle.sv_tree.specs.declared.expressions.Expr as S
 use Rattle.sv_tree.specs.declared.statements.BlockItem.{BlockItem, BlockItem-F, roll-BlockItem, map-BlockItem, ind-BlockItem, fold-roll-BlockItem}
 use Rattle.sv_tree.specs.declared.statements.CaseItem.{CaseItem, CaseItem-F, fold-CaseItem, roll-CaseItem, map-CaseItem, fold-roll-CaseItem}

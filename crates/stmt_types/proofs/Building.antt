@@ -1,12 +1,12 @@
 -- Blocks by their parts, from the last one on.
-use Rattle.std.proofs.Common.{◌≡◌, List, [], ◌∷◌, ◌++◌, map, reverse, refl, sym, ap, ◌∙◌, append_assoc}
+use Rattle.std.proofs.Common.{◌≡◌, List, [], ◌∷◌, ◌++◌, map, reverse, refl, sym, ap, ◌∙◌, subst, append_assoc}
 use Rattle.std.proofs.lemmas.List.{reverse-append, reverse-reverse}
 use Rattle.sv_types.specs.declared.statement.Local.{Local}
 use Rattle.sv_types.specs.declared.statement.Stmt.{Stmt}
 use Rattle.sv_types.specs.declared.statement.Stmt.TheVariants as S
 use Rattle.expr_type.specs.Statements as D
 use Rattle.stmt_types.specs.declared.blocks.BlockPart.{BlockPart}
-use Rattle.stmt_types.specs.Blocks.{built_of, built_on, part_built, part_of}
+use Rattle.stmt_types.specs.Blocks.{block_stmt, built_of, built_on, nothing_built, part_built, part_of}
 
 -- one more local is taken from the end
 pub local-turn : (made rest : List Local) (l : Local) → (made ++ l ∷ []) ++ reverse rest ≡ made ++ reverse (rest ++ l ∷ [])

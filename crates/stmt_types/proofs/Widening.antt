@@ -1,15 +1,15 @@
 -- A selector and values at the width of the widest.
-use Rattle.std.proofs.Common.{◌≡◌, ℕ, Bool, true, false, cond, List, [], ◌∷◌, ◌++◌, Option, Some, None, refl, sym, ap, ◌∙◌}
-use Rattle.std.specs.Prelude.{Ok, Err, nat_lt, slice_get}
+use Rattle.std.proofs.Common.{◌≡◌, ℕ, Bool, true, false, cond, List, [], ◌∷◌, ◌++◌, flat_map, Option, Some, None, refl, sym, ap, ◌∙◌, subst}
+use Rattle.std.specs.Prelude.{Result, Ok, Err, nat_lt, slice_get}
 use Rattle.expr_type.specs.declared.halt.Halt.{Halt}
 use Rattle.expr_type.specs.declared.halt.Halt.TheVariants as H
 use Rattle.expr_type.specs.declared.operand.Valued.{Valued}
-use Rattle.expr_type.specs.Answers.{Gives, HaltsBy, first_break, reason}
+use Rattle.expr_type.specs.Answers.{Break, Gives, HaltsBy, first_break, reason}
 use Rattle.expr_type.specs.Breaks.{Breaks}
-use Rattle.expr_type.specs.Names.{Context, Source}
-use Rattle.expr_type.specs.Operands.{too_wide}
+use Rattle.expr_type.specs.Names.{Context, Source, position}
+use Rattle.expr_type.specs.Operands.{sized, too_wide}
 use Rattle.expr_type.specs.Statements.{selector_at, values_at, wide_in}
-use Rattle.expr_type.specs.Typings.{and_at, at_all, unless}
+use Rattle.expr_type.specs.Typings.{Checked, and_at, at_all, unless, where_whole}
 use Rattle.stmt_types.specs.Cases.{break_of, first_in, first_operator, found_by, or_first}
 
 -- the first of some operators

@@ -3,6 +3,8 @@ use Rattle.std.proofs.Common.{◌≡◌, ◌<◌, ◌≤◌, ℕ, Bool, true, fa
 use Rattle.std.specs.Prelude.{Result, Ok, Err, Vec, nat_lt, ◌||◌}
 use Rattle.std.specs.declared.alloc.Global.{Global}
 use Rattle.std.proofs.lemmas.Bool.Decides.{nat_tests}
+use Rattle.std.proofs.lemmas.List.{map-append}
+use Rattle.sv_types.specs.declared.expression.Expr.{Expr}
 use Rattle.sv_types.specs.declared.statement.CaseKind.{CaseKind}
 use Rattle.sv_types.specs.declared.statement.Stmt.{Stmt}
 use Rattle.sv_types.specs.declared.statement.Stmt.TheVariants as S
@@ -19,8 +21,8 @@ use Rattle.expr_type.specs.Typings.{Checked, all_of, joined, where_whole}
 use Rattle.stmt_types.specs.declared.cases.CaseFound.{CaseFound}
 use Rattle.stmt_types.specs.declared.cases.CaseItem.{CaseItem}
 use Rattle.stmt_types.specs.Lists.{all_meant, as_meant, listed}
-use Rattle.stmt_types.specs.Cases.{and_wide, found_by, if_wide, item_found, item_of, item_whole, joins, wide_of, widest_found, wides}
-use Rattle.stmt_types.proofs.Joins.{joins-gives, where-stops}
+use Rattle.stmt_types.specs.Cases.{and_wide, found_by, if_wide, item_found, item_of, item_whole, joins, or_wide, wide_of, widest_found, wides}
+use Rattle.stmt_types.proofs.Joins.{found-gives, joins-gives, where-fine, where-stops}
 
 -- whether one of some numbers is over 128
 pub wide-max : (m n : ℕ) → nat_lt 128 (max m n) ≡ (nat_lt 128 m || nat_lt 128 n)

@@ -1,6 +1,8 @@
 -- Items of a `case` as the code has them.
-use Rattle.std.specs.Prelude.{◌≡◌, ⊤, ℕ, Bool, false, ◌||◌, nat_lt, cond, List, [], ◌∷◌, ◌++◌, map, Option, Some, None, Result, Ok, Err}
+use Rattle.std.specs.Prelude.{◌≡◌, ⊤, ℕ, Bool, true, false, ◌||◌, nat_lt, cond, List, [], ◌∷◌, ◌++◌, map, Option, Some, None, Result, Ok, Err, Vec}
+use Rattle.std.specs.declared.alloc.Global.{Global}
 use Rattle.sv_types.specs.declared.statement.Stmt.{Stmt}
+use Rattle.sv_types.specs.Layouts.{width_of}
 use Rattle.sv_types.specs.Meanings.{most}
 use Rattle.expr_type.specs.declared.halt.Halt.{Halt}
 use Rattle.expr_type.specs.declared.halt.Halt.TheVariants as H

@@ -34,7 +34,7 @@ use Rattle.typing_fits.proofs.Vectors.{width-vector}
 use Rattle.routine_fits.specs.Targets.{SoundTarget}
 use Rattle.typing_walks.specs.Keeps.{Keeps, AllKeep, AllHold, Lasts, Anything, Surrounded}
 use Rattle.typing_walks.specs.Written as W
-use Rattle.typing_walks.specs.Written.{if_there, select_written, slice_written}
+use Rattle.typing_walks.specs.Written.{some_and_all, if_there, select_written, slice_written}
 use Rattle.typing_walks.proofs.Keeping as K
 use Rattle.typing_walks.proofs.Lasting.{valued-lasts, any-lasts, all-valued}
 use Rattle.typing_walks.proofs.Operands as O

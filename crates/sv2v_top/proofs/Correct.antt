@@ -1,10 +1,12 @@
 -- Source tokens that read and are refused nothing elaborate to a design that can be translated.
-use Rattle.std.proofs.Common.{◌≡◌, ℕ, true, not, ◌||◌, List, Err, inl, inr, sym, ap, subst, ◌∙◌}
+use Rattle.std.proofs.Common.{◌≡◌, ℕ, true, not, ◌||◌, List, Some, Err, inl, inr, sym, ap, subst, ◌∙◌}
 use Rattle.std.specs.List.{All}
 use Rattle.sv_source.specs.declared.token.Token.{Token}
 use Rattle.sv_source.specs.declared.refusal.Fail.{Fail}
 use Rattle.sv_source.specs.declared.refusal.Fail.TheVariants.{Memory, Refused}
+use Rattle.sv_source.specs.declared.refusal.Refusal.{Refusal}
 use Rattle.sv_macro.specs.Tokens.{is_name_kind}
+use Rattle.core_forms.specs.Typed.{typed}
 use Rattle.lower_design.specs.Designs.{IsTranslatable}
 use Rattle.lower_design.proofs.TypedDesigns.{typed-translatable}
 use Rattle.v_tree.specs.Tokens.{is_simple}

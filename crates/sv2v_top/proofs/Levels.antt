@@ -1,5 +1,5 @@
 -- One level of a statement at a time.
-use Rattle.std.proofs.Common.{◌≡◌, ℕ, Bool, List, map, Some, None, sym, ap, ◌∙◌, append_assoc}
+use Rattle.std.proofs.Common.{◌≡◌, ℕ, Bool, List, [], ◌∷◌, map, Option, Some, None, sym, ap, ◌∙◌, append_assoc}
 use Rattle.sv_core.specs.declared.design.Stmt.{Stmt as Typed}
 use Rattle.sv_core.specs.declared.design.Stmt.TheVariants as D
 use Rattle.built_forms.specs.declared.forms.Expr.{Expr}

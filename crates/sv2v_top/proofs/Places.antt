@@ -23,7 +23,7 @@ use Rattle.sv_tree.specs.declared.units.SourceTree.{SourceTree}
 use Rattle.sv_tree.specs.declared.units.Unit as U
 use Rattle.sv_build.specs.Attributes.{without_attributes}
 use Rattle.sv_build.specs.Reading.{Reads, SyntaxBreak, fails, nests, fails_at, nests_at, at_token}
-use Rattle.built_forms.specs.Built.{built}
+use Rattle.built_forms.specs.Built.{spot_with, one_module, gathered, unit_of, built}
 use Rattle.sv2v_top.specs.Translation.{Breaks}
 use Rattle.sv2v_top.proofs.Readable.{Within, GoodItem, GoodModule, readable}
 use Rattle.sv2v_top.proofs.Kept.{all-left, all-at}

@@ -9,14 +9,20 @@ use Rattle.sv_source.specs.declared.token.Spot.{Spot}
 use Rattle.sv_macro.specs.Tokens.{is_name_kind}
 use Rattle.lower_design.specs.Translatable.{OperatorFits}
 use Rattle.sv_tree.specs.declared.declarations.Declarator.{Declarator}
+use Rattle.sv_tree.specs.declared.expressions.Cast.{Cast}
 use Rattle.sv_tree.specs.declared.expressions.Expr as X
+use Rattle.sv_tree.specs.declared.expressions.Select.{Select}
+use Rattle.sv_tree.specs.declared.expressions.Dimension.{Dimension}
+use Rattle.sv_tree.specs.declared.items.DataDeclaration.{DataDeclaration}
 use Rattle.sv_tree.specs.declared.items.Item as Y
 use Rattle.sv_tree.specs.declared.names.Direction as W
 use Rattle.sv_tree.specs.declared.names.Label.{Label}
+use Rattle.sv_tree.specs.declared.names.QualifiedName.{QualifiedName}
 use Rattle.sv_tree.specs.declared.operators.BinaryOperator.{BinaryOperator}
 use Rattle.sv_tree.specs.declared.operators.BinaryOperator.TheVariants as O
 use Rattle.sv_tree.specs.declared.operators.UnaryOperator.{UnaryOperator}
 use Rattle.sv_tree.specs.declared.operators.UnaryOperator.TheVariants.{Invert}
+use Rattle.sv_tree.specs.declared.ports.Header.{Header}
 use Rattle.sv_tree.specs.declared.ports.Port as Q
 use Rattle.sv_tree.specs.declared.ports.PortList.{PortList}
 use Rattle.sv_tree.specs.declared.ports.PortText.{PortText}
@@ -43,13 +49,14 @@ use Rattle.built_forms.specs.declared.forms.Item.TheVariants as I
 use Rattle.built_forms.specs.declared.forms.Module.{Module}
 use Rattle.built_forms.specs.declared.forms.Operand.{Operand}
 use Rattle.built_forms.specs.declared.forms.Port.{Port}
+use Rattle.built_forms.specs.declared.forms.PortHead.{PortHead}
 use Rattle.built_forms.specs.declared.forms.Primary.{Primary}
 use Rattle.built_forms.specs.declared.forms.Primary.TheVariants as P
 use Rattle.built_forms.specs.declared.forms.Range.{Range}
 use Rattle.built_forms.specs.declared.forms.Stmt.{Stmt}
 use Rattle.built_forms.specs.declared.forms.Stmt.TheVariants as S
 use Rattle.built_forms.specs.Built as means
-use Rattle.built_forms.specs.Built.{then_one, then_two, each, put_before, gathered, spot_with, name_at, name_of, none_in, ExprLayer, StmtLayer, ItemLayer, is_alone, primary_in, primary_of, operand_with, inverted_of, operand_in, operand_of, bitwise, binary_with, applied, expr_in, expr_of, type_of, head_with, direction_of, headed_port, bare_port, headed_by, port_with, port_of, target_in, target_of, assign_with, assign_of, assigns_so, item_in, block_item_of, if_with, other_of, conditional_of, stmt_in, stmt_around, stmt_within, stmt_of, nesting_limit, an_assign, assigns_of, a_variable, is_plain, variable_by, one_variable, a_comb, an_edge, is_rising, clocked_by, edges_of, always_of, item_layer, item_of, first_is_headed, headed, ports_of, is_plain_header, header_of, label_agrees, agreed, body_with, module_of, unit_of, one_module, built}
+use Rattle.built_forms.specs.Built.{then_one, then_two, each, put_before, gathered, spot_with, name_at, name_of, none_in, ExprLayer, StmtLayer, ItemLayer, is_alone, literal_of, primary_in, primary_of, operand_with, inverted_of, operand_in, operand_of, bitwise, binary_with, applied, expr_in, expr_of, type_of, head_with, direction_of, headed_port, bare_port, headed_by, typed_port, untyped_port, port_with, port_of, target_in, target_of, assign_with, assign_of, assigns_so, item_in, block_item_of, block_with, if_with, other_of, conditional_of, promised, assigned, stmt_in, stmt_around, stmt_within, stmt_of, nesting_limit, an_assign, assigns_of, a_variable, is_plain, variable_by, one_variable, variable_of, a_comb, an_edge, is_rising, clocked_by, edges_of, always_of, item_layer, item_of, first_is_headed, headed, ports_of, is_plain_header, header_of, label_agrees, agreed, body_with, module_of, unit_of, at_most_one, one_module, built}
 use Rattle.sv2v_top.specs.declared.uses.Use.{Use}
 use Rattle.sv2v_top.specs.source.Statements.{primary_uses, expr_uses, Parts, sequence, parts, item_parts}
 use Rattle.sv2v_top.proofs.Levels.{block-parts, alone-parts, either-parts, assign-parts}

@@ -5,7 +5,7 @@ mod names;
 mod rules;
 mod signals;
 
-ghost use Rattle.std.specs.Prelude.{◌≡◌, ◌^◌, ◌<◌, ◌&&◌, not, true, map, IfOk};
+ghost use Rattle.std.specs.Prelude.{◌≡◌, ◌^◌, ◌<◌, ◌≤◌, ◌&&◌, not, true, map, nat_le, List, ℕ, IfOk};
 ghost use Rattle.std.specs.List.{list_all};
 ghost use Rattle.sv2v_top.specs.source.Names.{declared, signal_names};
 ghost use Rattle.sv2v_top.specs.source.Rules.{inputs, is_top, header_holds, elaborates, is_built, ranges_hold, signal_of};

@@ -1,6 +1,6 @@
 //! Decimal numbers and sized binary literals (IEEE 1800-2017 clause 5.7.1).
 
-ghost use Rattle.std.specs.Prelude.{◌≡◌, ◌^◌, ◌≤◌, ◌<◌, IfOk, MatchOption, map, reverse};
+ghost use Rattle.std.specs.Prelude.{◌≡◌, ◌^◌, ◌≤◌, ◌<◌, ◌↔◌, IsTrue, IfOk, MatchOption, map, reverse};
 ghost use Rattle.sv2v_top.specs.source.Literals.{decimal, with_digit, are_digits, are_bit_digits, is_plain_size, has_binary_base, behind_base, is_plain_literal, literal_bits, bit_of_digit};
 
 use b4_core::{Bit4, Vec4};

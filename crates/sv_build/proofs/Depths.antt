@@ -1,9 +1,13 @@
 -- Targets, statements and items one level deeper.
 use Rattle.std.proofs.Common.{◌≡◌, ◌+◌, ℕ, zero, suc, [], refl, ap, arith}
 use Rattle.ll_engine.specs.declared.tree.Tree.{Tree}
+use Rattle.sv_tree.specs.declared.items.Item.{Item}
 use Rattle.sv_tree.specs.declared.items.Item.TheVariants as I
+use Rattle.sv_tree.specs.declared.statements.BlockItem.{BlockItem}
 use Rattle.sv_tree.specs.declared.statements.BlockItem.TheVariants as B
+use Rattle.sv_tree.specs.declared.statements.Lvalue.{Lvalue}
 use Rattle.sv_tree.specs.declared.statements.Lvalue.TheVariants as L
+use Rattle.sv_tree.specs.declared.statements.Stmt.{Stmt}
 use Rattle.sv_tree.specs.declared.statements.Stmt.TheVariants as S
 use Rattle.expr_build.specs.Nodes.{kid, token}
 use Rattle.sv_build.specs.Statements.{concatenated_within, concatenated_from, inside, statement_of, block_item_of}

@@ -1,5 +1,5 @@
 -- The numbers of rows are those of the table.
-use Rattle.std.proofs.Common.{◌≡◌, ℕ, Bool, true, not, ◌&&◌, List, [], ◌∷◌, map, Some, refl}
+use Rattle.std.proofs.Common.{◌≡◌, ℕ, Bool, true, false, nat_lt, not, ◌&&◌, List, [], ◌∷◌, map, Option, Some, refl}
 use Rattle.std.specs.List.{slice_get, list_all}
 use Rattle.std.specs.Prelude.{◌==◌}
 use Rattle.ll_engine.specs.declared.table.Part.{Part}
@@ -8,7 +8,7 @@ use Rattle.ll_engine.specs.declared.table.Row.{Row}
 use Rattle.sv_tree.specs.Heads as head
 use Rattle.sv_tree.specs.Symbols.{mark_symbol, word_symbol}
 use Rattle.sv_tree.specs.Table.{table, plain, nested, word, mark, identifier}
-use Rattle.sv_tree.specs.declared.symbols.TheConstants.{OTHER, END}
+use Rattle.sv_tree.specs.declared.symbols.TheConstants.{OTHER, END, SYSTEM, DECIMAL, BASED, FILL}
 use Rattle.sv_build.specs.declared.rows.TheConstants as R
 
 pub numbers : List ℕ

@@ -1,6 +1,7 @@
 -- Tokens have one reading at most.
-use Rattle.std.proofs.Common.{◌≡◌, ℕ, List, Option, Some, sym, ap, ◌∙◌}
+use Rattle.std.proofs.Common.{◌≡◌, ℕ, List, Option, Some, refl, sym, ap, ◌∙◌}
 use Rattle.std.specs.List.{slice_get}
+use Rattle.ll_engine.specs.declared.tree.Tree.{Tree}
 use Rattle.ll_engine.proofs.Laws.{one_answer}
 use Rattle.sv_source.specs.declared.refusal.Refusal.{Refusal}
 use Rattle.sv_source.specs.declared.token.Token.{Token}

@@ -14,6 +14,7 @@ use Rattle.sv_tree.specs.declared.instances.Bind.TheVariants as B
 use Rattle.sv_tree.specs.declared.instances.Connection.{Connection}
 use Rattle.sv_tree.specs.declared.instances.Connection.TheVariants as C
 use Rattle.sv_tree.specs.declared.instances.Instance.{Instance}
+use Rattle.sv_tree.specs.declared.instances.Instantiation.{Instantiation}
 use Rattle.sv_tree.specs.declared.instances.Modport.{Modport}
 use Rattle.sv_tree.specs.declared.instances.ModportDeclaration.{ModportDeclaration}
 use Rattle.sv_tree.specs.declared.instances.ModportPort.{ModportPort}
@@ -49,7 +50,7 @@ use Rattle.sv_build.specs.Declarations.{parameters_of, import_of, typedef_of, po
 use Rattle.sv_build.specs.Statements.{lvalue_of, loop_step_of, stmt_of, block_items_of, optional_token_of, optional_expr_of}
 use Rattle.expr_build.specs.Nodes.{kids_of, kid, token, token_of, row_of, optional, is_blank, separated, behind_marks}
 use Rattle.expr_build.specs.Expressions.{expr_of, exprs_of, nesting_limit}
-use Rattle.expr_build.specs.Types.{dims_of, declarators_behind, keyword_text, named_text, named_dims_text, bare_text, signed_text, dimensioned_text, no_type, alone, scoped}
+use Rattle.expr_build.specs.Types.{dims_of, declarators_of, declarators_behind, keyword_text, named_text, named_dims_text, bare_text, signed_text, dimensioned_text, no_type, alone, scoped}
 
 -- formal arguments
 abbrev pub formal_of : Tree → Formal

@@ -1,5 +1,6 @@
 -- How a source text is read: its tokens, without attributes, have one derivation by the table of the grammar, or a failing token.
 use Rattle.std.specs.Prelude.{◌≡◌, ℕ, ◌-◌, nat_lt, Bool, true, false, List, [], ◌∷◌, ◌++◌, map, take, length, Option, Some, None, if◌then◌else◌, Result, Ok, Err, slice_get, codes}
+use Rattle.sv_source.specs.declared.token.Place.{Place}
 use Rattle.sv_source.specs.declared.token.Kind.{Kind}
 use Rattle.sv_source.specs.declared.token.Kind.TheVariants.{Bad, End}
 use Rattle.sv_source.specs.declared.token.Token.{Token}

@@ -2,6 +2,7 @@
 use Rattle.std.specs.Prelude.{ℕ, zero, suc, ◌==◌, List, [], ◌∷◌, ◌++◌, map, drop, Option, Some, None, if◌then◌else◌}
 use Rattle.ll_engine.specs.declared.tree.Tree.{Tree}
 use Rattle.sv_tree.specs.declared.expressions.Expr.{Expr}
+use Rattle.sv_tree.specs.declared.expressions.Select.{Select}
 use Rattle.sv_tree.specs.declared.names.QualifiedName.{QualifiedName}
 use Rattle.sv_tree.specs.declared.statements.BlockItem.{BlockItem}
 use Rattle.sv_tree.specs.declared.statements.BlockItem.TheVariants as I
@@ -22,7 +23,7 @@ use Rattle.sv_build.specs.declared.variables.VariableText.{VariableText}
 use Rattle.sv_build.specs.declared.rows.TheConstants as R
 use Rattle.sv_build.specs.Words.{label_of, step_operator_by, assignment_operator_by, promise_of, case_keyword_of}
 use Rattle.sv_build.specs.Declarations.{parameters_of, variables_of, variable_text_of}
-use Rattle.expr_build.specs.Nodes.{kids_of, kid, token, row_of, optional, separated}
+use Rattle.expr_build.specs.Nodes.{kids_of, kid, token, row_of, optional, is_blank, separated}
 use Rattle.expr_build.specs.Words.{qualified_of, stream_operator_by}
 use Rattle.expr_build.specs.Expressions.{expr_of, exprs_of, selects_of, slice_size_of, nesting_limit}
 use Rattle.expr_build.specs.Types.{declarators_of, keyword_text, named_text, alone, scoped, aggregate_text}

@@ -1,5 +1,5 @@
 -- The words and operators of declarations and statements, by the rows that they were read by.
-use Rattle.std.specs.Prelude.{ℕ, ◌==◌, Option, if◌then◌else◌}
+use Rattle.std.specs.Prelude.{ℕ, ◌==◌, Option, Some, None, if◌then◌else◌}
 use Rattle.ll_engine.specs.declared.tree.Tree.{Tree}
 use Rattle.sv_tree.specs.declared.declarations.ParameterKeyword.{ParameterKeyword}
 use Rattle.sv_tree.specs.declared.declarations.ParameterKeyword.TheVariants.{Parameter, Localparam}

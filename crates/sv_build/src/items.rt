@@ -1,6 +1,6 @@
 //! Items of modules and interfaces, and generate constructs. In each function `depth` is the most nesting of the items inside.
 
-ghost use Rattle.std.specs.Prelude.{◌≡◌, ◌++◌, map, IfOk};
+ghost use Rattle.std.specs.Prelude.{◌≡◌, ◌∷◌, ◌++◌, map, drop, IfOk};
 ghost use Rattle.sv_build.specs.Items as means;
 
 use crate::declarations::{import, parameters, typedef};

@@ -13,7 +13,7 @@ use Rattle.v_tree.specs.declared.items.VSignal.{VSignal}
 use Rattle.v_tree.specs.declared.items.VSignal.TheVariants.{Input, Output, OutputReg, Wire, Reg}
 use Rattle.v_meaning.specs.Scopes.{Named, bits_of_range, named}
 use Rattle.v_meaning.specs.Modules as M
-use Rattle.v_meaning.specs.Modules.{Kind, Signal, signals, numbered, kind_of}
+use Rattle.v_meaning.specs.Modules.{Kind, input_net, net, variable, Signal, signals, numbered, kind_of}
 use Rattle.text_shape.specs.declared.signals.Entry.{Entry}
 use Rattle.text_shape.specs.Signals.{Entries, no_entries, added_to, added, entry_of, signal_added, adding, items_added}
 use Rattle.text_shape.specs.Shapes.{is_input, port_named, inputs, outputs, port_of, declared, same, ports_from}

@@ -5,7 +5,7 @@ use Rattle.std.specs.declared.alloc.AllocError.{AllocError}
 use Rattle.sv_types.specs.declared.types.SvType.{SvType}
 use Rattle.sv_types.specs.declared.types.SvType.TheVariants.{PackedArray, UnpackedArray}
 use Rattle.sv_types.specs.Layouts.{count_of, width_of}
-use Rattle.sv_types.proofs.Lengths.{width-PackedArray, width-UnpackedArray, width-Struct, width-Union}
+use Rattle.sv_types.proofs.Lengths.{width-PackedArray, width-UnpackedArray, width-Struct, width-Union, layout-Scalar, layout-Enum}
 use Rattle.type_widths.specs.Limbs.{number}
 
 -- an array whose bounds and elements are known

@@ -1,6 +1,6 @@
 //! Widths of types.
 
-ghost use Rattle.std.specs.Prelude.{◌≡◌, ◌*◌, ◌%◌, length, map, unsigned_abs, ◌-ℤ◌, IfOk};
+ghost use Rattle.std.specs.Prelude.{◌≡◌, ◌≤◌, ◌+◌, ◌*◌, ◌%◌, length, map, unsigned_abs, ◌-ℤ◌, IfOk};
 ghost use Rattle.sv_types.specs.Layouts.{count_of, member_layout, stacked_marks, widest_marks, width_of};
 ghost use Rattle.type_widths.specs.Limbs.{number};
 

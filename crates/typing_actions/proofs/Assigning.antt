@@ -1,5 +1,5 @@
 -- Assignments, and counting.
-use Rattle.std.proofs.Common.{◌≡◌, ℕ, List, Option, Some, refl, subst, sym}
+use Rattle.std.proofs.Common.{◌≡◌, ℕ, List, [], Option, Some, refl, subst, sym}
 use Rattle.std.specs.Prelude.{Result, Ok, Err, true}
 use Rattle.sv_tree.specs.declared.expressions.Select.{Select}
 use Rattle.sv_tree.specs.declared.operators.AssignmentOperator.{AssignmentOperator}

@@ -1,6 +1,6 @@
 //! The walk over what is in the form of a target.
 
-ghost use Rattle.std.specs.Prelude.{◌≡◌, true, IfOk};
+ghost use Rattle.std.specs.Prelude.{◌≡◌, map, true, IfOk};
 ghost use Rattle.operand_types.specs.Allowed.{AllNarrow, IsNarrow};
 ghost use Rattle.routine_fits.specs.Sound.{AllSoundFunctions};
 ghost use Rattle.typing_fits.specs.Sound.{Extends};

@@ -1,9 +1,10 @@
 //! Conditions.
 
-ghost use Rattle.std.specs.Prelude.{◌≡◌, true};
+ghost use Rattle.std.specs.Prelude.{◌≡◌, true, IfOk};
 ghost use Rattle.expr_type.specs.Expressions.{operand};
 ghost use Rattle.expr_type.specs.Operands as rule;
 ghost use Rattle.expr_type.specs.Statements as statement;
+ghost use Rattle.operand_types.specs.Allowed.{IsNarrow};
 ghost use Rattle.routine_fits.specs.Sound.{AllSoundFunctions};
 ghost use Rattle.stmt_laws.specs.Written.{exprs_written};
 ghost use Rattle.stmt_types.specs.Lists.{listed};

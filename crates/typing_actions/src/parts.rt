@@ -1,6 +1,6 @@
 //! Concatenations and streams of targets that are typed, or not whole.
 
-ghost use Rattle.std.specs.Prelude.{◌<◌, ℕ, List, IfOk};
+ghost use Rattle.std.specs.Prelude.{◌≡◌, ◌<◌, ℕ, List, IfOk};
 ghost use Rattle.sv_types.specs.declared.statement.Function.{Function};
 ghost use Rattle.expr_type.specs.declared.operand.Valued as def_valued;
 ghost use Rattle.expr_type.specs.Targets as def;

@@ -1,6 +1,6 @@
 //! What is passed to formals.
 
-ghost use Rattle.std.specs.Prelude.{map, slice_get};
+ghost use Rattle.std.specs.Prelude.{◌≡◌, map, slice_get};
 ghost use Rattle.expr_type.specs.Answers.{Gives, source};
 ghost use Rattle.expr_type.specs.Forms as form;
 ghost use Rattle.pattern_types.specs.Meaning.{operand_of};

@@ -1,5 +1,5 @@
 -- Formals and results by how they are written.
-use Rattle.std.proofs.Common.{◌≡◌, List, Option, Some, None, true, false, ℕ, refl, sym, subst}
+use Rattle.std.proofs.Common.{◌≡◌, List, [], Option, Some, None, Bool, true, false, ◌&&◌, ℕ, refl, sym, ap, ◌∙◌, subst}
 use Rattle.std.specs.Prelude.{Result, Ok, Err}
 use Rattle.sv_tree.specs.declared.expressions.Dimension.{Dimension}
 use Rattle.sv_tree.specs.declared.functions.FormalDirection.{FormalDirection}

@@ -1,5 +1,5 @@
 -- Enums by the names that were met.
-use Rattle.std.proofs.Common.{◌≡◌, ℕ, zero, suc, ◌<◌, ◌≤◌, ◌+◌, true, false, List, [], ◌∷◌, ◌++◌, map, length, take, get_or, Option, Some, None, refl, sym, ap, ◌∙◌, subst, arith}
+use Rattle.std.proofs.Common.{◌≡◌, ℕ, zero, suc, ◌<◌, ◌≤◌, ◌+◌, Bool, true, false, List, [], ◌∷◌, ◌++◌, map, length, take, get_or, Option, Some, None, refl, sym, ap, ◌∙◌, subst, arith}
 use Rattle.std.specs.Prelude.{Result, Ok, Err, OnOk}
 use Rattle.std.proofs.lemmas.List.{take_more}
 use Rattle.b4_core.specs.declared.bit.Bit4.{Bit4}
@@ -37,12 +37,13 @@ use Rattle.typing_walks.proofs.Knowing.{IfKnown}
 use Rattle.typing_walks.proofs.Lasting.{full-lasts}
 use Rattle.typing_walks.proofs.Types as X
 use Rattle.typing_walks.proofs.Types.{Short, SoundFound, enum-sound}
+use Rattle.typing_scopes.specs.Ahead.{mapped}
 use Rattle.typing_scopes.proofs.Turning.{broken-turn, quiet-turn, whole-turn}
 use Rattle.typing_steps.specs.Steps.{TypesTo}
 use Rattle.enum_values.specs.Values.{IsInBase, named_by}
 use Rattle.typing_declarations.specs.declared.enum_names.Named.{Named}
 use Rattle.typing_declarations.specs.Types.{base_named}
-use Rattle.typing_declarations.specs.Naming.{AllInBase, AreMet, HaveWidth, enum_name, enum_of, values_by, value_by, valued, values_of, with_name}
+use Rattle.typing_declarations.specs.Naming.{AllInBase, AreMet, HaveWidth, as_values, enum_name, enum_of, values_by, value_by, valued, values_of, with_name}
 
 abbrev pub the_constant : Context → SvType → ℕ → List Bit4 → ParamValue
 the_constant k t at bits = record { decl = k.declared at; of = t; value = value_of_bits t bits }

@@ -1,5 +1,5 @@
 -- Types with the dimensions behind a name, and what is made of them.
-use Rattle.std.proofs.Common.{◌≡◌, List, [], ◌∷◌, ◌++◌, Some, None, Bool, true, cond, nat_lt, ℕ, refl, sym, ap, ◌∙◌, subst}
+use Rattle.std.proofs.Common.{◌≡◌, List, [], ◌∷◌, ◌++◌, Option, Some, None, Bool, true, false, cond, nat_lt, ℕ, refl, sym, ap, ◌∙◌, subst}
 use Rattle.std.specs.Prelude.{Result, Ok, Err}
 use Rattle.sv_tree.specs.declared.expressions.Dimension.{Dimension}
 use Rattle.sv_types.specs.declared.frame.ParamValue.{ParamValue}
@@ -16,7 +16,7 @@ use Rattle.expr_type.specs.Names.{Context, Source, local_id, position, with_valu
 use Rattle.expr_type.specs.Operators.{not_too_long}
 use Rattle.expr_type.specs.Shapes.{most_bits}
 use Rattle.expr_type.specs.Types.{TypeFound, declared_type}
-use Rattle.expr_type.specs.Typings.{Checked, Typed, Typing, applied, joined, known, rule}
+use Rattle.expr_type.specs.Typings.{Checked, Typed, Typing, applied, checked, joined, known, rule}
 use Rattle.routine_fits.specs.Sound.{AllSoundFunctions}
 use Rattle.typing_fits.specs.Operands.{AllValuesSound}
 use Rattle.typing_fits.proofs.Names.{values-behind}

@@ -1,5 +1,5 @@
 -- Heads: formals that are sound, and what they give back.
-use Rattle.std.proofs.Common.{◌≡◌, ◌⊎◌, inl, inr, ◌<◌, ◌≤◌, ◌+◌, List, [], ◌∷◌, map, filter, Option, Some, None, Bool, true, false, ◌&&◌, cond, min, nat_lt, ℕ, refl, sym, ap, ◌∙◌, subst, arith}
+use Rattle.std.proofs.Common.{◌≡◌, ◌⊎◌, inl, inr, ◌<◌, ◌≤◌, ◌+◌, List, [], ◌∷◌, ◌++◌, map, filter, Option, Some, None, Bool, true, false, ◌&&◌, cond, min, nat_lt, if◌then◌else◌, ℕ, refl, sym, ap, ◌∙◌, subst, arith}
 use Rattle.std.specs.Prelude.{Result, Ok, Err, IfOk}
 use Rattle.std.proofs.lemmas.Bool.{cases_lt, le-ltb, lt-ltb}
 use Rattle.sv_tree.specs.declared.expressions.Dimension.{Dimension}
@@ -16,7 +16,7 @@ use Rattle.expr_type.specs.declared.halt.Halt.TheVariants as H
 use Rattle.expr_type.specs.Functions.{Before, FormalFound, ResultFound, Head, at_first, before_if, behind_formal, behind_formals, formal_text, formals, function_result, head_of, is_output, output_bits}
 use Rattle.expr_type.specs.Names.{Context, position}
 use Rattle.expr_type.specs.Types.{TypeFound}
-use Rattle.expr_type.specs.Typings.{Checked, Typed, Typing, refused, rule}
+use Rattle.expr_type.specs.Typings.{Checked, Typed, Typing, checked, refused, rule}
 use Rattle.routine_fits.specs.Sound.{AllFormalsNarrow, AllSoundFunctions}
 use Rattle.routine_laws.specs.Sound.{AllSoundFormals, PerhapsType, SoundFormal, SoundResult}
 use Rattle.routine_laws.specs.Texts.{formals_written, port_written, result_written}

@@ -1,6 +1,6 @@
 -- Formals in a row, one more behind the others.
-use Rattle.std.proofs.Common.{◌≡◌, List, [], ◌∷◌, ◌++◌, map, Option, Some, None, Bool, true, false, ℕ, ◌-◌, refl, sym, ap, ◌∙◌, subst, append_assoc}
-use Rattle.std.specs.Prelude.{Ok, Err}
+use Rattle.std.proofs.Common.{◌≡◌, List, [], ◌∷◌, ◌++◌, map, length, Option, Some, None, Bool, true, false, cond, ℕ, ◌-◌, refl, sym, ap, ◌∙◌, subst, append_assoc}
+use Rattle.std.specs.Prelude.{Result, Ok, Err}
 use Rattle.sv_tree.specs.declared.functions.Formal as G
 use Rattle.sv_types.specs.declared.statement.Formal.{Formal}
 use Rattle.sv_types.specs.declared.statement.Function.{Function}
@@ -9,10 +9,10 @@ use Rattle.expr_type.specs.declared.halt.Halt.{Halt}
 use Rattle.expr_type.specs.declared.halt.Halt.TheVariants as H
 use Rattle.expr_type.specs.Functions.{Before, FormalFound, at_first, before_if, behind_formal, behind_formals, formal_text, formals, way_by}
 use Rattle.expr_type.specs.Names.{Context}
-use Rattle.expr_type.specs.Typings.{Typed, Typing, whole}
+use Rattle.expr_type.specs.Typings.{Checked, Typed, Typing, whole}
 use Rattle.typing_scopes.specs.Ahead.{AheadQuiet, AheadWhole}
 use Rattle.typing_scopes.proofs.Turning.{ahead-whole, ahead-quiet, ahead-breaks, behind-whole, behind-quiet, behind-breaks, ahead-end, behind-end, ahead-start, ahead-alike}
-use Rattle.typing_steps.specs.Steps.{StopsBy}
+use Rattle.typing_steps.specs.Steps.{IsQuiet, StopsBy, TypesTo}
 use Rattle.typing_declarations.specs.declared.formal_rows.Met.{Met}
 use Rattle.typing_declarations.specs.Formals.{Takes, TurnsTo, ended_by}
 use Rattle.typing_declarations.specs.FormalRows.{formal_in, IsFormal, IsNoFormal, PerhapsFormal, WholeSoFar, SoFar, AreFormals, FormalsTo}

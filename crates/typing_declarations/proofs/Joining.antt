@@ -1,16 +1,18 @@
 -- Declarations behind declarations, and one more of a row.
-use Rattle.std.proofs.Common.{◌≡◌, ℕ, Bool, true, false, List, [], ◌++◌, Option, Some, None, sym, ap, ◌∙◌, subst, append_assoc}
+use Rattle.std.proofs.Common.{◌≡◌, ℕ, Bool, true, false, List, [], ◌∷◌, ◌++◌, Option, Some, None, refl, sym, ap, ◌∙◌, subst, append_assoc}
 use Rattle.std.specs.Prelude.{Ok, Err}
 use Rattle.std.proofs.lemmas.List.{append-nil}
 use Rattle.sv_types.specs.declared.frame.ParamType.{ParamType}
 use Rattle.sv_types.specs.declared.frame.ParamValue.{ParamValue}
 use Rattle.sv_types.specs.declared.statement.Function.{Function}
 use Rattle.sv_types.specs.declared.statement.Local.{Local}
+use Rattle.expr_type.specs.declared.halt.Halt.{Halt}
 use Rattle.expr_type.specs.declared.halt.Halt.TheVariants as H
 use Rattle.expr_type.specs.Names.{LocalId}
 use Rattle.expr_type.specs.Statements.{Declared, and_then, nothing}
 use Rattle.expr_type.specs.Typings.{Typed, Typing, both_by, whole}
 use Rattle.typing_steps.specs.Steps.{StopsBy, TypesTo}
+use Rattle.typing_scopes.specs.Ahead.{AheadQuiet, AheadWhole}
 use Rattle.typing_scopes.proofs.Turning.{ahead-alike, ahead-breaks, ahead-end, ahead-quiet, ahead-start, ahead-whole, behind-breaks, behind-end, behind-quiet, behind-whole}
 use Rattle.typing_declarations.specs.Blocks.{ended}
 use Rattle.typing_declarations.specs.Rows.{AheadBy}

@@ -1,5 +1,5 @@
 -- Variables, constants and types, from what their parts are.
-use Rattle.std.proofs.Common.{◌≡◌, ℕ, Bool, true, false, cond, List, [], ◌∷◌, Option, Some, None, refl, sym, ap, ◌∙◌, subst}
+use Rattle.std.proofs.Common.{◌≡◌, ℕ, Bool, true, false, cond, List, [], ◌∷◌, map, Option, Some, None, refl, sym, ap, ◌∙◌, subst}
 use Rattle.std.specs.Prelude.{Result, Ok, Err, nat_lt, ◌==◌, length}
 use Rattle.std.specs.Option.{option_map}
 use Rattle.sv_tree.specs.declared.declarations.Declarator.{Declarator}
@@ -9,21 +9,22 @@ use Rattle.sv_tree.specs.declared.expressions.Select.{Select}
 use Rattle.sv_tree.specs.declared.types.TypeText.{TypeText}
 use Rattle.sv_tree.specs.declared.names.Signing.{Signing}
 use Rattle.sv_types.specs.declared.expression.Expr.{Expr}
+use Rattle.sv_types.specs.declared.frame.ParamType.{ParamType}
 use Rattle.sv_types.specs.declared.frame.ParamValue.{ParamValue}
 use Rattle.sv_types.specs.declared.statement.Function.{Function}
 use Rattle.sv_types.specs.declared.types.SvType.{SvType}
 use Rattle.sv_types.specs.Layouts.{width_of}
 use Rattle.expr_type.specs.declared.halt.Halt.{Halt}
 use Rattle.expr_type.specs.declared.halt.Halt.TheVariants as H
-use Rattle.expr_type.specs.Answers.{Gives}
+use Rattle.expr_type.specs.Answers.{Gives, reason}
 use Rattle.expr_type.specs.Breaks.{Position, Quiet}
 use Rattle.expr_type.specs.Expressions as E
-use Rattle.expr_type.specs.Expressions.{meaning, operand, typed_expr}
+use Rattle.expr_type.specs.Expressions.{given_if, meaning, operand, typed_expr}
 use Rattle.expr_type.specs.Forms.{type_of_thing}
 use Rattle.expr_type.specs.Names.{Context, Source, position, thing}
 use Rattle.expr_type.specs.Operands.{Operand, given}
 use Rattle.expr_type.specs.Statements as S
-use Rattle.expr_type.specs.Statements.{Declared, IsValue, Parameter, by_dimensions, constant, initial_value, is_unwritten, local_of, local_type, selected_type, type_parameter, value_parameter, variable, with_dimensions, with_type, written_type, OfType, OfValue, WrittenType, sign_alone, sign_or_type, type_or_bit, written_value}
+use Rattle.expr_type.specs.Statements.{Declared, IsType, IsValue, Parameter, by_dimensions, constant, initial_value, is_unwritten, local_of, local_type, selected_type, type_parameter, value_parameter, variable, with_dimensions, with_type, written_type, OfType, OfValue, WrittenType, sign_alone, sign_or_type, type_or_bit, written_value}
 use Rattle.expr_type.specs.Targets.{simple_name}
 use Rattle.expr_type.specs.KeywordTypes.{Dim, unpacked}
 use Rattle.expr_type.specs.Types.{TypeFound, declared_type, dims, only, typed_text}
@@ -32,10 +33,10 @@ use Rattle.pattern_laws.proofs.Reasons.{where-fine}
 use Rattle.pattern_types.specs.Meaning.{operand_of}
 use Rattle.pattern_types.specs.declared.operand.Operand as O
 use Rattle.typing_steps.specs.Steps.{IsQuiet, StopsBy, TypesTo}
-use Rattle.typing_steps.proofs.Combining.{checked-fine, checked-stops, rule-types}
+use Rattle.typing_steps.proofs.Combining.{checked-fine, checked-is, checked-stops, rule-types}
 use Rattle.typing_calls.specs.Lists.{as_meant}
 use Rattle.typing_parts.specs.Operands.{as_operand}
-use Rattle.typing_scopes.specs.Ahead.{mapped}
+use Rattle.typing_scopes.specs.Ahead.{halted, mapped}
 use Rattle.typing_scopes.proofs.Turning.{broken-turn, quiet-turn, whole-turn}
 use Rattle.typing_paths.specs.System.{as_type_of}
 use Rattle.typing_values.specs.Parts as part

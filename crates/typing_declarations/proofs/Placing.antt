@@ -1,5 +1,5 @@
 -- A formal that is put into a scope, and the scope of a body before its formals.
-use Rattle.std.proofs.Common.{◌≡◌, List, [], ◌∷◌, Some, None, Bool, true, false, cond, ℕ, refl, sym, ap, ◌∙◌, subst}
+use Rattle.std.proofs.Common.{◌≡◌, List, [], ◌∷◌, Option, Some, None, Bool, true, false, cond, ℕ, refl, sym, ap, ◌∙◌, subst}
 use Rattle.std.specs.Prelude.{Result, Ok, Err}
 use Rattle.sv_types.specs.declared.frame.ParamValue.{ParamValue}
 use Rattle.sv_types.specs.declared.statement.Formal.{Formal}
@@ -9,7 +9,7 @@ use Rattle.sv_types.specs.declared.types.SvType.{SvType}
 use Rattle.expr_type.specs.declared.halt.Halt.{Halt}
 use Rattle.expr_type.specs.declared.halt.Halt.TheVariants as H
 use Rattle.expr_type.specs.Functions as F
-use Rattle.expr_type.specs.Functions.{in_body}
+use Rattle.expr_type.specs.Functions.{behind_formal, in_body}
 use Rattle.expr_type.specs.Names.{Context, LocalId, local_id, with_locals, with_values}
 use Rattle.expr_type.specs.Types.{TypeFound}
 use Rattle.expr_type.specs.Typings.{Typed}
@@ -19,7 +19,7 @@ use Rattle.typing_declarations.specs.declared.formal_types.Before.{Before}
 use Rattle.typing_declarations.specs.declared.formal_types.FormalFound.{FormalFound}
 use Rattle.typing_declarations.specs.Formals.{IsPut, before_of, formal_at, formal_of}
 use Rattle.typing_declarations.specs.Giving.{plain_result, with_result}
-use Rattle.typing_declarations.specs.FormalRows.{IsFormal, IsNoFormal}
+use Rattle.typing_declarations.specs.FormalRows.{IsFormal, IsNoFormal, formal_in}
 
 abbrev with_before : Way → TypeFound → F.Before
 with_before way f = record { way = way; of = Some f }

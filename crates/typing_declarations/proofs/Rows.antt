@@ -1,6 +1,6 @@
 -- Names in a row, one more after the other.
-use Rattle.std.proofs.Common.{◌≡◌, ℕ, zero, suc, ℤ, ◌<◌, ◌≤◌, ◌+◌, Bool, true, false, ◌&&◌, not, cond, List, [], ◌∷◌, ◌++◌, length, drop, get_or, drop-cons, Option, Some, None, refl, sym, ap, ◌∙◌, subst, append_assoc, length-append, arith}
-use Rattle.std.specs.Prelude.{Ok, Err, slice_get, ◌-◌, is_some}
+use Rattle.std.proofs.Common.{◌≡◌, ℕ, zero, suc, ℤ, ◌<◌, ◌≤◌, ◌+◌, Bool, true, false, ◌&&◌, not, cond, List, [], ◌∷◌, ◌++◌, map, length, drop, get_or, drop-cons, Option, Some, None, refl, sym, ap, ◌∙◌, subst, append_assoc, length-append, arith}
+use Rattle.std.specs.Prelude.{Result, Ok, Err, slice_get, ◌-◌, is_some}
 use Rattle.std.proofs.Math.Numerals.{add-one}
 use Rattle.b4_core.specs.declared.bit.Bit4.{Bit4}
 use Rattle.b4_core.specs.Vectors.{number}
@@ -8,6 +8,7 @@ use Rattle.sv_tree.specs.declared.types.EnumName as W
 use Rattle.sv_types.specs.declared.statement.Function.{Function}
 use Rattle.sv_types.specs.declared.types.SvType.{SvType}
 use Rattle.sv_types.specs.Layouts.{width_of}
+use Rattle.expr_type.specs.declared.halt.Halt.{Halt}
 use Rattle.expr_type.specs.declared.halt.Halt.TheVariants as H
 use Rattle.expr_type.specs.Breaks.{Quiet}
 use Rattle.expr_type.specs.Names.{Context}
@@ -18,14 +19,15 @@ use Rattle.expr_type.specs.Typings.{Typed, Typing, broken}
 use Rattle.typing_fits.proofs.Full.{and-left, and-right, full-bits}
 use Rattle.typing_walks.specs.WrittenTypes.{initial_written, names_written}
 use Rattle.enum_types.specs.Taken.{Holds}
+use Rattle.enum_types.specs.declared.taken.Taken.{Taken}
 use Rattle.enum_values.proofs.Unwritten.{value-inside}
 use Rattle.enum_values.specs.Values.{IsInBase, last_number, named_by}
-use Rattle.typing_scopes.specs.Ahead.{Ahead, AheadQuiet}
+use Rattle.typing_scopes.specs.Ahead.{Ahead, AheadQuiet, AheadWhole}
 use Rattle.typing_scopes.proofs.Turning.{ahead-alike, ahead-breaks, ahead-end, ahead-quiet, ahead-start, ahead-whole, behind-breaks, behind-end, behind-quiet, behind-whole}
 use Rattle.typing_steps.specs.Steps.{StopsBy, TypesTo}
 use Rattle.typing_declarations.specs.declared.enum_names.Met.{Met}
 use Rattle.typing_declarations.specs.declared.enum_names.Named.{Named}
-use Rattle.typing_declarations.specs.Naming.{AllInBase, IsMet, NamesAhead, as_values, bits_in, last_bits, name_of, so_far, value_by, values_of, with_name}
+use Rattle.typing_declarations.specs.Naming.{AllInBase, AreMet, IsMet, NamesAhead, Reaches, as_values, bits_in, last_bits, name_of, so_far, value_by, values_of, with_name}
 
 -- the first name of a row and the rest behind it
 module _ (k : Context) (t : SvType) (lost : Bool) (before : List NameValue) (last : Option ℤ) (n : W.EnumName) (ns : List W.EnumName) where

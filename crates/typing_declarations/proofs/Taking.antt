@@ -1,5 +1,5 @@
 -- What one more declaration does to a row.
-use Rattle.std.proofs.Common.{◌≡◌, Bool, false, List, ◌∷◌, map, Option, None, sym, subst}
+use Rattle.std.proofs.Common.{◌≡◌, ℕ, Bool, true, false, List, [], ◌∷◌, map, Option, Some, None, refl, sym, ap, ◌∙◌, subst}
 use Rattle.std.specs.Prelude.{Result, Ok, Err}
 use Rattle.sv_tree.specs.declared.declarations.Declarator.{Declarator}
 use Rattle.sv_tree.specs.declared.declarations.ParameterBody.{ParameterBody}

@@ -1,5 +1,5 @@
 -- The value of a name behind others.
-use Rattle.std.proofs.Common.{◌≡◌, ℕ, zero, suc, ℤ, Bool, true, false, ◌&&◌, cond, List, [], ◌∷◌, length, Option, Some, None, refl, sym, ap, ◌∙◌, subst}
+use Rattle.std.proofs.Common.{◌≡◌, ℕ, zero, suc, ℤ, Bool, true, false, ◌&&◌, cond, List, [], ◌∷◌, ◌++◌, length, Option, Some, None, refl, sym, ap, ◌∙◌, subst}
 use Rattle.std.specs.Prelude.{Result, Ok, Err, IfOk, slice_get, ◌-◌, ◌<◌, ◌≤◌}
 use Rattle.b4_core.specs.declared.bit.Bit4.{Bit4}
 use Rattle.sv_tree.specs.declared.declarations.Initializer.{Initializer}
@@ -16,7 +16,7 @@ use Rattle.expr_type.specs.Breaks.{Quiet}
 use Rattle.expr_type.specs.Expressions.{operand}
 use Rattle.expr_type.specs.Names.{Context, Source}
 use Rattle.expr_type.specs.Operands.{constant_in}
-use Rattle.expr_type.specs.Types.{NameValue, is_name_number, least_value, most_value}
+use Rattle.expr_type.specs.Types.{NameValue, is_name_number, least_value, most_value, name_value}
 use Rattle.expr_type.specs.Types as T
 use Rattle.expr_type.specs.Typings.{Checked, Typed, Typing, applied, broken, by_functions, checked, rule, whole, where_whole}
 use Rattle.typing_steps.specs.Steps.{TypesTo}

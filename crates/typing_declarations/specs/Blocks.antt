@@ -1,5 +1,5 @@
 -- Declarations that stand one behind the other, as the code has them.
-use Rattle.std.specs.Prelude.{◌≡◌, Bool, true, false, List, [], ◌∷◌, map, Result, Ok, Err}
+use Rattle.std.specs.Prelude.{◌≡◌, ⊤, Bool, true, false, List, [], ◌∷◌, map, Result, Ok, Err}
 use Rattle.sv_types.specs.declared.frame.ParamValue.{ParamValue}
 use Rattle.expr_type.specs.declared.halt.Halt.{Halt}
 use Rattle.expr_type.specs.declared.halt.Halt.TheVariants as H

@@ -1,6 +1,7 @@
 //! Parameters of blocks, each behind those before it.
 
 ghost use Rattle.std.specs.Prelude.{◌≡◌, None, true};
+ghost use Rattle.std.specs.Option.{option_copied};
 ghost use Rattle.sv_tree.specs.declared.declarations.ParameterBody.TheVariants as body;
 ghost use Rattle.expr_type.specs.Statements as statement;
 ghost use Rattle.expr_type.specs.Statements.{Declared as Described};

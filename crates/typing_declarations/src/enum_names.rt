@@ -4,6 +4,7 @@ ghost use Rattle.std.specs.Prelude.{◌≡◌, ◌≤◌, ◌<◌, ◌++◌, ◌
 ghost use Rattle.sv_types.specs.Layouts.{width_of};
 ghost use Rattle.sv_types.specs.Values.{value_of_bits};
 ghost use Rattle.sv_tree.specs.declared.types.EnumName as written;
+ghost use Rattle.expr_type.specs.Names.{with_values};
 ghost use Rattle.expr_type.specs.Types as types;
 ghost use Rattle.expr_type.specs.Typings.{Typed};
 ghost use Rattle.routine_fits.specs.Sound.{AllSoundFunctions};
@@ -15,7 +16,7 @@ ghost use Rattle.typing_parts.specs.Typists.{IsReady, MakesKnown};
 ghost use Rattle.typing_scopes.specs.Scopes.{context_of};
 ghost use Rattle.typing_steps.specs.Steps.{TypesTo};
 ghost use Rattle.enum_values.specs.Values.{IsInBase, named_by};
-ghost use Rattle.typing_declarations.specs.Naming.{AreMet, IsMet, NamesAhead, Reaches, as_values, with_name};
+ghost use Rattle.typing_declarations.specs.Naming.{AllInBase, AreMet, IsMet, NamesAhead, Reaches, as_values, with_name};
 
 use crate::values::name_value;
 use b4_core::Vec4;

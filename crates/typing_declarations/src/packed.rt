@@ -2,6 +2,7 @@
 
 ghost use Rattle.std.specs.Prelude.{◌≡◌, List, true, IfOk};
 ghost use Rattle.sv_types.specs.declared.statement.Function.{Function};
+ghost use Rattle.expr_type.specs.Answers.{source};
 ghost use Rattle.expr_type.specs.Types as means;
 ghost use Rattle.expr_type.specs.Typings.{Typing};
 ghost use Rattle.routine_fits.specs.Sound.{AllSoundFunctions};
@@ -15,11 +16,11 @@ ghost use Rattle.typing_steps.specs.Steps.{TypesTo};
 ghost use Rattle.typing_declarations.specs.Texts.{packed_by, under_by};
 
 use crate::{TypeFound, dims};
-use expr_type::Halt;
+use expr_type::{Halt, Source};
 use std::alloc::Global;
 use sv_tree::Dimension;
 use sv_types::SvType;
-use type_texts::under;
+use type_texts::{Dim, under};
 use typing_parts::{Known, Names};
 use typing_scopes::{Base, Scope};
 use typing_values::behind_quiet;

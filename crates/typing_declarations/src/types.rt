@@ -9,7 +9,7 @@ ghost use Rattle.typing_walks.specs.Keeps.{Surrounded};
 ghost use Rattle.typing_walks.specs.WrittenTypes.{base_written, dims_written};
 ghost use Rattle.typing_parts.specs.Typists.{IsReady, MakesKnown};
 ghost use Rattle.typing_steps.specs.Steps.{TypesTo};
-ghost use Rattle.typing_declarations.specs.Types.{base_named, implicit_of, keyword_of};
+ghost use Rattle.typing_declarations.specs.Types.{base_keyword, base_named, implicit_of, keyword_of};
 
 use crate::dimensions::dims;
 use expr_type::Halt;

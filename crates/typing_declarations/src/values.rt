@@ -1,9 +1,10 @@
 //! Values of the names of enums as they are written.
 
-ghost use Rattle.std.specs.Prelude.{◌≡◌, ◌≤◌, ◌<◌, true, IfOk};
+ghost use Rattle.std.specs.Prelude.{◌≡◌, ◌≤◌, ◌<◌, length, true, IfOk};
 ghost use Rattle.std.specs.Option.{option_copied};
 ghost use Rattle.b4_core.specs.Vectors.{known};
 ghost use Rattle.sv_types.specs.Layouts.{width_of};
+ghost use Rattle.sv_types.specs.Values.{value_of_bits};
 ghost use Rattle.expr_type.specs.Expressions.{meaning};
 ghost use Rattle.routine_fits.specs.Sound.{AllSoundFunctions};
 ghost use Rattle.typing_fits.specs.Sound.{Extends};
@@ -14,7 +15,7 @@ ghost use Rattle.typing_parts.specs.Operands.{as_operand};
 ghost use Rattle.typing_parts.specs.Typists.{FitsIfOk, IsReady, MakesKnown, NarrowIfOk};
 ghost use Rattle.typing_steps.specs.Steps.{TypesTo};
 ghost use Rattle.typing_values.specs.Numbers.{CanBeValued, constant_of};
-ghost use Rattle.enum_values.specs.Values.{IsInBase};
+ghost use Rattle.enum_values.specs.Values.{AreInBase, IsInBase};
 ghost use Rattle.typing_declarations.specs.Naming.{IsMet, as_named, last_bits, name_of, written_name};
 
 use crate::enum_names::Met;

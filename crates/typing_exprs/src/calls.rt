@@ -1,5 +1,6 @@
 //! Calls of functions.
 
+ghost use Rattle.std.specs.Prelude.{◌≡◌};
 ghost use Rattle.typing_parts.specs.RoutineFits.{AllSoundFunctions};
 ghost use Rattle.typing_walks.specs.Keeps.{Surrounded};
 ghost use Rattle.typing_fits.specs.Sound.{Extends};

@@ -1,6 +1,6 @@
 //! Expressions in parentheses.
 
-ghost use Rattle.std.specs.Prelude.{List, IfOk};
+ghost use Rattle.std.specs.Prelude.{◌≡◌, List, IfOk};
 ghost use Rattle.expr_type.specs.Expressions.{meaning};
 ghost use Rattle.expr_type.specs.Forms as form;
 ghost use Rattle.expr_type.specs.Names.{Source};

@@ -1,6 +1,6 @@
 //! Casts to what a name stands for.
 
-ghost use Rattle.std.specs.Prelude.{List, IfOk};
+ghost use Rattle.std.specs.Prelude.{◌≡◌, List, IfOk};
 ghost use Rattle.expr_type.specs.Forms as form;
 ghost use Rattle.expr_type.specs.Names.{Source};
 ghost use Rattle.expr_type.specs.Typings.{Typing};

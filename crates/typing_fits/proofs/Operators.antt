@@ -34,13 +34,13 @@ use Rattle.expr_type.specs.Shapes.{one_bit, enum_of, sign_of}
 use Rattle.expr_type.specs.Names.{Source, position}
 use Rattle.expr_type.specs.Operands.{too_wide, width}
 use Rattle.expr_type.specs.Operators as R
-use Rattle.expr_type.specs.Operators.{expr_at, valued, by_itself, in_context, both_wide, both_signed, both_type, same_type, is_signed, over, binary_kind, by_kind, binary_of, unary_kind, by_prefix, unary_of}
+use Rattle.expr_type.specs.Operators.{expr_at, valued, by_itself, in_context, taking, both_wide, both_signed, both_type, same_type, is_signed, over, binary_kind, by_kind, binary_of, unary_kind, by_prefix, unary_of}
 use Rattle.typing_fits.specs.Sound.{IsNarrowType, Limited, LimitedAt, Sound}
 use Rattle.typing_fits.proofs.Contexts.{allowed, allowed-left, allowed-right, word, word-in, refused-then, none-there, unless-none, unless-is, none-right}
 use Rattle.typing_fits.proofs.Full.{full-bits}
 use Rattle.typing_fits.proofs.Vectors.{IsVector, vector-of, vector-as, one_bit-of, narrow-vector, narrow-one_bit, width-vector, result-of}
 use Rattle.typing_fits.proofs.Limits as M
-use Rattle.typing_fits.proofs.Limits.{Short, at-width}
+use Rattle.typing_fits.proofs.Limits.{Covers, Short, at-width}
 
 -- an operand at its own width, and at others
 pub bits-of : (v : Valued) (gs : List Function) → Sound v gs → 0 < width v

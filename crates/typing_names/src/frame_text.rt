@@ -1,6 +1,7 @@
 //! The texts of a frame in which expressions are typed.
 
-ghost use Rattle.std.specs.Prelude.{◌≡◌, None};
+ghost use Rattle.std.specs.Prelude.{◌≡◌, [], ◌++◌, map, None, length};
+ghost use Rattle.std.specs.Option.{option_copied};
 ghost use Rattle.expr_type.specs.Names as names;
 ghost use Rattle.frame_texts.specs.Frames as means;
 ghost use Rattle.typing_parts.specs.Things.{StandsFor};

@@ -10,7 +10,7 @@ use Rattle.expr_type.specs.Expressions as E
 use Rattle.expr_type.specs.Expressions.{Meaning, CastMeaning, DimensionMeaning, PatternMeaning, ItemMeaning, SliceMeaning, RangeMeaning}
 use Rattle.expr_type.specs.Forms.{SelectMeaning}
 use Rattle.expr_type.specs.Names.{Context}
-use Rattle.expr_type.specs.Operators.{From}
+use Rattle.expr_type.specs.Operators.{Only, From}
 use Rattle.expr_type.specs.Operators as O
 use Rattle.expr_type.specs.Typings.{Typing, both, whole}
 use Rattle.inside_types.specs.declared.alternatives.Alternative.{Alternative}

@@ -1,7 +1,8 @@
 //! `inside` and the items on its right.
 
-ghost use Rattle.std.specs.Prelude.{map, IfOk, OnOk, Ok};
+ghost use Rattle.std.specs.Prelude.{◌≡◌, ◌≤◌, ◌∷◌, [], map, IfOk, OnOk, Ok};
 ghost use Rattle.inside_types.specs.Alternatives.{AllNarrowIn, IsNarrowIn, alternative};
+ghost use Rattle.operand_types.specs.Allowed.{IsNarrow};
 ghost use Rattle.typing_operators.specs.Ranges.{range_of, ranges_of};
 ghost use Rattle.typing_fits.specs.Sound.{Extends};
 ghost use Rattle.typing_parts.specs.Typists.{AllCanType, CanType, IsReady};

@@ -1,7 +1,7 @@
 //! Parts of concatenations and streams, in the order of the text. Behind a part that breaks no rule and isn't whole the
 //! others are looked at for their breaks.
 
-ghost use Rattle.std.specs.Prelude.{IfOk};
+ghost use Rattle.std.specs.Prelude.{◌≡◌, IfOk};
 ghost use Rattle.operand_types.specs.Allowed.{AllNarrow, IsNarrowExpr};
 ghost use Rattle.typing_fits.specs.Sound.{Extends};
 ghost use Rattle.typing_steps.specs.Steps.{TypesTo};

@@ -1,6 +1,6 @@
 //! How many bits a slice of a stream has (IEEE 1800-2017 clause 11.4.14.2).
 
-ghost use Rattle.std.specs.Prelude.{[], Some};
+ghost use Rattle.std.specs.Prelude.{◌≡◌, [], Some};
 ghost use Rattle.sv_types.specs.Layouts.{width_of};
 ghost use Rattle.expr_type.specs.Answers.{Gives, source};
 ghost use Rattle.expr_type.specs.Expressions.{meaning, slice_meaning};

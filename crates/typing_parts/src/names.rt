@@ -1,6 +1,6 @@
 //! What the names of a text stand for.
 
-ghost use Rattle.std.specs.Prelude.{◌≡◌};
+ghost use Rattle.std.specs.Prelude.{◌≡◌, ℕ, List};
 ghost use Rattle.expr_type.specs.Answers.{source};
 ghost use Rattle.expr_type.specs.Names as names;
 ghost use Rattle.expr_type.specs.Names.{Context};

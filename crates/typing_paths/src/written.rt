@@ -1,6 +1,6 @@
 //! Dimensions as they are written, and selects behind the name of a type, which are dimensions too (IEEE 1800-2017 clause 7.4).
 
-ghost use Rattle.std.specs.Prelude.{List, ◌∷◌, [], ◌++◌};
+ghost use Rattle.std.specs.Prelude.{◌≡◌, List, ◌∷◌, [], ◌++◌};
 ghost use Rattle.sv_types.specs.declared.statement.Function.{Function};
 ghost use Rattle.expr_type.specs.KeywordTypes as written;
 ghost use Rattle.expr_type.specs.Typings.{Typing, all};

@@ -1,6 +1,6 @@
 //! What stands behind the tick of a cast.
 
-ghost use Rattle.std.specs.Prelude.{IfOk};
+ghost use Rattle.std.specs.Prelude.{◌≡◌, IfOk};
 ghost use Rattle.expr_type.specs.Answers.{Gives, source};
 ghost use Rattle.expr_type.specs.Expressions.{meaning};
 ghost use Rattle.operand_types.specs.Allowed.{IsNarrow};

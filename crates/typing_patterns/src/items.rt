@@ -1,6 +1,6 @@
 //! Items of patterns.
 
-ghost use Rattle.std.specs.Prelude.{map, flat_map, IfOk};
+ghost use Rattle.std.specs.Prelude.{◌≡◌, map, flat_map, IfOk};
 ghost use Rattle.expr_type.specs.Patterns as rule;
 ghost use Rattle.typing_fits.specs.Operands.{SoundContext};
 ghost use Rattle.typing_fits.specs.Sound.{Extends};

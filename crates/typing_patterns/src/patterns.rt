@@ -1,5 +1,6 @@
 //! Patterns behind their ticks.
 
+ghost use Rattle.std.specs.Prelude.{◌≡◌};
 ghost use Rattle.typing_fits.specs.Operands.{SoundContext};
 ghost use Rattle.typing_fits.specs.Sound.{Extends};
 ghost use Rattle.typing_parts.specs.Operands.{as_operand};

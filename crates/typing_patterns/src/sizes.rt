@@ -1,6 +1,6 @@
 //! Casts to sizes.
 
-ghost use Rattle.std.specs.Prelude.{ℕ, List};
+ghost use Rattle.std.specs.Prelude.{◌≡◌, ℕ, List, IfOk};
 ghost use Rattle.expr_type.specs.Operands as rule;
 ghost use Rattle.expr_type.specs.Typings.{Typing};
 ghost use Rattle.sv_types.specs.declared.statement.Function.{Function};

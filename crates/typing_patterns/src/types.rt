@@ -1,6 +1,6 @@
 //! Casts to types.
 
-ghost use Rattle.std.specs.Prelude.{◌≡◌, List};
+ghost use Rattle.std.specs.Prelude.{◌≡◌, List, IfOk};
 ghost use Rattle.expr_type.specs.Answers.{Gives, source};
 ghost use Rattle.expr_type.specs.Forms as form;
 ghost use Rattle.expr_type.specs.Typings.{Checked, Typing, where_whole};

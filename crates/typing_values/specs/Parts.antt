@@ -18,7 +18,7 @@ use Rattle.expr_type.specs.declared.operand.Valued.{Valued}
 use Rattle.expr_type.specs.Expressions as E
 use Rattle.expr_type.specs.Expressions.{Meaning, CastMeaning, DimensionMeaning, PatternMeaning, ItemMeaning, SliceMeaning, RangeMeaning, actuals, dimension_meaning, meaning, select_meaning, slice_meaning, slice_or_one}
 use Rattle.expr_type.specs.Forms as F
-use Rattle.expr_type.specs.Forms.{SelectMeaning}
+use Rattle.expr_type.specs.Forms.{Inside, SelectMeaning}
 use Rattle.expr_type.specs.KeywordTypes.{Dim, keyword_type}
 use Rattle.expr_type.specs.Names.{Context}
 use Rattle.expr_type.specs.Operands.{Operand}

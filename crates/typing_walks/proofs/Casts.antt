@@ -19,7 +19,7 @@ use Rattle.expr_type.specs.Shapes.{integer, is_unpacked}
 use Rattle.expr_type.specs.Operands.{Operand, value, bits_in, number_within, width}
 use Rattle.expr_type.specs.Operators.{by_itself}
 use Rattle.expr_type.specs.KeywordTypes as W
-use Rattle.expr_type.specs.KeywordTypes.{Dim, word_of, signed_by, packed, named_type, keyword_type}
+use Rattle.expr_type.specs.KeywordTypes.{Dim, Word, word_of, signed_by, packed, named_type, keyword_type}
 use Rattle.expr_type.specs.Forms as R
 use Rattle.expr_type.specs.Forms.{Inside, bits_inside, not_pattern, by_size, by_written_size, written_size, by_sign, by_type, type_cast, size_cast, system_call, call, call_of, counted_call, finds_count, miscounted, needed, with_other_count, type_of_thing, under, dimensioned}
 use Rattle.typing_fits.specs.Types.{is_full}

@@ -20,6 +20,7 @@ use Rattle.expr_type.specs.Operators.{Alternative, by_itself, binary_of, unary_o
 use Rattle.expr_type.specs.KeywordTypes.{Dim, keyword_type}
 use Rattle.expr_type.specs.TargetNames.{is_packed_target}
 use Rattle.expr_type.specs.Forms as F
+use Rattle.expr_type.specs.Forms.{SelectMeaning, dimensions, type_of_thing}
 use Rattle.expr_type.specs.Expressions.{Meaning, of_operand, of_value, CastMeaning, DimensionMeaning, RangeMeaning, keyword_dimensions, Arms, arms, expr_step}
 use Rattle.typing_fits.specs.Sound.{Sound, AllSoundAlone}
 use Rattle.typing_fits.specs.Alternatives.{AllSoundIn}
@@ -36,6 +37,7 @@ use Rattle.typing_walks.proofs.Lasting.{valued-lasts, range-lasts, any-lasts, al
 use Rattle.typing_walks.proofs.Operands as O
 use Rattle.typing_walks.proofs.Operands.{SomeHold}
 use Rattle.typing_walks.proofs.Casts as C
+use Rattle.typing_walks.proofs.Casts.{TypeIf}
 
 -- several alternatives
 all-ranges : (as' : List Alternative) (gs : List Function) → AllHold SoundRange as' gs → AllSoundIn as' gs

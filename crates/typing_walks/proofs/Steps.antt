@@ -32,7 +32,7 @@ use Rattle.expr_type.specs.KeywordTypes.{keyword_type}
 use Rattle.expr_type.specs.Selects.{bound_in, width_in, index_in}
 use Rattle.expr_type.specs.TargetNames.{packed_target, is_packed_target}
 use Rattle.expr_type.specs.Forms as F
-use Rattle.expr_type.specs.Forms.{dimensions, type_of_thing}
+use Rattle.expr_type.specs.Forms.{Inside, SelectMeaning, dimensions, type_of_thing}
 use Rattle.expr_type.specs.Patterns.{Item, ItemKey, InPlace, ByDefault, Named, Numbered}
 use Rattle.expr_type.specs.Expressions.{Meaning, part, parts, count, PatternMeaning, ItemMeaning, SliceMeaning, pattern_operand, cast_step, most_of_unpacked, between, bounds, dimension_step, if_all, slice_or_one, stream, expr_step, pattern_step, key_number, is_key, keyed_item, pattern_item_step, part_step, part_dimension, select_step, slice_size_step, value_range_step}
 use Rattle.typing_fits.specs.Sound.{Sound}
@@ -47,6 +47,7 @@ use Rattle.typing_walks.proofs.Lasting.{valued-lasts, operand-lasts, fixed-lasts
 use Rattle.typing_walks.proofs.Operands as O
 use Rattle.typing_walks.proofs.Operands.{SomeHold}
 use Rattle.typing_walks.proofs.Paths as P
+use Rattle.typing_walks.proofs.Paths.{SelectsSound}
 use Rattle.typing_walks.proofs.Forms as X
 use Rattle.typing_walks.proofs.Forms.{AllMeanings, Gives, AllGive, some-alone, joined-sound, joined-none, streamed-made, packed-fixed, some-fixed}
 

@@ -33,7 +33,7 @@ use Rattle.expr_type.specs.KeywordTypes.{Dim, keyword_type, implicit_type, unpac
 use Rattle.expr_type.specs.Forms.{dimensioned, type_of_thing}
 use Rattle.expr_type.specs.Expressions.{dimension_meaning, operand}
 use Rattle.expr_type.specs.Types as T
-use Rattle.expr_type.specs.Types.{latest_first, TypeFound, dims, found_type, named_with, int_type, base_type, NameValue, written_value, is_taken, name_value, value_in, goes_on_from, name_behind, unwritten, last_number, name_values, enum_name, enum_found, Field, Fields, member, first_width, same_widths, sign_by, aggregate}
+use Rattle.expr_type.specs.Types.{latest_first, TypeFound, only, dims, found_type, named_with, int_type, base_type, NameValue, written_value, is_taken, name_value, value_in, goes_on_from, name_behind, unwritten, last_number, name_values, enum_name, enum_found, Field, Fields, field, names_behind, all_fields, member, first_width, same_widths, sign_by, aggregate}
 use Rattle.typing_fits.specs.Types.{is_full, is_full_member}
 use Rattle.typing_fits.specs.Sound.{Sound}
 use Rattle.typing_fits.specs.Operands.{SoundConstant, AllValuesSound}

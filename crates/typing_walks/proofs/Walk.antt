@@ -15,11 +15,12 @@ use Rattle.expr_type.specs.Expressions.{Meaning, CastMeaning, DimensionMeaning, 
 use Rattle.typing_fits.proofs.Full.{and-left, and-right}
 use Rattle.typing_walks.specs.Keeps.{Anything, SoundInside, SoundParts, SoundItem, SoundRange, SoundMeaning, SoundSelect}
 use Rattle.typing_walks.specs.Written as W
-use Rattle.typing_walks.specs.Written.{cast_written, dimension_written, is_written, pattern_written, item_written, select_written, slice_written, range_written, all}
+use Rattle.typing_walks.specs.Written.{cast_written, dimension_written, is_written, pattern_written, item_written, select_written, slice_written, range_written, all, some_and_all, if_there}
 use Rattle.typing_walks.proofs.Paths.{SelectsSound}
 use Rattle.typing_walks.proofs.Forms as X
 use Rattle.typing_walks.proofs.Forms.{AllMeanings, Gives, AllGive}
 use Rattle.typing_walks.proofs.Steps as S
+use Rattle.typing_walks.proofs.Steps.{SliceIf}
 use Rattle.typing_walks.proofs.Uses as U
 
 -- the other parts of expressions, as they are typed

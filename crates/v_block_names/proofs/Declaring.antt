@@ -1,8 +1,9 @@
 -- One declaration more, from the last to the first.
-use Rattle.std.proofs.Common.{◌≡◌, ◌≤◌, ◌<◌, ◌-◌, ℕ, suc, List, [], ◌∷◌, ◌++◌, length, drop, get_or, Some, sym, ap, ◌∙◌, arith}
+use Rattle.std.proofs.Common.{◌≡◌, ◌≤◌, ◌<◌, ◌-◌, ℕ, suc, List, [], ◌∷◌, ◌++◌, length, drop, get_or, Option, Some, refl, sym, ap, ◌∙◌, arith}
 use Rattle.std.proofs.Math.Seq.{drop-cons}
 use Rattle.v_tree.specs.Names.{Name}
 use Rattle.v_tree.specs.declared.items.VLocal.{VLocal}
+use Rattle.v_scopes.specs.declared.entry.Entry.{Entry}
 use Rattle.v_scopes.specs.declared.entry.Entry.TheVariants.{Value, Part}
 use Rattle.v_scopes.specs.declared.entry.Kind.TheVariants.{Local}
 use Rattle.v_scopes.specs.declared.scope.Scope.{Scope}

@@ -1,8 +1,9 @@
 -- What names stand for behind declarations.
-use Rattle.std.specs.Prelude.{List, [], ◌∷◌, Some}
+use Rattle.std.specs.Prelude.{ℕ, List, [], ◌∷◌, Option, Some, None}
 use Rattle.v_tree.specs.Names.{Name}
 use Rattle.v_tree.specs.declared.items.VLocal.{VLocal}
 use Rattle.v_scopes.specs.Env.{Env, given}
+use Rattle.v_scopes.specs.declared.entry.Entry.{Entry}
 use Rattle.v_scopes.specs.declared.entry.Entry.TheVariants.{Value, Part}
 use Rattle.v_scopes.specs.declared.entry.Kind.TheVariants.{Local}
 

@@ -1,14 +1,15 @@
 //! What processes may write.
 
-ghost use Rattle.std.specs.Prelude.{◌≡◌, ◌≤◌, ◌++◌, [], ◌∷◌, map, IfOk, OnOk};
+ghost use Rattle.std.specs.Prelude.{◌≡◌, ◌≤◌, ◌++◌, false, [], ◌∷◌, cond, map, IfOk, OnOk};
 ghost use Rattle.v_meaning.specs.Modules as modules;
+ghost use Rattle.v_meaning.specs.Modules.{port_target};
 ghost use Rattle.v_meaning.specs.Statements as means;
 ghost use Rattle.v_eval.specs.Holding.{holds};
 ghost use Rattle.v_exec.specs.Limits.{branch_most};
 ghost use Rattle.v_exec.specs.Modules.{callee_in, scope_in, FunctionsNarrow};
 ghost use Rattle.v_run.specs.Limits.{target_most};
 ghost use Rattle.v_modules.specs.Tables.{items_of};
-ghost use Rattle.v_processes.specs.Processes.{does_in};
+ghost use Rattle.v_processes.specs.Processes.{does_in, port_named};
 ghost use Rattle.v_steps.specs.Steps.{DoesNarrow};
 ghost use Rattle.v_writes.specs.Writes.{use_in, made};
 ghost use Rattle.v_drives.specs.Quiet.{AreQuietIn};

@@ -1,6 +1,6 @@
 //! Written bits as sets, and their numbers.
 
-ghost use Rattle.std.specs.Prelude.{◌≡◌, ◌<◌, ◌≤◌, List, map, filter, length, slice_index_or, IfOk};
+ghost use Rattle.std.specs.Prelude.{◌≡◌, ◌<◌, ◌≤◌, List, map, filter, length, Some, slice_get, slice_index_or, IfOk};
 ghost use Rattle.bit_sets.specs.Sets.{IsSet};
 ghost use Rattle.v_meaning.specs.Machine.{size, places_from};
 ghost use Rattle.v_meaning.specs.Modules.{Signal};

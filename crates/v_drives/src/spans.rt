@@ -1,6 +1,6 @@
 //! Writes as spans in the row of all bits.
 
-ghost use Rattle.std.specs.Prelude.{[], ◌∷◌, map, IfOk};
+ghost use Rattle.std.specs.Prelude.{◌≡◌, [], ◌∷◌, map, IfOk};
 ghost use Rattle.v_drives.specs.Rows.{AreCovered};
 ghost use Rattle.v_writes.specs.Writes.{use_in};
 

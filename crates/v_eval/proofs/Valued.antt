@@ -21,7 +21,7 @@ use Rattle.v_meaning.specs.Statements.{declared}
 use Rattle.v_meaning.specs.Functions.{find, callee_or_absent}
 use Rattle.v_meaning.specs.Modules.{functions as functions_in}
 use Rattle.v_meaning.specs.Values as V
-use Rattle.v_meaning.specs.Values.{Meaning, meaning, literal, call, concatenation, repetition, signing, choose, chosen, joined, often, arguments}
+use Rattle.v_meaning.specs.Values.{Meaning, meaning, sel_meaning, unary_meaning, binary_meaning, literal, call, concatenation, repetition, signing, choose, chosen, joined, often, arguments}
 use Rattle.v_eval.specs.declared.operators.Context.{Context}
 use Rattle.v_eval.specs.declared.operators.Prefix.{Prefix}
 use Rattle.v_eval.specs.declared.operators.Prefix.TheVariants as P

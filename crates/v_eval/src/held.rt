@@ -1,6 +1,6 @@
 //! What signals and locals hold, and what is read of it (IEEE 1364-2005 clauses 4.2 and 5.2).
 
-ghost use Rattle.std.specs.Prelude.{◌≡◌, ◌^◌, ◌<◌, slice_index_or, IfOk};
+ghost use Rattle.std.specs.Prelude.{◌≡◌, ◌^◌, ◌<◌, ℕ, length, slice_index_or, IfOk};
 ghost use Rattle.b4_core.specs.declared.bit.Bit4.TheVariants.{X};
 ghost use Rattle.picks.specs.Windows.{picked, tabulated};
 ghost use Rattle.v_eval.specs.Windows.{window_of, IsNear};

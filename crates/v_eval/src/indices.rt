@@ -1,7 +1,7 @@
 //! Numbers of indices (IEEE 1364-2005 clause 5.2.1).
 
-ghost use Rattle.std.specs.Prelude.{◌≡◌, ◌≤◌, ◌^◌, true, false, map, min, cond, Some, None, IfSome, unsigned_abs};
-ghost use Rattle.b4_core.specs.Bits.{known4, is_one};
+ghost use Rattle.std.specs.Prelude.{◌≡◌, ◌≤◌, ◌^◌, true, false, Bool, length, map, min, cond, Some, None, IfSome, unsigned_abs};
+ghost use Rattle.b4_core.specs.Bits.{known4, is_one, not4};
 ghost use Rattle.b4_core.specs.Vectors.{num, digit, number, known, top_bit};
 ghost use Rattle.v_eval.specs.Indices.{most, clamped, flipped};
 

@@ -1,6 +1,7 @@
 //! Widths and signs of expressions alone (IEEE 1364-2005 clause 5.4 and table 5-22).
 
 ghost use Rattle.std.specs.Prelude.{◌≡◌, ◌+◌, ◌*◌, false, ℤ, Option, map, IfOk};
+ghost use Rattle.v_meaning.specs.Scopes.{bits_of_range as range_bits};
 ghost use Rattle.v_meaning.specs.Selects as paths;
 ghost use Rattle.v_meaning.specs.Values.{meaning, sel_meaning, width_of, joined_width};
 ghost use Rattle.v_eval.specs.Limits.{limits, limits_of_prim, limits_of_sel, joined_wide, SelLimits};

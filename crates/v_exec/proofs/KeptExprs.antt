@@ -5,7 +5,7 @@ use Rattle.std.proofs.lemmas.Bool.Decides.{nat_tests}
 use Rattle.v_tree.specs.Names.{Name}
 use Rattle.v_tree.specs.Scopes.{Thing, value, memory, function, result, part, Selected, part_bits, selected_bits, word_bits, named_bits, called_bits}
 use Rattle.v_tree.specs.ExprRules as R
-use Rattle.v_tree.specs.ExprRules.{Around, Rules, SelRules, only_if, alone, total, each_from, widths, selected_of, sels_broken, more_than, has_index, name_broken, sels_on, second_sel, args_broken, call_broken, inputs_of, kind_of, operation_width, too_wide, binary_rules, spreads, is_negative, expr_rules, prim_rules, sel_rules}
+use Rattle.v_tree.specs.ExprRules.{Around, Rules, SelRules, only_if, alone, total, listed_size, each_from, widths, selected_of, sels_broken, more_than, is_index, has_index, name_broken, sels_on, second_sel, args_broken, call_broken, inputs_of, Operation, kind_of, operation_width, too_wide, binary_rules, spreads, is_negative, expr_rules, prim_rules, sel_rules, rules_of, sel_rules_of}
 use Rattle.v_tree.specs.declared.expressions.VExpr.{VExpr-F}
 use Rattle.v_tree.specs.declared.expressions.VExtent.{VExtent}
 use Rattle.v_tree.specs.declared.expressions.VExtent.TheVariants.{Down, Up}

@@ -6,11 +6,11 @@ use Rattle.std.specs.Str.{bytes_eq}
 use Rattle.std.proofs.lemmas.Slice.Eq.{bytes_eq-Decides}
 use Rattle.v_tree.specs.Names.{Name}
 use Rattle.v_tree.specs.Scopes as D
-use Rattle.v_tree.specs.Scopes.{Thing, function, result, part, Declared, bits_of, has_range, repeated, is_declared}
+use Rattle.v_tree.specs.Scopes.{input, net, variable, Thing, value, memory, function, result, part, Declared, bits_of, has_range, repeated, is_declared}
 use Rattle.v_tree.specs.ExprRules.{Around, only_if, rules_of}
 use Rattle.v_tree.specs.StmtRules.{target_of, in_function, at_star, at_edges, range_size, locals_size, locals_from, rules_of_stmt, rules_of_branch}
 use Rattle.v_tree.specs.Rules as R
-use Rattle.v_tree.specs.Rules.{declared_signal, declared_by, declared_in, item_size, event_size, input_bits, function_token, function_names, function_broken, function_links, leads, item_broken, items_broken, process_broken, edges_broken, ports_size, ports_of, listed_ports, unlisted, undeclared, module_broken, module_size, module_names, modules_broken, module_named, module_links, child_broken, Keeps}
+use Rattle.v_tree.specs.Rules.{declared_signal, reg_thing, declared_by, declared_in, item_size, event_size, input_bits, function_token, function_names, function_broken, function_links, links_of, leads, item_broken, items_broken, process_broken, edges_broken, ports_size, ports_of, listed_ports, unlisted, undeclared, module_broken, module_size, module_names, modules_broken, module_named, module_links, child_broken, Keeps}
 use Rattle.v_tree.specs.declared.expressions.VExpr.{VExpr}
 use Rattle.v_tree.specs.declared.items.VFunction.{VFunction}
 use Rattle.v_tree.specs.declared.items.VInit.{VInit}

@@ -8,7 +8,7 @@ use Rattle.v_tree.specs.Scopes as D
 use Rattle.v_tree.specs.Scopes.{local, Thing, value, part, Declared, bits_of, has_range, repeated}
 use Rattle.v_tree.specs.ExprRules.{Around, Rules, only_if, alone, listed_size, rules_of}
 use Rattle.v_tree.specs.StmtRules as Q
-use Rattle.v_tree.specs.StmtRules.{target_of, Procedure, mark_breaks, StmtRules, ItemRules, locals_from, locals_size, blocks_in, stmts_broken, branch_rules, values_at, widest, widest_item, item_rules, bodies, item_values, block_rules, stmt_rules, rules_of_stmt, rules_of_branch}
+use Rattle.v_tree.specs.StmtRules.{target_of, Procedure, mark_breaks, StmtRules, ItemRules, locals_from, locals_size, blocks_in, stmts_broken, branch_rules, values_at, widest, widest_item, item_rules, bodies, item_values, else_rules, block_rules, stmt_rules, rules_of_stmt, rules_of_branch}
 use Rattle.v_tree.specs.declared.expressions.VExpr.{VExpr}
 use Rattle.v_tree.specs.declared.items.VLocal.{VLocal}
 use Rattle.v_tree.specs.declared.statements.VBranch.{VBranch, VBranch-F}

@@ -6,7 +6,7 @@ use Rattle.v_tree.specs.Names.{Name}
 use Rattle.std.specs.List.{list_all}
 use Rattle.v_tree.specs.ExprRules.{Around, Rules, SelRules, total, expr_rules, prim_rules, sel_rules, rules_of, sel_rules_of}
 use Rattle.v_tree.specs.StmtRules as Q
-use Rattle.v_tree.specs.StmtRules.{each_target, lval_target, target_of}
+use Rattle.v_tree.specs.StmtRules.{each_target, lval_target, target_of, Procedure, StmtRules, ItemRules, locals_from, locals_size, blocks_in, stmts_broken, branch_rules, values_at, widest, widest_item, item_rules, bodies, item_values, else_rules, block_rules, stmt_rules, rules_of_stmt, rules_of_branch}
 use Rattle.v_tree.specs.declared.expressions.VExpr.{VExpr, VExpr-F}
 use Rattle.v_tree.specs.declared.expressions.VExpr.TheVariants as E
 use Rattle.v_tree.specs.declared.expressions.VPrim.{VPrim, VPrim-F, fold-VPrim}
@@ -16,7 +16,7 @@ use Rattle.v_tree.specs.declared.expressions.VSel.TheVariants as S
 use Rattle.v_tree.specs.declared.statements.VLval.{VLval, VLval-F, fold-roll-VLval}
 use Rattle.v_tree.specs.declared.statements.VLval.TheVariants as W
 use Rattle.v_tree.proofs.Induction as I
-use Rattle.v_tree.proofs.Induction.{Each}
+use Rattle.v_tree.proofs.Induction.{Each, Perhaps}
 use Rattle.v_selects.specs.Few.{few_of_expr, few_of_prim, few_of_sel, few_of_lval}
 use Rattle.v_selects.proofs.Levels as Few
 use Rattle.v_expr_rules.proofs.Levels as L
@@ -30,7 +30,7 @@ use Rattle.v_run.specs.Limits.{target_most, lval_limits, most_of_parts}
 use Rattle.v_run.proofs.Targeted.{is-name, is-concat}
 use Rattle.v_exec.specs.Agreeing.{Agrees}
 use Rattle.v_exec.proofs.KeptExprs as K
-use Rattle.v_exec.proofs.KeptExprs.{Kept, SelKept, SelsKept, AllKept, left-none, right-none, both-yes}
+use Rattle.v_exec.proofs.KeptExprs.{Kept, SelKept, SelsKept, AllKept, left-none, right-none, not-if, both-yes}
 
 -- expressions
 abbrev pub prim_rules_of : VPrim → Rules

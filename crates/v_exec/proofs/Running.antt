@@ -16,7 +16,7 @@ use Rattle.v_tree.specs.declared.statements.VStmt.TheVariants as T
 use Rattle.v_meaning.specs.Scopes as S
 use Rattle.v_meaning.specs.Values.{Meaning, meaning}
 use Rattle.v_meaning.specs.Runs as R
-use Rattle.v_meaning.specs.Runs.{State, current, one_of, is_true, assign_as, assign_now, cleared}
+use Rattle.v_meaning.specs.Runs.{Run, State, current, one_of, is_true, assign_as, assign_now, cleared}
 use Rattle.v_meaning.specs.Statements.{Doing, nothing, target, changes_of, assignment, sequence, conditional, cases, inside, block_with, declared, locals_of, branch_step, item_step, stmt_step, doing, doing_of}
 use Rattle.v_tree.specs.Names.{Name}
 use Rattle.v_eval.specs.declared.modules.Local.{Local}

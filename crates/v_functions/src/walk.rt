@@ -1,6 +1,6 @@
 //! Where a walk over functions stands, and the calls that it found.
 
-ghost use Rattle.std.specs.Prelude.{◌≡◌, OnOk};
+ghost use Rattle.std.specs.Prelude.{◌≡◌, IfOk, OnOk};
 ghost use Rattle.v_scopes.specs.Env.{found};
 ghost use Rattle.v_functions.specs.Numbered.{numbers_in};
 ghost use Rattle.v_functions.specs.Walks as means;

@@ -38,7 +38,7 @@ use Rattle.v_expr_rules.proofs.Levels as L
 use Rattle.v_meaning.specs.Scopes.{Scope, named, all_bits}
 use Rattle.v_meaning.specs.Selects.{Path, SelMeaning, path_from, select, start}
 use Rattle.v_meaning.specs.Values as T
-use Rattle.v_meaning.specs.Values.{Meaning, meaning, sel_meaning, expr_step, prim_step, sel_step, arguments, given, truth, width_of}
+use Rattle.v_meaning.specs.Values.{Meaning, meaning, sel_meaning, expr_step, prim_step, sel_step, all_reads, sel_reads, arguments, given, truth, alone, use_of, width_of, path_of, value_of}
 use Rattle.v_hangs.proofs.Same.{Same, ValueSame, BaseSame, FunctionsSame, vector-same}
 
 abbrev pub AllSame : List Meaning → Scope → Type 0

@@ -1,8 +1,8 @@
 -- What is found in a function is what the rules tell.
-use Rattle.std.proofs.Common.{◌≡◌, ℕ, ◌+◌, false, List, [], ◌∷◌, ◌++◌, slice_get, Option, Some, None, refl, sym, ap, ◌∙◌, subst, arith}
+use Rattle.std.proofs.Common.{◌≡◌, ℕ, zero, suc, ◌+◌, Bool, true, false, List, [], ◌∷◌, ◌++◌, map, slice_get, Option, Some, None, refl, sym, ap, ◌∙◌, subst, if◌then◌else◌, arith}
 use Rattle.std.specs.Str.{bytes_eq}
 use Rattle.v_tree.specs.Names.{Name}
-use Rattle.v_tree.specs.Scopes.{result, Declared, Scope, inside, repeated, bits_of, has_range}
+use Rattle.v_tree.specs.Scopes.{Thing, result, Declared, Scope, inside, repeated, bits_of, has_range}
 use Rattle.v_tree.specs.ExprRules.{Around}
 use Rattle.v_tree.specs.StmtRules as R
 use Rattle.v_tree.specs.StmtRules.{in_function, rules_of_stmt, range_size, locals_size}
@@ -11,6 +11,7 @@ use Rattle.v_tree.specs.declared.items.VFunction.{VFunction}
 use Rattle.v_tree.specs.declared.items.VItem.{VItem}
 use Rattle.v_tree.specs.declared.items.VItem.TheVariants as I
 use Rattle.v_scopes.specs.Env.{Env}
+use Rattle.v_scopes.specs.declared.entry.Entry.{Entry}
 use Rattle.v_scopes.specs.declared.entry.Entry.TheVariants as N
 use Rattle.v_block_names.specs.Blocks.{parts_given, locals_given}
 use Rattle.v_expr_rules.specs.Seen.{plus, earlier}
@@ -21,13 +22,14 @@ use Rattle.v_expr_rules.proofs.Saturation.{none-earlier, earlier-assoc, first-ap
 use Rattle.v_expr_rules.proofs.Operands.{sum-of}
 use Rattle.v_stmt_rules.specs.declared.statements.StmtSeen.{StmtSeen}
 use Rattle.v_stmt_rules.specs.declared.targets.Procedure.TheVariants as P
-use Rattle.v_stmt_rules.specs.Stmts.{nothing, meets, begun, locals_from, stmt_told}
+use Rattle.v_stmt_rules.specs.Stmts.{Told, nothing, meets, begun, locals_from, stmt_told}
 use Rattle.v_stmt_rules.proofs.Declared.{Meets, meets-more, afters, first-repeated-append, LocalsFit, locals-fit, inside-append, things, thing-if, things-locals, things-parts, names_of}
-use Rattle.v_stmt_rules.proofs.StmtsExact.{StmtFits, stmt-at}
+use Rattle.v_stmt_rules.proofs.StmtsExact.{StmtFits, StmtExact, stmt-at}
 use Rattle.v_stmt_rules.proofs.CasesExact.{stmt-exact}
 use Rattle.v_item_rules.specs.Signals.{range_tokens}
-use Rattle.v_item_rules.specs.Functions.{function_given, own_told, function_seen}
+use Rattle.v_item_rules.specs.Functions.{function_given, whole, own_told, function_seen}
 use Rattle.v_item_rules.specs.Plain.{function_plain}
+use Rattle.v_item_rules.proofs.SignalsExact.{range-of}
 
 range-cap : (r : Option ℕ) → range_tokens r ≡ cap (range_size r)
 range-cap None = refl

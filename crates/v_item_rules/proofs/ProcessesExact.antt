@@ -1,39 +1,50 @@
 -- What is found in initial values, processes and functions is what the rules tell.
-use Rattle.std.proofs.Common.{◌≡◌, ℕ, suc, ◌+◌, ◌*◌, ◌==◌, not, List, [], ◌∷◌, ◌++◌, length, Option, Some, None, refl, sym, ap, ◌∙◌, subst, max, arith}
-use Rattle.v_tree.specs.Scopes.{Declared, repeated, bits_of}
-use Rattle.v_tree.specs.ExprRules.{only_if, rules_of}
+use Rattle.std.proofs.Common.{◌≡◌, ℕ, zero, suc, ◌+◌, ◌*◌, ◌==◌, Bool, true, false, not, List, [], ◌∷◌, ◌++◌, map, length, slice_get, Option, Some, None, refl, sym, ap, ◌∙◌, subst, max, is_some, append_assoc, arith}
+use Rattle.std.proofs.lemmas.List.{append-nil}
+use Rattle.v_tree.specs.Names.{Name}
+use Rattle.v_tree.specs.Scopes.{Thing, result, Declared, Scope, inside, is_declared, repeated, bits_of, has_range}
+use Rattle.v_tree.specs.ExprRules.{Around, Rules, only_if, rules_of}
 use Rattle.v_tree.specs.StmtRules as R
-use Rattle.v_tree.specs.StmtRules.{at_edges, target_of, rules_of_branch}
-use Rattle.v_tree.specs.Rules.{initial_broken, is_one_bit, edges_broken, process_size, process_broken, declared_by}
+use Rattle.v_tree.specs.StmtRules.{in_function, at_star, at_edges, target_of, rules_of_stmt, rules_of_branch, range_size, locals_size}
+use Rattle.v_tree.specs.Rules.{initial_broken, is_one_bit, edges_broken, event_size, process_size, process_broken, declared_by, input_bits, function_token, function_names, function_size}
 use Rattle.v_tree.specs.declared.expressions.VExpr.{VExpr}
 use Rattle.v_tree.specs.declared.items.VEdge.{VEdge}
+use Rattle.v_tree.specs.declared.items.VFunction.{VFunction}
 use Rattle.v_tree.specs.declared.items.VItem.{VItem}
 use Rattle.v_tree.specs.declared.items.VItem.TheVariants as I
 use Rattle.v_tree.specs.declared.items.VProcess.{VProcess}
 use Rattle.v_tree.specs.declared.items.VProcess.TheVariants.{Assign, Always}
+use Rattle.v_tree.specs.declared.items.VSensitivity.{VSensitivity}
 use Rattle.v_tree.specs.declared.items.VSensitivity.TheVariants.{Star, Edges}
 use Rattle.v_tree.specs.declared.statements.VBranch.{VBranch}
 use Rattle.v_tree.specs.declared.statements.VLval.{VLval}
 use Rattle.v_scopes.specs.Env.{Env, given}
 use Rattle.v_scopes.specs.declared.entry.Entry.{Entry}
 use Rattle.v_scopes.specs.declared.entry.Entry.TheVariants as N
+use Rattle.v_scopes.specs.declared.entry.Kind.{Kind}
 use Rattle.v_scopes.specs.declared.entry.Kind.TheVariants as K
+use Rattle.v_block_names.specs.Blocks.{parts_given, locals_given}
+use Rattle.v_expr_rules.specs.declared.seen.Seen.{Seen}
 use Rattle.v_expr_rules.specs.Seen.{plus, earlier, mark}
 use Rattle.v_expr_rules.specs.Least.{cap, first}
 use Rattle.v_expr_rules.specs.Walks.{expr_seen}
-use Rattle.v_expr_rules.specs.Things.{thing_in, around}
-use Rattle.v_expr_rules.proofs.Saturation.{plus-cap, earlier-none, none-earlier, earlier-assoc, first-append, first-if, first-one}
+use Rattle.v_expr_rules.specs.Things.{thing_in, kind_of, widths_of, around}
+use Rattle.v_expr_rules.proofs.Saturation.{plus-cap, earlier-none, none-earlier, earlier-assoc, earlier-comm, first-append, first-if, first-one}
 use Rattle.v_expr_rules.proofs.Operands.{sum-of, next-token}
 use Rattle.v_stmt_rules.specs.declared.statements.StmtSeen.{StmtSeen}
+use Rattle.v_stmt_rules.specs.declared.targets.Procedure.{Procedure}
 use Rattle.v_stmt_rules.specs.declared.targets.Procedure.TheVariants as P
-use Rattle.v_stmt_rules.specs.Targets.{target_seen}
-use Rattle.v_stmt_rules.specs.Stmts.{Told, branch_told}
+use Rattle.v_stmt_rules.specs.declared.targets.TargetSeen.{TargetSeen}
+use Rattle.v_stmt_rules.specs.Targets.{procedure_of, target_seen, assign_first, assigned}
+use Rattle.v_stmt_rules.specs.Stmts.{Told, nothing, meets, begun, locals_from, branch_told, stmt_told}
 use Rattle.v_stmt_rules.proofs.TargetsExact.{TargetFits, target-exact, assigned-fits}
-use Rattle.v_stmt_rules.proofs.Declared.{Meets, afters, things}
-use Rattle.v_stmt_rules.proofs.StmtsExact.{swap, expr-at, stmt-at}
-use Rattle.v_stmt_rules.proofs.CasesExact.{branch-exact}
+use Rattle.v_stmt_rules.proofs.Declared.{Meets, meets-more, afters, afters-append, first-repeated-append, first-repeated, LocalsFit, locals-fit, inside-append, things, things-locals, things-parts, names_of}
+use Rattle.v_stmt_rules.proofs.StmtsExact.{StmtFits, StmtExact, swap, expr-at, stmt-at}
+use Rattle.v_stmt_rules.proofs.CasesExact.{stmt-exact, branch-exact}
+use Rattle.v_item_rules.specs.Signals.{range_tokens}
 use Rattle.v_item_rules.specs.Processes as S
-use Rattle.v_item_rules.specs.Processes.{initial_first, edges_from, no_edges, edge_added, process_told}
+use Rattle.v_item_rules.specs.Processes.{variable_first, initial_first, edges_from, no_edges, edge_added, assign_seen, always_seen, event_seen, waiting_told, process_told}
+use Rattle.v_item_rules.proofs.SignalsExact.{range-of}
 
 here : (at : ℕ) → Some (plus (cap at) 1) ≡ first (suc at ∷ [])
 here at = ap Some (next-token at) ∙ sym (first-one (suc at))

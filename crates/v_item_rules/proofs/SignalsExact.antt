@@ -1,10 +1,10 @@
 -- What is found in declarations of signals is what the rules tell.
-use Rattle.std.proofs.Common.{◌≡◌, ℕ, zero, suc, ◌+◌, ◌-◌, ◌==◌, Bool, true, false, not, List, [], ◌∷◌, map, length, Option, Some, None, refl, sym, ap, ◌∙◌, nat_lt, if◌then◌else◌, arith}
+use Rattle.std.proofs.Common.{◌≡◌, ℕ, zero, suc, ◌+◌, ◌-◌, ◌==◌, Bool, true, false, not, List, [], ◌∷◌, ◌++◌, map, length, Option, Some, None, refl, sym, ap, ◌∙◌, nat_lt, min, if◌then◌else◌, arith}
 use Rattle.std.proofs.lemmas.Bool.Decides.{nat_tests}
 use Rattle.std.proofs.lemmas.Bool.{ltb-true, ltb-false}
 use Rattle.b4_core.specs.declared.bit.Bit4.{Bit4}
 use Rattle.v_tree.specs.Scopes.{bits_of}
-use Rattle.v_tree.specs.ExprRules.{total}
+use Rattle.v_tree.specs.ExprRules.{only_if, total}
 use Rattle.v_tree.specs.StmtRules.{range_size}
 use Rattle.v_tree.specs.Rules.{listed_tokens, init_size, init_bits, optional_size, rest_size, signal_size, value_broken, width_broken, rest_broken, signal_broken, most_bits}
 use Rattle.v_tree.specs.declared.items.VInit.{VInit}
@@ -13,7 +13,7 @@ use Rattle.v_tree.specs.declared.items.VRegRest.{VRegRest}
 use Rattle.v_tree.specs.declared.items.VRegRest.TheVariants as R
 use Rattle.v_tree.specs.declared.items.VSignal.{VSignal}
 use Rattle.v_tree.specs.declared.items.VSignal.TheVariants.{Input, Output, OutputReg, Wire, Reg}
-use Rattle.v_expr_rules.specs.Seen.{plus, earlier, mark}
+use Rattle.v_expr_rules.specs.Seen.{last_token, plus, earlier, mark}
 use Rattle.v_expr_rules.specs.Least.{cap, first}
 use Rattle.v_expr_rules.proofs.Saturation.{plus-cap, first-append, first-if}
 use Rattle.v_expr_rules.proofs.Operands.{sum-of}

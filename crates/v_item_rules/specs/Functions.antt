@@ -1,8 +1,9 @@
 -- What is found in a function.
-use Rattle.std.specs.Prelude.{◌≡◌, ℕ, List, [], Some, Result, Ok, Err}
+use Rattle.std.specs.Prelude.{◌≡◌, ℕ, List, [], ◌∷◌, Option, Some, None, Result, Ok, Err}
 use Rattle.v_tree.specs.declared.items.VFunction.{VFunction}
 use Rattle.v_tree.specs.declared.items.VItem.{VItem}
 use Rattle.v_scopes.specs.Env.{Env, given}
+use Rattle.v_scopes.specs.declared.entry.Entry.{Entry}
 use Rattle.v_scopes.specs.declared.entry.Entry.TheVariants as N
 use Rattle.v_block_names.specs.Blocks.{parts_given, locals_given}
 use Rattle.v_expr_rules.specs.Seen.{plus, earlier}

@@ -1,5 +1,5 @@
 -- What is found in an instance. The ports of a module are given as names that stand for inputs and other nets.
-use Rattle.std.specs.Prelude.{ℕ, Bool, true, false, not, ◌||◌, List, [], ◌∷◌, Option, Some, None, is_some, if◌then◌else◌}
+use Rattle.std.specs.Prelude.{ℕ, ◌==◌, Bool, true, false, not, ◌||◌, List, [], ◌∷◌, Option, Some, None, is_some, length, if◌then◌else◌}
 use Rattle.v_tree.specs.Scopes.{bits_of}
 use Rattle.v_tree.specs.declared.expressions.VExpr.{VExpr}
 use Rattle.v_tree.specs.declared.items.VConnection.{VConnection}

@@ -1,5 +1,5 @@
 -- What is found in initial values and processes.
-use Rattle.std.specs.Prelude.{ℕ, ◌==◌, Bool, false, not, List, [], ◌∷◌, Option, Some, None}
+use Rattle.std.specs.Prelude.{ℕ, ◌==◌, Bool, true, false, not, List, [], ◌∷◌, Option, Some, None}
 use Rattle.v_tree.specs.Scopes.{bits_of}
 use Rattle.v_tree.specs.declared.expressions.VExpr.{VExpr}
 use Rattle.v_tree.specs.declared.items.VEdge.{VEdge}

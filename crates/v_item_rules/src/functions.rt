@@ -2,6 +2,7 @@
 
 ghost use Rattle.std.specs.Prelude.{◌≡◌, OnOk};
 ghost use Rattle.v_scopes.specs.Env.{found, hidden_in, Within};
+ghost use Rattle.v_stmt_rules.specs.Stmts.{stmt_told};
 ghost use Rattle.v_item_rules.specs.Functions as means;
 
 use crate::signals::range_tokens;

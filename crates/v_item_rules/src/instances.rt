@@ -1,6 +1,6 @@
 //! Instances of modules (IEEE 1364-2005 clauses 12.1.2 and 12.3.6).
 
-ghost use Rattle.std.specs.Prelude.{◌≡◌};
+ghost use Rattle.std.specs.Prelude.{◌≡◌, OnOk};
 ghost use Rattle.v_scopes.specs.Env.{found};
 ghost use Rattle.v_stmt_rules.specs.Stmts.{Tells};
 ghost use Rattle.v_item_rules.specs.Instances as means;

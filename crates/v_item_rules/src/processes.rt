@@ -1,6 +1,6 @@
 //! Initial values and processes (IEEE 1364-2005 clauses 6.1, 9.2 and 9.7).
 
-ghost use Rattle.std.specs.Prelude.{◌≡◌, OnOk};
+ghost use Rattle.std.specs.Prelude.{◌≡◌, ◌∷◌, OnOk, IfOk, length};
 ghost use Rattle.v_scopes.specs.Env.{found, hidden_in};
 ghost use Rattle.v_stmt_rules.specs.Stmts.{Tells};
 ghost use Rattle.v_item_rules.specs.Processes as means;

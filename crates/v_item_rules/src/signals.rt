@@ -1,6 +1,6 @@
 //! Declarations of signals (IEEE 1364-2005 clauses 4.3, 4.9 and 6.2.1).
 
-ghost use Rattle.std.specs.Prelude.{◌≡◌};
+ghost use Rattle.std.specs.Prelude.{◌≡◌, ◌∷◌, List, map, length};
 ghost use Rattle.v_item_rules.specs.Signals as means;
 
 use b4_core::Vec4;

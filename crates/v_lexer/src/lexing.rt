@@ -1,6 +1,6 @@
 //! All tokens of a text.
 
-ghost use Rattle.std.specs.Prelude.{◌≡◌, ◌+◌, ◌-◌, ◌^◌, ◌<◌, ◌++◌, length, IfOk, OnOk};
+ghost use Rattle.std.specs.Prelude.{◌≡◌, ◌+◌, ◌-◌, ◌^◌, ◌<◌, ◌++◌, length, map, IfOk, OnOk};
 ghost use Rattle.v_lexer.specs.Seen.{token_of, tokens_of, length_behind};
 ghost use Rattle.v_lexer.specs.Laws.{LexesTokens};
 

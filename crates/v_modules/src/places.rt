@@ -1,6 +1,6 @@
 //! The functions of a module by their names (IEEE 1364-2005 clause 12.7).
 
-ghost use Rattle.std.specs.Prelude.{◌≡◌, ◌+◌, ◌≤◌, length, IfOk, OnOk};
+ghost use Rattle.std.specs.Prelude.{◌≡◌, ◌+◌, ◌≤◌, ℕ, List, length, IfOk, OnOk};
 ghost use Rattle.v_meaning.specs.Modules.{functions as functions_in};
 ghost use Rattle.v_eval.specs.Functions.{place_of};
 ghost use Rattle.v_modules.specs.Places as means;

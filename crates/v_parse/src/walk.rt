@@ -1,6 +1,6 @@
 //! What a derivation means.
 
-ghost use Rattle.std.specs.Prelude.{◌≡◌, ◌<◌, ◌+◌, [], IfOk, OnOk, slice_get, reverse};
+ghost use Rattle.std.specs.Prelude.{◌≡◌, ◌<◌, ◌+◌, [], map, IfOk, OnOk, slice_get, reverse};
 ghost use Rattle.ll_engine.specs.declared.tree.Tree.TheVariants.{Node};
 ghost use Rattle.v_rows.specs.Rows.{meaning_of};
 ghost use Rattle.v_parse.specs.Walking.{kept, kept_part, around, with_part, walked, nodes, steps_left, Steps};

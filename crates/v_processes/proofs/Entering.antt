@@ -6,7 +6,7 @@ use Rattle.v_tree.specs.declared.items.VItem.{VItem}
 use Rattle.v_tree.specs.declared.items.VItem.TheVariants as I
 use Rattle.v_tree.specs.declared.items.VModule.{VModule}
 use Rattle.v_meaning.specs.Modules as M
-use Rattle.v_meaning.specs.Modules.{Parts, Process, InitialValue, parts_from, children, signal_count, signals, below}
+use Rattle.v_meaning.specs.Modules.{Parts, Process, InitialValue, Child, joined_parts, parts_from, own_parts, children, signal_count, signals, below}
 use Rattle.v_rules.specs.Tables.{numbers_from, no_numbers}
 use Rattle.v_modules.specs.declared.table.Table.{Table}
 use Rattle.v_modules.specs.Tables.{items_of, items_in}

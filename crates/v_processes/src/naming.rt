@@ -1,6 +1,6 @@
 //! Modules by their names.
 
-ghost use Rattle.std.specs.Prelude.{◌≡◌, length};
+ghost use Rattle.std.specs.Prelude.{◌≡◌, length, MatchOption};
 ghost use Rattle.std.specs.Option.{option_copied};
 ghost use Rattle.v_meaning.specs.Modules as means;
 ghost use Rattle.v_modules.specs.Tables.{items_of};

@@ -1,6 +1,6 @@
 //! What an instance has itself.
 
-ghost use Rattle.std.specs.Prelude.{◌≡◌, ◌+◌, ◌++◌, [], ◌∷◌, OnOk, IfOk};
+ghost use Rattle.std.specs.Prelude.{◌≡◌, ◌+◌, ◌++◌, [], ◌∷◌, map, OnOk, IfOk};
 ghost use Rattle.v_meaning.specs.Modules as means;
 ghost use Rattle.v_eval.specs.Scopes.{scope_of};
 ghost use Rattle.v_processes.specs.Processes.{processes_at, items_at};

@@ -16,7 +16,7 @@ use Rattle.v_meaning.specs.Scopes.{Scope, Use}
 use Rattle.v_meaning.specs.Values.{Meaning, meaning, all_reads}
 use Rattle.v_meaning.specs.Runs.{Run, first_match, selector, current}
 use Rattle.v_meaning.specs.Statements as M
-use Rattle.v_meaning.specs.Statements.{Doing, Item, Target, target, doing, doing_of, sequence, assignment, conditional, cases, block_with, inside, locals_of, otherwise, any_item, item_values, branch_step, item_step, stmt_step}
+use Rattle.v_meaning.specs.Statements.{Doing, Item, Target, target, doing, doing_of, sequence, assignment, conditional, cases, block_with, inside, locals_of, nothing, otherwise, any_item, item_values, branch_step, item_step, stmt_step}
 use Rattle.v_reads.specs.Reads.{item_of, items_read, else_doing}
 use Rattle.v_reads.proofs.Sets.{or-assoc, or-none}
 

@@ -1,7 +1,7 @@
 //! What the rows of events, connections and statements mean by what their parts mean (IEEE 1364-2005 A.6).
 #![tactic(auto, using(crate::proofs::KeptStatements::kept))]
 
-ghost use Rattle.std.specs.Prelude.{◌≡◌, IfOk};
+ghost use Rattle.std.specs.Prelude.{◌≡◌, true, false, IfOk};
 ghost use Rattle.v_tree.specs.Meaning as means;
 
 use std::alloc::{AllocError, Global};

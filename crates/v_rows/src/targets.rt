@@ -1,7 +1,7 @@
 //! What the rows of targets and selects mean by what their parts mean (IEEE 1364-2005 A.8.5, A.8.3).
 #![tactic(auto, using(crate::proofs::KeptExpressions::kept))]
 
-ghost use Rattle.std.specs.Prelude.{◌≡◌, IfOk};
+ghost use Rattle.std.specs.Prelude.{◌≡◌, ℕ, IfOk};
 ghost use Rattle.v_tree.specs.Meaning as means;
 ghost use Rattle.v_tree.specs.declared.expressions.VExtent.TheVariants.{Down, Up};
 

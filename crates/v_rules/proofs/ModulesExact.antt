@@ -1,8 +1,8 @@
 -- What is found in a design is the first of the tokens at which it breaks a rule, but for circles.
-use Rattle.std.proofs.Common.{◌≡◌, ℕ, suc, ◌+◌, true, false, not, ◌&&◌, List, [], ◌∷◌, ◌++◌, length, slice_get, Option, Some, None, refl, sym, ap, ◌∙◌, subst, is_some, append_assoc, arith}
+use Rattle.std.proofs.Common.{◌≡◌, ℕ, zero, suc, ◌+◌, Bool, true, false, not, ◌&&◌, ◌||◌, List, [], ◌∷◌, ◌++◌, map, length, slice_get, Option, Some, None, refl, sym, ap, ◌∙◌, subst, is_some, append_assoc, arith}
 use Rattle.std.proofs.lemmas.List.{append-nil}
 use Rattle.v_tree.specs.Names.{Name, among}
-use Rattle.v_tree.specs.Scopes.{function, part, bits_of, Declared, inside, nowhere, is_declared, repeated}
+use Rattle.v_tree.specs.Scopes.{function, part, bits_of, Declared, Scope, inside, nowhere, is_declared, repeated}
 use Rattle.v_tree.specs.ExprRules.{Around, only_if}
 use Rattle.v_tree.specs.StmtRules.{range_size}
 use Rattle.v_tree.specs.Rules as R
@@ -23,16 +23,19 @@ use Rattle.v_expr_rules.proofs.Saturation.{plus-cap, earlier-none, none-earlier,
 use Rattle.v_expr_rules.proofs.Operands.{sum-of, next-token}
 use Rattle.v_stmt_rules.specs.declared.statements.StmtSeen.{StmtSeen}
 use Rattle.v_stmt_rules.specs.Stmts.{Told, nothing, meets, begun}
-use Rattle.v_stmt_rules.proofs.Declared.{weave, Meets, meets-more, afters, first-repeated-append, first-repeated}
+use Rattle.v_stmt_rules.proofs.Declared.{weave, Meets, meets-more, afters, afters-append, first-repeated-append, first-repeated, things}
 use Rattle.v_stmt_rules.proofs.StmtsExact.{swap}
-use Rattle.v_item_rules.specs.Signals.{range_tokens, listed}
+use Rattle.v_item_rules.specs.Signals.{range_tokens, listed, signal_tokens, signal_first}
+use Rattle.v_item_rules.specs.Instances.{instance_seen}
+use Rattle.v_item_rules.specs.Functions.{function_seen}
+use Rattle.v_item_rules.specs.Plain.{function_plain}
 use Rattle.v_item_rules.proofs.SignalsExact.{listed-of, signal-size, signal-found, name-token, reg-token}
 use Rattle.v_item_rules.proofs.ProcessesExact.{initial-found, process-fits}
 use Rattle.v_item_rules.proofs.FunctionsExact.{function-fits}
-use Rattle.v_item_rules.proofs.InstancesExact.{instance-fits}
+use Rattle.v_item_rules.proofs.InstancesExact.{PortsAre, instance-fits}
 use Rattle.v_rules.specs.ModuleNames.{items_given, ports_given}
 use Rattle.v_rules.specs.Tables.{Numbers, no_numbers, numbers_from, ports_added, at_number}
-use Rattle.v_rules.specs.Items.{port_added, list_from, signal_token, signal_name, is_port, signal_told, child_seen, item_told, item_added, items_from, list_tokens, module_seen, module_added, modules_from, design_first}
+use Rattle.v_rules.specs.Items.{port_added, list_from, signal_token, signal_name, is_port, signal_told, initial_seen, function_told, child_seen, instance_told, item_told, item_added, items_from, list_tokens, module_seen, module_added, modules_from, design_first}
 use Rattle.v_rules.specs.Plain.{item_plain, items_plain, module_plain, modules_plain, design_plain}
 use Rattle.v_rules.proofs.NamesExact.{Rest, rest-first, rest-behind, module-things, ports-are, is-port, port_names, declared-list, child_ports, modules-are}
 

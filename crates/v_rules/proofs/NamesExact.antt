@@ -1,12 +1,12 @@
 -- What names stand for in a module, its ports, and the modules of a design, as the rules have them.
-use Rattle.std.proofs.Common.{◌≡◌, ℕ, suc, ◌+◌, Bool, true, false, ◌||◌, List, [], ◌∷◌, ◌++◌, map, slice_get, Option, Some, None, refl, sym, ap, ◌∙◌, is_some, if◌then◌else◌, append_assoc, arith}
+use Rattle.std.proofs.Common.{◌≡◌, ℕ, zero, suc, ◌+◌, Bool, true, false, not, ◌||◌, List, [], ◌∷◌, ◌++◌, map, slice_get, Option, Some, None, refl, sym, ap, ◌∙◌, subst, is_some, if◌then◌else◌, append_assoc, arith}
 use Rattle.std.specs.Str.{bytes_eq}
 use Rattle.std.proofs.lemmas.List.{append-nil}
 use Rattle.v_tree.specs.Names.{Name, among}
-use Rattle.v_tree.specs.Scopes.{Thing, function, part, Declared, inside, nowhere, is_declared, bits_of}
+use Rattle.v_tree.specs.Scopes.{Thing, value, memory, function, part, Declared, Scope, inside, nowhere, is_declared, bits_of, has_range}
 use Rattle.v_tree.specs.Scopes as X
 use Rattle.v_tree.specs.StmtRules.{rules_of_branch}
-use Rattle.v_tree.specs.Rules.{Port, item_size, signal_size, event_size, declared_signal, declared_by, declared_in, reg_thing, ports_of, port_named, module_named, input_bits, function_token, listed_ports}
+use Rattle.v_tree.specs.Rules.{Port, item_size, signal_size, event_size, declared_signal, declared_by, declared_in, reg_thing, ports_by, ports_of, port_named, module_named, input_bits, function_token, listed_ports}
 use Rattle.v_tree.specs.declared.items.VItem.{VItem}
 use Rattle.v_tree.specs.declared.items.VItem.TheVariants as I
 use Rattle.v_tree.specs.declared.items.VModule.{VModule}
@@ -22,12 +22,13 @@ use Rattle.v_scopes.specs.declared.entry.Kind.TheVariants as K
 use Rattle.v_block_names.specs.Blocks.{parts_given}
 use Rattle.v_expr_rules.specs.Walks.{inputs_in}
 use Rattle.v_expr_rules.specs.Things.{thing_in, thing, widths_of}
-use Rattle.v_stmt_rules.specs.Stmts.{nothing}
+use Rattle.v_stmt_rules.specs.Stmts.{nothing, branch_told}
 use Rattle.v_stmt_rules.proofs.Declared.{afters, things, thing-if, things-parts, inside-append, names_of}
+use Rattle.v_stmt_rules.proofs.StmtsExact.{StmtExact}
 use Rattle.v_stmt_rules.proofs.CasesExact.{branch-exact}
 use Rattle.v_item_rules.proofs.InstancesExact.{PortSame, PortsAre}
-use Rattle.v_rules.specs.ModuleNames.{reg_entry, signal_given, item_given, items_given, ports_given}
-use Rattle.v_rules.specs.Tables.{no_numbers, numbers_from, ports_added, at_number}
+use Rattle.v_rules.specs.ModuleNames.{reg_entry, signal_given, process_given, item_given, items_given, port_given, ports_given}
+use Rattle.v_rules.specs.Tables.{Numbers, no_numbers, number_given, numbers_from, ports_added, at_number}
 
 -- the items from this one on
 abbrev pub Rest : List VItem → ℕ → List VItem → Type 0

@@ -1,5 +1,5 @@
 -- The tokens at which a design breaks a rule that needs no top, but for modules and functions that lead back to themselves.
-use Rattle.std.specs.Prelude.{ℕ, ◌+◌, false, List, [], ◌∷◌, ◌++◌, length}
+use Rattle.std.specs.Prelude.{ℕ, suc, ◌+◌, false, List, [], ◌∷◌, ◌++◌, length}
 use Rattle.v_tree.specs.Scopes.{inside, nowhere, repeated}
 use Rattle.v_tree.specs.ExprRules.{Around}
 use Rattle.v_tree.specs.Rules.{item_size, module_size, ports_size, signal_broken, initial_broken, process_broken, child_broken, module_named, declared_in, ports_of, listed_ports, undeclared, unlisted, module_names}

@@ -2,9 +2,9 @@
 
 ghost use Rattle.std.specs.Prelude.{◌≡◌, IfOk};
 ghost use Rattle.v_scopes.specs.Env.{found};
-ghost use Rattle.v_stmt_rules.specs.Stmts.{begun, nothing};
+ghost use Rattle.v_stmt_rules.specs.Stmts.{Tells, begun, nothing};
 ghost use Rattle.v_item_rules.specs.Functions.{Gives};
-ghost use Rattle.v_rules.specs.Tables.{ports_in, numbers_in};
+ghost use Rattle.v_rules.specs.Tables.{ports_in, numbers_in, numbers_from, no_numbers, ports_added};
 ghost use Rattle.v_expr_rules.specs.Least.{first};
 ghost use Rattle.v_rules.specs.Items as means;
 ghost use Rattle.v_rules.specs.Plain.{design_plain};

@@ -1,6 +1,6 @@
 //! The modules of a design and their ports.
 
-ghost use Rattle.std.specs.Prelude.{◌≡◌, [], OnOk, IfOk};
+ghost use Rattle.std.specs.Prelude.{◌≡◌, [], map, OnOk, IfOk, slice_get};
 ghost use Rattle.std.specs.Option.{option_copied};
 ghost use Rattle.v_rules.specs.Tables as means;
 

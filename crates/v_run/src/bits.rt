@@ -1,8 +1,8 @@
 //! Writes into what signals and locals hold, in place (IEEE 1364-2005 clauses 5.2 and 9.2).
 
-ghost use Rattle.std.specs.Prelude.{◌≡◌, ◌≤◌, ◌<◌, ◌-◌, length, slice_index_or, IfOk, OnOk};
+ghost use Rattle.std.specs.Prelude.{◌≡◌, ◌≤◌, ◌<◌, ◌-ℤ◌, ◌++◌, ◌-◌, ℕ, pos, cond, length, replicate, slice_index_or, IfOk, OnOk};
 ghost use Rattle.b4_core.specs.declared.bit.Bit4.TheVariants.{X};
-ghost use Rattle.picks.specs.Windows.{at_least_0};
+ghost use Rattle.picks.specs.Windows.{within, at_least_0};
 ghost use Rattle.v_eval.specs.Windows.{window_of, IsNear};
 ghost use Rattle.v_run.specs.Writes.{VectorWritten, SlotWritten, Grown};
 

@@ -1,6 +1,6 @@
 //! What a run has written, put over other signals (IEEE 1364-2005 clause 9.2).
 
-ghost use Rattle.std.specs.Prelude.{◌≡◌, ◌<◌, []};
+ghost use Rattle.std.specs.Prelude.{◌≡◌, ◌≤◌, ◌<◌, ◌^◌, length, []};
 ghost use Rattle.row_machine.specs.Valuation.{put};
 ghost use Rattle.v_meaning.specs.Machine.{to_signals};
 ghost use Rattle.v_eval.specs.Windows.{window_of, IsNear};

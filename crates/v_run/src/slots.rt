@@ -1,6 +1,6 @@
 //! Signals and locals that are written.
 
-ghost use Rattle.std.specs.Prelude.{◌≡◌, ◌<◌, ℕ, length, IfOk, OnOk};
+ghost use Rattle.std.specs.Prelude.{◌≡◌, ◌≤◌, ◌<◌, ℕ, length, IfOk, OnOk};
 ghost use Rattle.row_machine.specs.Valuation.{put};
 ghost use Rattle.picks.specs.Windows.{written};
 ghost use Rattle.v_eval.specs.Windows.{window_of, IsNear};

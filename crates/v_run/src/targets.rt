@@ -1,6 +1,6 @@
 //! Targets of assignments (IEEE 1364-2005 clauses 6.1 and 9.2).
 
-ghost use Rattle.std.specs.Prelude.{◌≡◌, ◌≤◌, map, take, drop, IfOk, OnOk};
+ghost use Rattle.std.specs.Prelude.{◌≡◌, ◌≤◌, length, map, take, drop, IfOk, OnOk};
 ghost use Rattle.row_machine.specs.Steps.{then_changes};
 ghost use Rattle.v_meaning.specs.Statements.{target, parts_width, puts_parts};
 ghost use Rattle.v_eval.specs.Answering.{Answers};

@@ -1,6 +1,6 @@
 //! Single steps of a design: what one of its processes writes, put over a store (IEEE 1364-2005 clause 11.3).
 
-ghost use Rattle.std.specs.Prelude.{◌≤◌, ◌^◌, length, OnOk};
+ghost use Rattle.std.specs.Prelude.{◌≡◌, ◌≤◌, ◌^◌, length, OnOk};
 ghost use Rattle.round_runner.specs.Stores.{holding, widths, Changed};
 ghost use Rattle.v_meaning.specs.Machine.{to_signals};
 ghost use Rattle.v_meaning.specs.Modules.{scope_of};

@@ -1,9 +1,9 @@
 -- What is kept of a `case` and of statements of all forms tells what the rules tell.
-use Rattle.std.proofs.Common.{◌≡◌, ℕ, suc, ◌+◌, Bool, true, false, List, [], ◌∷◌, ◌++◌, map, Option, Some, None, refl, sym, ap, ◌∙◌, subst, max, append_assoc, arith}
+use Rattle.std.proofs.Common.{◌≡◌, ℕ, zero, suc, ◌+◌, Bool, true, false, not, List, [], ◌∷◌, ◌++◌, map, length, Option, Some, None, refl, sym, ap, ◌∙◌, subst, max, append_assoc, arith}
 use Rattle.std.proofs.lemmas.List.{append-nil}
 use Rattle.v_tree.specs.Names.{Name}
 use Rattle.v_tree.specs.Scopes.{Declared, repeated}
-use Rattle.v_tree.specs.ExprRules.{Around, Rules, listed_size, rules_of}
+use Rattle.v_tree.specs.ExprRules.{Around, Rules, only_if, listed_size, rules_of, calls_in}
 use Rattle.v_tree.specs.StmtRules as R
 use Rattle.v_tree.specs.StmtRules.{StmtRules, ItemRules, stmts_size, blocks_in, stmts_broken, widest, widest_item, values_at, item_values, bodies, block_rules, branch_rules, item_rules, stmt_rules, rules_of_stmt, rules_of_branch}
 use Rattle.v_tree.specs.declared.expressions.VExpr.{VExpr}
@@ -19,10 +19,12 @@ use Rattle.v_tree.specs.declared.statements.VStmt.{VStmt, VStmt-F, fold-VStmt, f
 use Rattle.v_tree.specs.declared.statements.VStmt.TheVariants as T
 use Rattle.v_tree.proofs.Induction as I
 use Rattle.v_scopes.specs.Env.{Env}
+use Rattle.v_expr_rules.specs.declared.seen.Seen.{Seen}
 use Rattle.v_expr_rules.specs.Seen.{plus, bits_capped, earlier, is_wide, in_context}
 use Rattle.v_expr_rules.specs.Least.{cap, first}
-use Rattle.v_expr_rules.specs.Walks.{expr_seen}
+use Rattle.v_expr_rules.specs.Walks.{Walk, expr_seen}
 use Rattle.v_expr_rules.specs.Things.{around}
+use Rattle.v_expr_rules.specs.Exact.{Fits}
 use Rattle.v_expr_rules.proofs.Saturation.{plus-cap, max-capped, is_wide-capped, earlier-none, none-earlier, earlier-assoc, first-append}
 use Rattle.v_expr_rules.proofs.Operands.{sum-of, one-more}
 use Rattle.v_expr_rules.proofs.Listed.{Each}
@@ -31,11 +33,11 @@ use Rattle.v_stmt_rules.specs.declared.cases.CaseSeen.{CaseSeen}
 use Rattle.v_stmt_rules.specs.declared.cases.ValuesSeen.{ValuesSeen}
 use Rattle.v_stmt_rules.specs.declared.statements.StmtSeen.{StmtSeen}
 use Rattle.v_stmt_rules.specs.declared.targets.Procedure.{Procedure}
-use Rattle.v_stmt_rules.specs.Labels.{in_turn}
+use Rattle.v_stmt_rules.specs.Labels.{Adds, in_turn}
 use Rattle.v_stmt_rules.specs.Targets.{procedure_of}
-use Rattle.v_stmt_rules.specs.Stmts.{CaseTold, no_values, values_from, case_item, default_item, no_cases, case_added, case_values, StmtTold, ItemTold, item_labels, cases_from, case_walk, branch_step, item_step, block_step, stmt_step, branch_told, item_told, stmt_told}
+use Rattle.v_stmt_rules.specs.Stmts.{CaseTold, no_values, values_from, case_item, default_item, no_cases, case_added, case_values, case_seen, StmtTold, ItemTold, item_labels, cases_from, case_walk, item_walk, default_walk, branch_step, item_step, block_step, stmt_step, branch_told, item_told, stmt_told}
 use Rattle.v_stmt_rules.proofs.Declared.{weave, Meets, afters, afters-append, first-repeated-append, AllParts, parts-append, names_of, names-append}
-use Rattle.v_stmt_rules.proofs.StmtsExact.{StmtFits, StmtExact, ValuesFit, values-fit, swap, expr-at, stmt-at, plain-exact, named-exact, if-exact, assign-exact}
+use Rattle.v_stmt_rules.proofs.StmtsExact.{StmtFits, StmtExact, ElseExact, ValuesFit, values-fit, swap, expr-at, stmt-at, plain-exact, named-exact, if-exact, assign-exact}
 
 -- what is told of items of a `case`: their tokens, their greatest width, the tokens of their values that break a rule, the first
 -- of their bodies, and the names met behind them

@@ -1,5 +1,5 @@
 -- Names that a scope declares: which are met before, and what they stand for.
-use Rattle.std.proofs.Common.{◌≡◌, ℕ, suc, ◌+◌, Bool, true, false, List, [], ◌∷◌, ◌++◌, map, Option, Some, None, refl, sym, ap, ◌∙◌, subst, is_some, if◌then◌else◌, arith}
+use Rattle.std.proofs.Common.{◌≡◌, ℕ, suc, ◌+◌, Bool, true, false, List, [], ◌∷◌, ◌++◌, map, Option, Some, None, refl, sym, ap, ◌∙◌, subst, is_some, if◌then◌else◌, append_assoc, arith}
 use Rattle.std.specs.Str.{bytes_eq}
 use Rattle.v_tree.specs.Names.{Name}
 use Rattle.v_tree.specs.Scopes.{Thing, value, local, part, bits_of, has_range, Declared, Scope, inside, is_declared, repeated}
@@ -7,7 +7,7 @@ use Rattle.v_tree.specs.StmtRules as R
 use Rattle.v_tree.specs.StmtRules.{range_size, local_size, locals_size}
 use Rattle.v_tree.specs.declared.items.VItem.{VItem}
 use Rattle.v_tree.specs.declared.items.VLocal.{VLocal}
-use Rattle.v_scopes.specs.Env.{Env}
+use Rattle.v_scopes.specs.Env.{Env, given}
 use Rattle.v_scopes.specs.declared.entry.Entry.{Entry}
 use Rattle.v_scopes.specs.declared.entry.Entry.TheVariants.{Value, Part}
 use Rattle.v_scopes.specs.declared.entry.Kind.TheVariants.{Local}
@@ -15,8 +15,9 @@ use Rattle.v_block_names.specs.Blocks.{parts_given, locals_given}
 use Rattle.v_expr_rules.specs.Seen.{plus, earlier, mark}
 use Rattle.v_expr_rules.specs.Least.{cap, first}
 use Rattle.v_expr_rules.specs.Things.{thing_in}
-use Rattle.v_expr_rules.proofs.Saturation.{earlier-assoc, earlier-comm, first-append, earlier-none, none-earlier, capped-earlier}
+use Rattle.v_expr_rules.proofs.Saturation.{plus-cap, earlier-assoc, earlier-comm, first-append, earlier-none, none-earlier, capped-earlier}
 use Rattle.v_expr_rules.proofs.Operands.{sum-of}
+use Rattle.v_stmt_rules.specs.declared.statements.StmtSeen.{StmtSeen}
 use Rattle.v_stmt_rules.specs.Stmts.{Told, meets, range_tokens, local_added, locals_from}
 
 -- two pairs in another order

@@ -1,41 +1,47 @@
 -- What is kept of a statement tells what the rules tell.
-use Rattle.std.proofs.Common.{◌≡◌, ℕ, suc, ◌+◌, Bool, true, false, List, [], ◌∷◌, ◌++◌, map, length, Option, Some, None, refl, sym, ap, ◌∙◌, subst, max, is_some, append_assoc, arith}
+use Rattle.std.proofs.Common.{◌≡◌, ℕ, zero, suc, ◌+◌, Bool, true, false, not, List, [], ◌∷◌, ◌++◌, map, length, Option, Some, None, refl, sym, ap, ◌∙◌, subst, max, is_some, append_assoc, arith}
 use Rattle.std.proofs.lemmas.List.{append-nil}
 use Rattle.v_tree.specs.Names.{Name}
-use Rattle.v_tree.specs.Scopes.{part, Declared, inside, is_declared, repeated}
-use Rattle.v_tree.specs.ExprRules.{Around, Rules, alone, only_if, listed_size, rules_of}
+use Rattle.v_tree.specs.Scopes.{Thing, part, Declared, Scope, inside, is_declared, repeated}
+use Rattle.v_tree.specs.ExprRules.{Around, Rules, alone, only_if, total, listed_size, rules_of, calls_in}
 use Rattle.v_tree.specs.StmtRules as R
-use Rattle.v_tree.specs.StmtRules.{StmtRules, stmts_size, blocks_in, stmts_broken, widest, values_at, else_rules, block_rules, stmt_rules, target_of, mark_breaks, locals_size}
+use Rattle.v_tree.specs.StmtRules.{StmtRules, ItemRules, stmts_size, blocks_in, stmts_broken, calls_in_stmts, widest, widest_item, values_at, item_values, bodies, else_rules, block_rules, branch_rules, item_rules, stmt_rules, rules_of_stmt, rules_of_branch, target_of, mark_breaks, locals_size}
 use Rattle.v_tree.specs.declared.expressions.VExpr.{VExpr}
 use Rattle.v_tree.specs.declared.items.VItem.{VItem}
 use Rattle.v_tree.specs.declared.items.VLocal.{VLocal}
+use Rattle.v_tree.specs.declared.statements.VBranch.{VBranch, VBranch-F, fold-VBranch, fold-roll-VBranch}
 use Rattle.v_tree.specs.declared.statements.VBranch.TheVariants as G
+use Rattle.v_tree.specs.declared.statements.VCaseItem.{VCaseItem, VCaseItem-F, fold-VCaseItem, fold-roll-VCaseItem}
 use Rattle.v_tree.specs.declared.statements.VCaseItem.TheVariants as C
+use Rattle.v_tree.specs.declared.statements.VCaseKind.{VCaseKind}
 use Rattle.v_tree.specs.declared.statements.VLabel.{VLabel}
 use Rattle.v_tree.specs.declared.statements.VLval.{VLval}
-use Rattle.v_tree.specs.declared.statements.VStmt.{VStmt-F}
+use Rattle.v_tree.specs.declared.statements.VStmt.{VStmt, VStmt-F, fold-VStmt, fold-roll-VStmt}
 use Rattle.v_tree.specs.declared.statements.VStmt.TheVariants as T
 use Rattle.v_tree.proofs.Induction as I
 use Rattle.v_scopes.specs.Env.{Env}
-use Rattle.v_block_names.specs.Blocks.{parts_given}
+use Rattle.v_block_names.specs.Blocks.{parts_given, locals_given}
 use Rattle.v_expr_rules.specs.declared.seen.Seen.{Seen}
 use Rattle.v_expr_rules.specs.Seen.{plus, bits_capped, earlier, mark, is_wide, in_context, commas}
 use Rattle.v_expr_rules.specs.Seen as S
 use Rattle.v_expr_rules.specs.Least.{cap, first}
 use Rattle.v_expr_rules.specs.Walks.{Walk, expr_seen}
-use Rattle.v_expr_rules.specs.Things.{around}
+use Rattle.v_expr_rules.specs.Things.{thing_in, around}
 use Rattle.v_expr_rules.specs.Exact.{Fits, Exact}
-use Rattle.v_expr_rules.proofs.Saturation.{plus-cap, max-capped, earlier-none, none-earlier, earlier-assoc, earlier-comm, first-append, first-if}
+use Rattle.v_expr_rules.proofs.Saturation.{plus-cap, max-capped, is_wide-capped, earlier-none, none-earlier, earlier-assoc, earlier-comm, first-append, first-if, first-one}
 use Rattle.v_expr_rules.proofs.Operands.{sum-of, one-more, next-token, alone-of}
 use Rattle.v_expr_rules.proofs.Listed.{Each, before, listed-push, commas-before, each-push, push-length}
 use Rattle.v_expr_rules.proofs.Listed.Each.{none, more}
 use Rattle.v_expr_rules.proofs.Whole.{expr-exact}
+use Rattle.v_stmt_rules.specs.declared.cases.CaseSeen.{CaseSeen}
 use Rattle.v_stmt_rules.specs.declared.cases.ValuesSeen.{ValuesSeen}
+use Rattle.v_stmt_rules.specs.declared.statements.StmtSeen.{StmtSeen}
 use Rattle.v_stmt_rules.specs.declared.targets.Procedure.{Procedure}
-use Rattle.v_stmt_rules.specs.Labels.{in_turn, else_labels}
-use Rattle.v_stmt_rules.specs.Targets.{procedure_of, target_seen}
-use Rattle.v_stmt_rules.specs.Stmts.{nothing, Told, no_values, value_added, values_from, locals_from, stmt_added, StmtTold, stmt_labels, labels_in, stmts_from, begun, block_given, block_walk, else_walk, if_walk, assign_walk, block_step, stmt_step}
-use Rattle.v_stmt_rules.proofs.TargetsExact.{target-exact, assigned-fits}
+use Rattle.v_stmt_rules.specs.declared.targets.TargetSeen.{TargetSeen}
+use Rattle.v_stmt_rules.specs.Labels.{Adds, in_turn, else_labels}
+use Rattle.v_stmt_rules.specs.Targets.{procedure_of, target_seen, assigned}
+use Rattle.v_stmt_rules.specs.Stmts.{nothing, meets, Told, CaseTold, no_values, value_added, values_from, case_item, default_item, no_cases, case_added, case_values, case_seen, locals_from, no_stmts, stmt_added, begin_end, named_block, if_seen, else_seen, empty_seen, assign_seen, StmtTold, ItemTold, stmt_labels, item_labels, labels_in, stmts_from, cases_from, begun, block_given, block_walk, plain_walk, else_walk, if_walk, case_walk, assign_walk, item_walk, default_walk, branch_step, item_step, block_step, stmt_step, branch_told, item_told, stmt_told}
+use Rattle.v_stmt_rules.proofs.TargetsExact.{TargetFits, target-exact, assigned-fits}
 use Rattle.v_stmt_rules.proofs.Declared.{weave, Meets, meets-more, afters, afters-append, first-repeated-append, first-repeated, LocalsFit, locals-fit, inside-append, things, things-locals, things-parts, AllParts, parts-append, names_of, names-append}
 
 -- what is told of a statement that begins at a token, behind these names of its scope

@@ -1,10 +1,11 @@
 -- What is kept of a target tells what the rules tell.
-use Rattle.std.proofs.Common.{◌≡◌, ℕ, suc, ◌+◌, ◌==◌, Bool, true, false, not, ◌||◌, List, [], ◌∷◌, ◌++◌, map, length, Option, Some, None, refl, sym, ap, ◌∙◌, subst, max, if◌then◌else◌, append_assoc, arith}
+use Rattle.std.proofs.Common.{◌≡◌, ℕ, zero, suc, ◌+◌, ◌==◌, Bool, true, false, not, ◌&&◌, ◌||◌, List, [], ◌∷◌, ◌++◌, map, length, Option, Some, None, refl, sym, ap, ◌∙◌, subst, max, if◌then◌else◌, append_assoc, arith}
 use Rattle.std.proofs.lemmas.Bool.Decides.{nat_tests}
 use Rattle.std.proofs.lemmas.List.{append-nil}
 use Rattle.v_tree.specs.Names.{Name}
+use Rattle.v_tree.specs.Scopes.{named_bits}
 use Rattle.v_tree.specs.ExprRules as X
-use Rattle.v_tree.specs.ExprRules.{Around, Rules, only_if, total, sels_broken, moving, name_broken, sel_rules_of}
+use Rattle.v_tree.specs.ExprRules.{Around, Rules, SelRules, only_if, total, sels_broken, moving, name_broken, selected_of, sel_rules_of}
 use Rattle.v_tree.specs.StmtRules as R
 use Rattle.v_tree.specs.StmtRules.{Target, targets_size, each_target, any_signal, lval_target, target_of}
 use Rattle.v_tree.specs.declared.expressions.VSel.{VSel}
@@ -20,7 +21,7 @@ use Rattle.v_expr_rules.specs.declared.sels.SelsSeen.{SelsSeen}
 use Rattle.v_expr_rules.specs.declared.seen.Seen.{Seen}
 use Rattle.v_expr_rules.specs.Seen.{plus, bits_plus, bits_capped, earlier, mark, is_wide, in_context, commas, no_sels}
 use Rattle.v_expr_rules.specs.Least.{cap, first}
-use Rattle.v_expr_rules.specs.Walks.{sels_from, sel_seen}
+use Rattle.v_expr_rules.specs.Walks.{SelWalk, sels_from, sel_seen}
 use Rattle.v_expr_rules.specs.Things.{thing_in, around}
 use Rattle.v_expr_rules.specs.Exact.{Fits}
 use Rattle.v_expr_rules.proofs.Saturation.{plus-cap, bits_plus-capped, is_wide-capped, is_wide-max, first-append, first-if}
@@ -30,7 +31,7 @@ use Rattle.v_expr_rules.proofs.Listed.Each.{none, more}
 use Rattle.v_expr_rules.proofs.Selects.{SelExact, SelsFits, sels-fit, name-marks, name-widths, nets}
 use Rattle.v_expr_rules.proofs.Whole.{sel-exact}
 use Rattle.v_stmt_rules.specs.declared.targets.TargetSeen.{TargetSeen}
-use Rattle.v_stmt_rules.specs.Targets.{is_written, is_local, name_target, no_parts, part_added, TargetWalk, parts_from, target_walk, target_seen, assigned}
+use Rattle.v_stmt_rules.specs.Targets.{is_written, is_local, name_target, no_parts, part_added, concat_target, TargetWalk, parts_from, target_walk, target_seen, assigned}
 
 pub record TargetFits (t : TargetSeen) (r : Target) (a : Around) (at : ℕ) : Type 0 where
   pub size : t.size ≡ cap r.size

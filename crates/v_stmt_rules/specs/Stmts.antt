@@ -1,6 +1,6 @@
 -- What is kept of a statement that begins at a token: of which blocks it declares the names, and the first token that breaks a
 -- rule. The names that its scope declares are met in the order of the text.
-use Rattle.std.specs.Prelude.{◌≡◌, ℕ, suc, Bool, true, false, List, [], ◌∷◌, ◌++◌, map, max, Option, Some, None, is_some, Result, Ok, Err}
+use Rattle.std.specs.Prelude.{◌≡◌, ℕ, suc, Bool, true, false, not, ◌||◌, List, [], ◌∷◌, ◌++◌, map, max, Option, Some, None, is_some, Result, Ok, Err}
 use Rattle.v_tree.specs.Names.{Name}
 use Rattle.v_tree.specs.StmtRules.{mark_breaks}
 use Rattle.v_tree.specs.declared.items.VItem.{VItem}
@@ -10,6 +10,7 @@ use Rattle.v_tree.specs.declared.statements.VCaseItem.{VCaseItem, VCaseItem-F, f
 use Rattle.v_tree.specs.declared.statements.VLabel.{VLabel}
 use Rattle.v_tree.specs.declared.statements.VStmt.{VStmt, VStmt-F, fold-VStmt}
 use Rattle.v_scopes.specs.Env.{Env, given}
+use Rattle.v_scopes.specs.declared.entry.Entry.{Entry}
 use Rattle.v_scopes.specs.declared.entry.Entry.TheVariants.{Part}
 use Rattle.v_block_names.specs.Blocks.{parts_given, locals_given}
 use Rattle.v_expr_rules.specs.declared.seen.Seen.{Seen}

@@ -1,6 +1,6 @@
 //! The walk over a statement (IEEE 1364-2005 clause 9).
 
-ghost use Rattle.std.specs.Prelude.{◌≡◌, map, OnOk};
+ghost use Rattle.std.specs.Prelude.{◌≡◌, map, IfOk, OnOk};
 ghost use Rattle.v_tree.specs.StmtRules.{mark_breaks};
 ghost use Rattle.v_scopes.specs.Env.{found, hidden_in, Within};
 ghost use Rattle.v_expr_rules.specs.Seen.{plus};

@@ -2,6 +2,7 @@
 
 ghost use Rattle.std.specs.Prelude.{◌≡◌, map};
 ghost use Rattle.std.specs.List.{list_any};
+ghost use Rattle.b4_core.specs.Bitwise.{edge_of as edge_between};
 ghost use Rattle.round_runner.specs.Stores.{holding};
 ghost use Rattle.row_machine.specs.Steps.{is_edge};
 ghost use Rattle.v_meaning.specs.Machine.{has_edge as has_edge_on};

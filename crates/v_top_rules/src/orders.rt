@@ -1,6 +1,6 @@
 //! The test that sums were found in an order in which the modules of instances stand before those that hold them.
 
-ghost use Rattle.std.specs.Prelude.{◌≡◌, nat_lt, true};
+ghost use Rattle.std.specs.Prelude.{◌≡◌, nat_lt, true, slice_get};
 ghost use Rattle.std.specs.List.{list_all};
 ghost use Rattle.v_top_rules.specs.Orders as means;
 

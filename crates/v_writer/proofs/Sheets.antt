@@ -1,5 +1,5 @@
 -- Laws of sheets.
-use Rattle.std.proofs.Common.{◌≡◌, ℕ, zero, suc, ◌+◌, ◌-◌, ◌<◌, ◌≤◌, ◌^◌, min, Bool, true, false, List, [], ◌∷◌, ◌++◌, map, drop, take, length, slice_index_or, refl, sym, ap, ◌∙◌, append_assoc, arith, length-append}
+use Rattle.std.proofs.Common.{◌≡◌, ℕ, zero, suc, ◌+◌, ◌-◌, ◌<◌, ◌≤◌, ◌^◌, min, Bool, true, false, List, [], ◌∷◌, ◌++◌, map, drop, take, length, slice_index_or, refl, sym, ap, subst, ◌∙◌, append_assoc, arith, length-append}
 use Rattle.std.proofs.lemmas.List.{append-nil, length-take}
 use Rattle.v_writer.specs.Layout.{Piece, Placed, placed, line, piece_bytes, leaves_escaped, bytes_from, comma, listed, further, in_turn, lines}
 use Rattle.v_writer.specs.Sheets.{Sheet, count, upto, appended, step, set}

@@ -23,7 +23,7 @@ use Rattle.v_tree.specs.Heads as head
 use Rattle.v_tree.specs.Symbols as terminal
 use Rattle.v_tree.specs.Table.{table}
 use Rattle.v_tree.specs.Tokens.{Token, is_name}
-use Rattle.v_tree.specs.Parts.{all_of, first_of, as_name, as_input, as_local, as_stmt, as_connection, as_item, as_ports, as_range}
+use Rattle.v_tree.specs.Parts.{all_of, first_of, as_name, as_number, as_input, as_local, as_edge, as_stmt, as_connection, as_item, as_ports, as_range}
 use Rattle.v_tree.specs.Parts as Parts
 use Rattle.v_tree.specs.Meaning.{given, function_of, instance_of, connection_of, input_of, module_of}
 use Rattle.v_tree.specs.Grammatical.{is_decimal, is_perhaps, has_some, fit, is_expr, is_stmt, form_of_stmt, is_local, is_declared, is_connection, is_item, is_module}

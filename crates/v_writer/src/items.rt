@@ -1,10 +1,10 @@
 //! The text of the items of modules.
 
-ghost use Rattle.std.specs.Prelude.{◌≡◌, map, false, true};
+ghost use Rattle.std.specs.Prelude.{◌≡◌, map, ◌∷◌, [], false, true};
 ghost use Rattle.v_tree.specs.declared.items.VConnection.{VConnection};
 ghost use Rattle.v_writer.specs.Margins.{levels};
 ghost use Rattle.v_writer.specs.Sheets.{set};
-ghost use Rattle.v_writer.specs.Layout.{perhaps, listed, edge_word, edge_layout, further_edges, edges_layout, sensitivity_layout, number_layout, initial_layout, rest_layout, signal_layout, at_zero_layout, process_layout, function_head, function_layout, expr_layout, connection_layout, instance_layout, item_layout, line};
+ghost use Rattle.v_writer.specs.Layout.{perhaps, listed, edge_word, edge_layout, further_edges, edges_layout, sensitivity_layout, number_layout, init_layout, initial_layout, rest_layout, signal_layout, at_zero_layout, process_layout, function_head, function_layout, expr_layout, connection_layout, instance_layout, item_layout, line};
 
 use crate::expressions::{write_comma, write_expr, write_lval};
 use crate::margin::Margin;

@@ -1,6 +1,6 @@
 //! What a text is written on.
 
-ghost use Rattle.std.specs.Prelude.{◌≡◌, ◌≤◌, false, [], ◌++◌, codes, decimal, map, reverse, vec_capacity};
+ghost use Rattle.std.specs.Prelude.{◌≡◌, ◌≤◌, false, ◌∷◌, [], ◌++◌, codes, decimal, map, reverse, vec_len, vec_capacity};
 ghost use Rattle.v_tree.specs.Tokens.{Token};
 ghost use Rattle.v_writer.specs.Layout.{token, space, line, bit_digit};
 ghost use Rattle.v_writer.specs.Margins.{levels};

@@ -1,6 +1,6 @@
 //! The text of statements.
 
-ghost use Rattle.std.specs.Prelude.{◌≡◌, map};
+ghost use Rattle.std.specs.Prelude.{◌≡◌, map, ◌∷◌, []};
 ghost use Rattle.v_writer.specs.Margins.{levels};
 ghost use Rattle.v_writer.specs.Sheets.{set};
 ghost use Rattle.v_writer.specs.Layout.{line, perhaps, range_layout, declared, local_layout, lines, store_mark, between, label_layout, placed, case_word, case_head, case_items, expr_layout, stmt_layout, case_layout, branch_layout, else_of};

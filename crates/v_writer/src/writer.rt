@@ -5,7 +5,7 @@ ghost use Rattle.v_tree.specs.Grammatical.{is_of_grammar};
 ghost use Rattle.v_tree.specs.Rules.{Keeps};
 ghost use Rattle.v_writer.specs.Sheets.{set};
 ghost use Rattle.v_writer.specs.Writing.{Writes};
-ghost use Rattle.v_writer.specs.Layout.{listed, lines, in_turn, port_layout, ports_layout, item_layout, header_layout, module_line, line, word, text_of};
+ghost use Rattle.v_writer.specs.Layout.{listed, lines, in_turn, port_layout, ports_layout, item_layout, header_layout, module_line, line, word, text_layout, text_of};
 
 use crate::expressions::write_comma;
 use crate::items::write_item;

@@ -2,7 +2,7 @@
 //! an input by anything but the connection to it.
 #![tactic(auto)]
 
-ghost use Rattle.std.specs.Prelude.{◌≡◌, ◌<◌, true};
+ghost use Rattle.std.specs.Prelude.{◌≡◌, ◌^◌, ◌<◌, ℕ, true, cond};
 ghost use Rattle.flow_sets.specs.Flows.{IsFlow};
 ghost use Rattle.sv_types.specs.Machine.{is_input};
 ghost use Rattle.sv_types.specs.declared.design.Design.{Design};

@@ -36,7 +36,7 @@ use Rattle.written_laws.proofs.Lists as L
 use Rattle.written_laws.proofs.Lists.{Written}
 use Rattle.written_laws.proofs.Expressions.{expr-written, all-exprs}
 use Rattle.written_laws.proofs.Types as Y
-use Rattle.written_laws.proofs.Types.{dims-read, behind-written}
+use Rattle.written_laws.proofs.Types.{dims-read, initial-written, behind-written}
 use Rattle.written_laws.proofs.Declarations.{port-text, parameters-written, typedef-written, data-written, header-written, variables-of, declared-written}
 use Rattle.written_laws.proofs.Statements.{lvalue-written, step-written, optional-written, stmt-written, block-items-written}
 

@@ -19,7 +19,7 @@ use Rattle.sv_tree.specs.declared.statements.UniquePriority.{UniquePriority}
 use Rattle.typing_walks.specs.Written.{all, some_and_all, if_there, is_written}
 use Rattle.stmt_walks.specs.Written.{lvalue_written}
 use Rattle.stmt_laws.specs.Written as W
-use Rattle.stmt_laws.specs.Written.{start_written, step_written, stmt_written, item_written, case_written, else_written, items_written}
+use Rattle.stmt_laws.specs.Written.{declarators_written, exprs_written, selects_written, start_written, step_written, stmt_written, item_written, case_written, else_written, items_written}
 use Rattle.sv_build.specs.declared.rows.TheConstants as R
 use Rattle.sv_build.specs.declared.variables.VariableText.{VariableText}
 use Rattle.sv_build.specs.Statements as X

@@ -1,9 +1,10 @@
 //! What the names of a module stand for: declared names, and the first use of one that isn't (IEEE 1800-2017 clause 23.9).
 
-ghost use Rattle.std.specs.Prelude.{◌≡◌, ◌-◌, ◌<◌, ◌++◌, ◌||◌, not, List, ℕ, map, find, IfOk, OnOk, option_copied};
+ghost use Rattle.std.specs.Prelude.{◌≡◌, ◌^◌, ◌-◌, ◌<◌, ◌≤◌, ◌++◌, ◌||◌, not, List, ℕ, map, find, length, IfOk, OnOk, option_copied, MatchOption};
+ghost use Rattle.std.specs.Option.{option_map};
 ghost use Rattle.std.specs.Str.{bytes_eq};
 ghost use Rattle.sv2v_top.specs.declared.uses.Use.{Use as SourceUse};
-ghost use Rattle.sv2v_top.specs.source.Names.{declared_by, name_of, port_word};
+ghost use Rattle.sv2v_top.specs.source.Names.{declared_by, name_of, port_word, port_names, signal_names, first_undeclared};
 ghost use Rattle.sv2v_top.specs.source.Lookup.{Numbers, holds};
 ghost use Rattle.sv2v_top.specs.source.Answers.{undeclared_refusal, UndeclaredGives};
 

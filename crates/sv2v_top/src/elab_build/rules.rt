@@ -1,9 +1,11 @@
 //! The rules on items: names, literals, and what processes write and read.
 
-ghost use Rattle.std.specs.Prelude.{◌≡◌, ◌^◌, ◌-◌, ◌<◌, ◌++◌, ◌&&◌, ◌||◌, not, List, ℕ, map, [], ◌∷◌, IfOk, OnOk};
+ghost use Rattle.std.specs.Prelude.{◌≡◌, ◌^◌, ◌-◌, ◌<◌, ◌≤◌, ◌++◌, ◌&&◌, ◌||◌, not, List, ℕ, map, length, nat_le, [], ◌∷◌, IfOk, OnOk};
 ghost use Rattle.std.specs.List.{list_all};
 ghost use Rattle.sv2v_top.specs.declared.uses.Use.{Use as SourceUse};
-ghost use Rattle.sv2v_top.specs.source.Statements.{word_of, parts, sequence, item_parts, targets_in, reads_in, reads, in_both};
+ghost use Rattle.sv2v_top.specs.declared.uses.Literal.{Literal as SourceLiteral};
+ghost use Rattle.sv2v_top.specs.source.Names.{declared, signal_names};
+ghost use Rattle.sv2v_top.specs.source.Statements.{word_of, parts, sequence, item_parts, targets_in, reads_in, targets, reads, in_both};
 ghost use Rattle.sv2v_top.specs.source.Literals.{is_plain_literal};
 ghost use Rattle.sv_source.specs.declared.token.Spot.{Spot as SourceSpot};
 ghost use Rattle.sv2v_top.specs.source.Answers.{BreaksAfter};
@@ -13,7 +15,7 @@ ghost use Rattle.sv2v_top.specs.source.Lookup.{Numbers, holds};
 use crate::literals::{decimal_up_to, is_plain};
 use crate::name_table::Names;
 use crate::uses::{Found, Literal, Role, Use, find_in, has_at_most};
-use built_forms::{Item, Stmt};
+use built_forms::{Item, Module, Stmt};
 use std::alloc::{AllocError, Global};
 use sv_core::{Signal, SignalKind};
 use sv_source::{Items, Refusal, Spot, Text};

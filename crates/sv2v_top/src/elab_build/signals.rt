@@ -1,6 +1,6 @@
 //! The signals of a module: their kinds and widths (IEEE 1800-2017 clauses 6.9.1 and 23.2.2).
 
-ghost use Rattle.std.specs.Prelude.{◌≡◌, ◌^◌, ◌++◌, ◌&&◌, map, sum, nat_le, [], List, ℕ, Some, None, true, false, IfOk, OnOk, MatchOption};
+ghost use Rattle.std.specs.Prelude.{◌≡◌, ◌≤◌, ◌^◌, ◌++◌, ◌&&◌, map, sum, nat_le, [], List, ℕ, Some, None, true, false, IfOk, OnOk, MatchOption};
 ghost use Rattle.std.specs.List.{list_all};
 ghost use Rattle.sv_core.specs.declared.design.Signal.{Signal as DesignSignal};
 ghost use Rattle.built_forms.specs.declared.forms.Direction.TheVariants.{Input};

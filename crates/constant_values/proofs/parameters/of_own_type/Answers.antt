@@ -1,4 +1,4 @@
-use Rattle.std.proofs.Common.{refl, sym, subst}
+use Rattle.std.proofs.Common.{◌≡◌, refl, sym, subst}
 use Rattle.std.specs.Prelude.{Ok, Err}
 use Rattle.sv_types.specs.declared.frame.ParamValue.{ParamValue}
 use Rattle.expr_type.specs.declared.halt.Halt.TheVariants as H

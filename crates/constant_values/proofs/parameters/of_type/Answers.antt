@@ -1,4 +1,4 @@
-use Rattle.std.proofs.Common.{sym, subst}
+use Rattle.std.proofs.Common.{◌≡◌, sym, subst}
 use Rattle.expr_type.specs.Answers.{Gives, source}
 use Rattle.pattern_types.specs.Meaning.{Parts, fitted_in, operand_of, pattern_of}
 use Rattle.pattern_types.specs.declared.operand.Operand as O

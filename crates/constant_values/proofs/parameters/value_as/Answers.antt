@@ -1,3 +1,4 @@
+use Rattle.std.specs.Prelude.{Ok, Err}
 use Rattle.expr_type.specs.Answers.{source}
 use Rattle.expr_type.specs.Operands.{is_constant}
 use Rattle.constant_values.specs.Parameters.{short}

@@ -1,4 +1,4 @@
-use Rattle.std.proofs.Common.{refl}
+use Rattle.std.proofs.Common.{length, refl}
 use Rattle.eval_forms.specs.Callees.{formals_in}
 use Rattle.eval_runs.proofs.Knots.{all-fit}
 use Rattle.constant_values.proofs.Running.{bits-give}

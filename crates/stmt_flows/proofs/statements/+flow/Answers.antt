@@ -21,7 +21,7 @@ use Rattle.eval_runs.proofs.Fits as E
 use Rattle.eval_stmts.proofs.Fitting.{block-fits}
 use Rattle.eval_stmts.proofs.Given.{fits-alone}
 use Rattle.eval_stmts.proofs.Sizes as N
-use Rattle.eval_stmts.proofs.Sizes.{nodes, perhaps_nodes}
+use Rattle.eval_stmts.proofs.Sizes.{nodes, item_nodes, perhaps_nodes}
 use Rattle.eval_stmts.specs.Limits.{StmtFits, AllStmtsFit, AllItemsFit, PerhapsFits, perhaps}
 use Rattle.eval_stmts.specs.Targets.{values_of}
 use Rattle.expr_flows.specs.Full.{is_full, all_full}

@@ -1,4 +1,5 @@
-use Rattle.std.proofs.Common.{◌≤◌, ◌^◌, length, sym, subst}
+use Rattle.std.proofs.Common.{◌≡◌, ◌≤◌, ◌^◌, length, sym, ap, subst, ◌∙◌}
+use Rattle.core_forms.specs.Typed.{typed}
 use Rattle.sv_core.specs.declared.design.Design.{Design}
 use Rattle.sv2v_top.proofs.Built.{core-few}
 use Rattle.sv2v_top.proofs.elab_build.elaborate_typed.Goals as goal

@@ -1,4 +1,4 @@
-use Rattle.std.proofs.Common.{◌≡◌, List, IfOk, sym, ap, subst, ◌∙◌}
+use Rattle.std.proofs.Common.{◌≡◌, List, reverse, IfOk, sym, ap, subst, ◌∙◌}
 use Rattle.sv_source.specs.declared.token.Token.{Token}
 use Rattle.sv_build.specs.Attributes as means
 use Rattle.sv_build.proofs.Kept.{none-dropped}

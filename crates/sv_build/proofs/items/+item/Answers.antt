@@ -1,4 +1,4 @@
-use Rattle.std.proofs.Common.{◌≡◌, ◌+◌, ◌-◌, IfOk, sym, subst, arith}
+use Rattle.std.proofs.Common.{◌≡◌, ◌+◌, ◌-◌, IfOk, sym, subst, ◌∙◌, arith}
 use Rattle.sv_build.specs.Items as means
 use Rattle.sv_build.proofs.Depths.{item-zero, item-deeper}
 use Rattle.sv_build.proofs.items.+item.Goals as goal

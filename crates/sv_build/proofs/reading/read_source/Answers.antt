@@ -1,4 +1,4 @@
-use Rattle.std.proofs.Common.{◌≡◌, ◌-◌, ℕ, List, length, ap, subst, ◌∙◌, arith}
+use Rattle.std.proofs.Common.{◌≡◌, ◌-◌, ℕ, List, length, sym, ap, subst, ◌∙◌, arith}
 use Rattle.sv_source.specs.declared.token.Token.{Token}
 use Rattle.sv_build.specs.Attributes.{without_attributes}
 use Rattle.sv_build.specs.Reading.{symbols, SymbolsGive}

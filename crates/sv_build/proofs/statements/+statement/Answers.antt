@@ -1,4 +1,4 @@
-use Rattle.std.proofs.Common.{◌≡◌, ◌+◌, ◌-◌, IfOk, sym, subst, arith}
+use Rattle.std.proofs.Common.{◌≡◌, ◌+◌, ◌-◌, IfOk, sym, subst, ◌∙◌, arith}
 use Rattle.sv_build.specs.Statements as means
 use Rattle.sv_build.proofs.Depths.{stmt-zero, stmt-deeper, block-item-zero, block-item-deeper}
 use Rattle.sv_build.proofs.statements.+statement.Goals as goal

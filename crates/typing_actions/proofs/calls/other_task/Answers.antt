@@ -1,5 +1,5 @@
 use Rattle.std.proofs.Common.{◌≡◌, List, [], sym, subst}
-use Rattle.std.specs.Prelude.{Result, Vec, take}
+use Rattle.std.specs.Prelude.{Result, Err, Vec, take}
 use Rattle.std.specs.declared.alloc.Global.{Global}
 use Rattle.sv_types.specs.declared.statement.Function.{Function}
 use Rattle.sv_types.specs.declared.statement.Stmt.{Stmt}

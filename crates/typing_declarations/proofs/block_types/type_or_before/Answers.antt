@@ -1,4 +1,4 @@
-use Rattle.std.proofs.Common.{sym, ◌∙◌}
+use Rattle.std.proofs.Common.{Ok, sym, ◌∙◌, subst}
 use Rattle.typing_calls.specs.Lists.{as_meant}
 use Rattle.typing_scopes.specs.Scopes.{context_of}
 use Rattle.typing_declarations.specs.Kinds.{written_of}

@@ -1,4 +1,4 @@
-use Rattle.std.proofs.Common.{Bool, None, cond, sym, ◌∙◌, subst}
+use Rattle.std.proofs.Common.{◌≡◌, Bool, None, cond, sym, ◌∙◌, subst}
 use Rattle.sv_tree.specs.declared.declarations.ParameterBody.TheVariants as P
 use Rattle.expr_type.specs.Statements.{OfValue, parameter, type_parameter, value_parameter}
 use Rattle.stmt_laws.specs.Sound.{KindFull}

@@ -1,4 +1,5 @@
-use Rattle.std.proofs.Common.{◌≡◌, List, Ok, Err, subst}
+use Rattle.std.proofs.Common.{◌≡◌, List, Option, Ok, Err, sym, subst}
+use Rattle.std.specs.Prelude.{Result}
 use Rattle.sv_tree.specs.declared.expressions.Dimension.{Dimension}
 use Rattle.expr_type.specs.declared.halt.Halt.{Halt}
 use Rattle.expr_type.specs.declared.halt.Halt.TheVariants as H

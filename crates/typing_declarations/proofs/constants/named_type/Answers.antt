@@ -1,4 +1,4 @@
-use Rattle.std.proofs.Common.{Option, Some, None, Ok, Err, ap, sym, ◌∙◌, subst}
+use Rattle.std.proofs.Common.{◌≡◌, Option, Some, None, Ok, Err, ap, sym, ◌∙◌, subst}
 use Rattle.std.specs.Prelude.{Result}
 use Rattle.std.proofs.lemmas.Result.{err_from_is_err_and}
 use Rattle.sv_tree.specs.declared.declarations.Initializer.{Initializer}
@@ -6,7 +6,7 @@ use Rattle.sv_types.specs.declared.frame.ParamType.{ParamType}
 use Rattle.sv_types.specs.declared.types.SvType.{SvType}
 use Rattle.expr_type.specs.declared.halt.Halt.{Halt}
 use Rattle.expr_type.specs.declared.halt.Halt.TheVariants as H
-use Rattle.expr_type.specs.Statements.{type_parameter}
+use Rattle.expr_type.specs.Statements.{Parameter, type_parameter}
 use Rattle.typing_calls.specs.Lists.{as_meant}
 use Rattle.typing_scopes.specs.Scopes.{context_of}
 use Rattle.typing_steps.specs.Steps.{StopsBy, TypesTo}

@@ -1,5 +1,7 @@
+use Rattle.std.proofs.Common.{◌≡◌}
 use Rattle.sv_types.specs.Layouts.{width_of}
 use Rattle.typing_scopes.specs.Scopes.{context_of}
+use Rattle.typing_declarations.specs.Naming.{valued}
 use Rattle.typing_declarations.proofs.Declaring.{constants-more, long-at, narrow-at}
 use Rattle.typing_declarations.proofs.enums.constants.Goals as goal
 

@@ -1,4 +1,4 @@
-use Rattle.std.proofs.Common.{◌++◌, List, Err, ap, sym, ◌∙◌, subst}
+use Rattle.std.proofs.Common.{◌≡◌, ◌++◌, List, Err, ap, sym, ◌∙◌, subst}
 use Rattle.std.specs.Prelude.{Result}
 use Rattle.std.proofs.lemmas.Result.{err_from_is_err_and}
 use Rattle.sv_types.specs.declared.frame.ParamValue.{ParamValue}

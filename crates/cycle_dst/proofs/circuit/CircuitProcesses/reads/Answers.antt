@@ -1,5 +1,6 @@
-use Rattle.std.proofs.Common.{◌∙◌, ap, get_or, Some, sym}
+use Rattle.std.proofs.Common.{◌∙◌, ap, get_or, Some, sym, subst}
 use Rattle.std.proofs.lemmas.Option.{slice_get-get_or}
+use Rattle.round_runner.specs.Parts.{ReadsAlone, WritesAlone}
 use Rattle.v_meaning.specs.Machine.{machine}
 use Rattle.cycle_dst.specs.Prints.{PrintsOf}
 use Rattle.cycle_dst.proofs.Running.{pair-below}
