@@ -1,6 +1,6 @@
 //! `$clog2` (IEEE 1800-2017 clause 20.8.1).
 
-ghost use Rattle.std.specs.Prelude.{◌≡◌, ◌≤◌, ◌<◌, ◌-◌, [], ◌∷◌, List, length, IfOk};
+ghost use Rattle.std.specs.Prelude.{◌≡◌, ◌≤◌, ◌<◌, ◌-◌, false, [], ◌∷◌, List, length, IfOk};
 ghost use Rattle.b4_core.specs.declared.bit.Bit4.TheVariants.{Zero, One, X};
 ghost use Rattle.b4_core.specs.declared.operators.EqOp.TheVariants.{Logic, Case};
 ghost use Rattle.b4_core.specs.declared.operators.OrdOp.TheVariants.{LessEqual};
