@@ -30,15 +30,17 @@ use Rattle.v_meaning.specs.Values as T
 use Rattle.eval_parts.proofs.Steps as S
 use Rattle.eval_forms.specs.Callees.{formals_in}
 use Rattle.eval_forms.proofs.Strict as K
-use Rattle.lowering_laws.specs.NamedImages.{SameNames}
+use Rattle.lowering_laws.specs.NamedImages.{AreImages, SameNames}
 use Rattle.lowering_laws.specs.Same.{Same, SameAlone, HasBits}
 use Rattle.lowering_laws.proofs.Constants.{bits-alone}
 use Rattle.lowering_laws.proofs.Contexts.{typed-four, alone-width, alone-value}
 use Rattle.lowering_laws.proofs.Extensions.{ext-at}
-use Rattle.lowering_laws.proofs.Naming.{each-image}
+use Rattle.lowering_laws.proofs.Naming.{each-image, no-images}
 use Rattle.lowering_laws.proofs.Numbers.{length-digits}
 use Rattle.lowering_laws.proofs.Pieces.{literal-bits}
 use Rattle.path_flatten.specs.Naming.{SameNumbers}
+use Rattle.path_flatten.proofs.Naming.{same-itself}
+use Rattle.path_steps.specs.Known.{HasFixedBits}
 use Rattle.expr_lower.specs.Lowering.{CombinesAnywhere}
 use Rattle.expr_lower.specs.Logarithms.{lost, LogSteps, IsLogarithm, IsAtMost}
 use Rattle.expr_lower.specs.Numbers.{signed_as}
@@ -294,6 +296,34 @@ combines-Clog2 e x parts mx b k m is are logarithm sign made hs names fs w s =
           let whole : SameNumbers (T.all_names (mx ∷ []) sc) (m.names sc) = subst (λ l. SameNumbers (T.all_names l sc) (m.names sc)) are (subst (λ l. SameNumbers l (m.names sc)) (braced-named parts sc)
           (subst (SameNumbers ((T.concatenation parts).names sc)) like back)) in
           subst (λ (y : M.Meaning). SameNames im.number y m sc) (sym level) (clog2-named im.number (layout e.of) e.spot.at (meaning x) mx m sc g.0 whole);
+    })
+
+-- an operand that has the same bits everywhere
+fixed-has : (x : Expr) (bits : List Bit4) (k : T.Meaning) (c : Around) (sc : Scope) (v : Valuation) → HasFixedBits x bits → k ≡ T.literal (ext 32 false (clog2_of bits)) → HasBits k (clog2_of (M.alone (meaning x) c)) sc v
+fixed-has x bits k c sc v fixed number =
+    subst (λ (y : T.Meaning). HasBits y (clog2_of (M.alone (meaning x) c)) sc v) (sym number)
+    (subst (λ u. HasBits (T.literal (ext 32 false (clog2_of bits))) u sc v) (ext-at 32 false (clog2_of bits) (length-clog2 bits) ∙ ap clog2_of (sym (fixed.alone c))) (literal-bits (ext 32 false (clog2_of bits)) sc v))
+
+fixed-named : (image : ℕ → ℕ) (x : Expr) (bits : List Bit4) (k : T.Meaning) (sc : Scope) → HasFixedBits x bits → k ≡ T.literal (ext 32 false (clog2_of bits)) → SameNames image (meaning x) k sc
+fixed-named image x bits k sc fixed number =
+    subst (λ ns. AreImages image ns (k.names sc)) (sym fixed.none)
+    (subst (λ qs. AreImages image [] qs) (sym (ap (λ (y : T.Meaning). y.names sc) number ∙ literal-named (ext 32 false (clog2_of bits)) sc)) (no-images image))
+
+pub combines-fixed : (e x : Expr) (parts : List T.Meaning) (bits : List Bit4) (b : Bool) (k m : T.Meaning) → e.form ≡ V.Clog2 x → HasFixedBits x bits → k ≡ T.literal (ext 32 false (clog2_of bits))
+    → b ≡ M.signed (meaning e) → m ≡ signed_as b k → (hs : List Helper) → CombinesAnywhere hs e parts m
+combines-fixed e x parts bits b k m is fixed number sign made hs names fs w s =
+    let level = S.same-Clog2 e x is in
+    by-helped names fs hs e w s parts m (λ im a sc all helps fits. record {
+      same = λ now v h.
+          let c = record a { now = now } in
+          subst (λ (y : M.Meaning). Same y w s c m sc v) (sym level)
+          (subst (λ (y : T.Meaning). Same (O.clog2 (layout e.of) e.spot.at (meaning x)) w s c y sc v) (sym made)
+          (clog2-in (layout e.of) e.spot.at w s (meaning x) c b k sc v (subst (λ (y : M.Meaning). y.misfits ≡ 0) level fits.typed) (sign ∙ ap (λ (y : M.Meaning). M.signed y) level)
+          (fixed-has x bits k c sc v fixed number)));
+      named = λ h.
+          let like : k.names sc ≡ m.names sc = sym (ap (λ (y : T.Meaning). y.names sc) made ∙ signed-names b k sc) in
+          let same : SameNumbers (T.all_names (k ∷ []) sc) (m.names sc) = subst (SameNumbers (T.all_names (k ∷ []) sc)) (append-nil (k.names sc) ∙ like) (same-itself (T.all_names (k ∷ []) sc)) in
+          subst (λ (y : M.Meaning). SameNames im.number y m sc) (sym level) (clog2-named im.number (layout e.of) e.spot.at (meaning x) k m sc (fixed-named im.number x bits k sc fixed number) same);
     })
 
 pub if-ok : {A E : Type 0} (r : Result A E) (P Q : A → Type 0) → ((x : A) → P x → Q x) → IfOk r P → IfOk r Q

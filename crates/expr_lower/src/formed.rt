@@ -162,7 +162,7 @@ pub fn formed(
             Ok(converted)
         }
         Some(Special::Clog2(x)) => {
-            let logarithm = clog2(alloc, e, x, parts)?;
+            let logarithm = clog2(alloc, functions, e, x, parts)?;
             Ok(logarithm)
         }
         Some(Special::Pattern(items)) => {

@@ -1,17 +1,20 @@
 //! `$clog2` (IEEE 1800-2017 clause 20.8.1).
 
-ghost use Rattle.std.specs.Prelude.{◌≡◌, ◌≤◌, ◌<◌, ◌-◌, [], ◌∷◌, List, length, IfOk};
+ghost use Rattle.std.specs.Prelude.{◌≡◌, ◌≤◌, ◌<◌, ◌-◌, false, [], ◌∷◌, List, length, IfOk};
 ghost use Rattle.b4_core.specs.declared.bit.Bit4.TheVariants.{Zero, One, X};
 ghost use Rattle.b4_core.specs.declared.operators.EqOp.TheVariants.{Logic, Case};
 ghost use Rattle.b4_core.specs.declared.operators.OrdOp.TheVariants.{LessEqual};
 ghost use Rattle.b4_core.specs.declared.operators.RedOp.TheVariants.{Xor};
 ghost use Rattle.b4_core.specs.declared.operators.ShiftOp.TheVariants.{Left, Right};
-ghost use Rattle.b4_core.specs.Vectors.{digits, unknown};
+ghost use Rattle.b4_core.specs.Vectors.{digits, ext, unknown};
 ghost use Rattle.sv_types.specs.declared.expression.Form.TheVariants as forms;
+ghost use Rattle.sv_types.specs.Operators.{clog2_of};
 ghost use Rattle.sv_types.specs.Expressions.{meaning};
 ghost use Rattle.v_tree.specs.declared.names.Helper.{Helper};
 ghost use Rattle.v_meaning.specs.Values as means;
 ghost use Rattle.v_build.specs.Trees.{meanings};
+ghost use Rattle.eval_parts.specs.Limits.{FitsAlone};
+ghost use Rattle.eval_forms.specs.Callees.{formals_in, AllFunctionsFit};
 ghost use Rattle.expr_lower.specs.Lowering.{CombinesAnywhere};
 ghost use Rattle.expr_lower.specs.Logarithms.{power, at_most_power, below_power, equals_power, lost, IsAtMost, LogSteps, IsLogarithm};
 
@@ -20,8 +23,9 @@ use b4_core::{Bit4, OrdOp, RedOp, ShiftOp, Vec4};
 use eval_parts::{filled, own_sign, own_width};
 use pairs::both;
 use path_flatten::{copy_expr, number};
+use path_steps::fixed_bits;
 use std::alloc::{AllocError, Global};
-use sv_types::Expr;
+use sv_types::{Expr, Function};
 use v_build::{choose, compare, concatenation, either, literal, order, reduce, shift};
 use v_tree::{VExpr, VExprs};
 
@@ -158,14 +162,39 @@ fn logarithm(alloc: Global, y: VExpr, width: u32) -> Result<VExpr, AllocError>
     choose(alloc, test, arms.0, arms.1)
 }
 
-/// `$clog2` from its operand.
-pub fn clog2(alloc: Global, e: &Expr, x: &Expr, parts: VExprs) -> Result<VExpr, AllocError>
+/// `$clog2` of these bits, as a number.
+fn fixed_logarithm(alloc: Global, v: &Vec4) -> Result<VExpr, AllocError>
+    requires { length v.now ≤ 4194304 }
+    ensures { IfOk result (λ m. means.meaning m ≡ means.literal (ext 32 false (clog2_of v.now))) }
+{
+    let bits = eval_parts::clog2(alloc, v, 32, false)?;
+    Ok(literal(bits))
+}
+
+/// `$clog2` from its operand: a number where that is made of numbers and constants alone.
+pub fn clog2(
+    alloc: Global,
+    functions: &[Function],
+    e: &Expr,
+    x: &Expr,
+    parts: VExprs,
+) -> Result<VExpr, AllocError>
+    requires functions { AllFunctionsFit functions.now }
     requires form { e.now.form ≡ forms.Clog2 x.now }
-    requires narrow { (meaning x.now).widest ≤ 4194304 }
+    requires fits { FitsAlone (meaning x.now) (formals_in functions.now) }
     requires count { length parts ≡ 1 }
     ensures { IfOk result (λ m. (hs : List Helper) → CombinesAnywhere hs e.now (meanings parts) (means.meaning m)) }
 {
-    let bits = logarithm(alloc, concatenation(parts), own_width(x))?;
-    let made = with_sign(alloc, own_sign(e), bits)?;
-    Ok(made)
+    match fixed_bits(alloc, functions, x)? {
+        Some(fixed) => {
+            let number = fixed_logarithm(alloc, &fixed)?;
+            let constant = with_sign(alloc, own_sign(e), number)?;
+            Ok(constant)
+        }
+        None => {
+            let bits = logarithm(alloc, concatenation(parts), own_width(x))?;
+            let made = with_sign(alloc, own_sign(e), bits)?;
+            Ok(made)
+        }
+    }
 }

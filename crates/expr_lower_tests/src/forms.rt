@@ -189,6 +189,12 @@ pub const CASTS: &[(&[Word], u32, &str)] = &[
     ),
     // a call of a function without formals
     (&[Vector(7, 0), Call(0, 0)], 8, "f('0)"),
+    // $clog2(5)
+    (
+        &[Bits("101"), Clog2],
+        32,
+        "$signed('00000000000000000000000000000011)",
+    ),
     // $clog2(a)
     (
         &[Vector(1, 0), Signal(0), Clog2],

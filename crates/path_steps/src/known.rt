@@ -58,8 +58,13 @@ fn free_bits(alloc: Global, functions: &[Function], e: &Expr) -> Result<Option<V
     ))
 }
 
-/// The bits of an expression, valued alone, if it reads nothing.
-fn fixed_bits(alloc: Global, functions: &[Function], e: &Expr) -> Result<Option<Vec4>, AllocError>
+/// The bits of an expression that is made of numbers and constants alone, valued alone; nothing of an expression with a signal, a
+/// local, a call or a stream. Or want of memory.
+pub fn fixed_bits(
+    alloc: Global,
+    functions: &[Function],
+    e: &Expr,
+) -> Result<Option<Vec4>, AllocError>
     requires functions { AllFunctionsFit functions.now }
     requires fits { FitsAlone (meaning e.now) (formals_in functions.now) }
     ensures { IfOk result (λ r. IfSome r (HasFixedBits e.now)) }

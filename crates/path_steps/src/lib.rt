@@ -7,5 +7,5 @@ mod inner;
 mod known;
 mod sliding;
 
-pub use known::{KnownIndex, known_index};
+pub use known::{KnownIndex, fixed_bits, known_index};
 pub use sliding::sliding_step;

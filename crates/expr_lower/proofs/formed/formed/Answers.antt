@@ -60,10 +60,10 @@ call_form-requires-clause-items c =
     let is = subst (λ st. IsSpecial st c.args.e.now) c.in-Some-Call.field-0-is c.in-Some-Call.ensures in
     call-of c.args.e.now c.in-Some-Call.f c.in-Some-Call.actuals.now (formals_in c.args.functions.now) c.args.width c.args.signed _ is c.requires.count c.requires.fits.narrow
 
-pub clog2-requires-clause-narrow : goal.clog2-requires-clause-narrow
-clog2-requires-clause-narrow c =
+pub clog2-requires-clause-fits : goal.clog2-requires-clause-fits
+clog2-requires-clause-fits c =
     let is = subst (λ st. IsSpecial st c.args.e.now) c.in-Some-Clog2.field-0-is c.in-Some-Clog2.ensures in
-    (clog2-fits-x c.args.e.now c.in-Some-Clog2.x.now (formals_in c.args.functions.now) c.args.width is c.requires.fits).narrow
+    clog2-fits-x c.args.e.now c.in-Some-Clog2.x.now (formals_in c.args.functions.now) c.args.width is c.requires.fits
 
 pub returns-in_ok-equal-in-Some-Wild-clause-combines : goal.returns-in_ok-equal-in-Some-Wild-clause-combines
 returns-in_ok-equal-in-Some-Wild-clause-combines c = c.in_ok-equal-in-Some-Wild.ensures.combines c.args.names.now c.args.functions.now c.args.width c.args.signed
