@@ -1,8 +1,12 @@
-//! Tests of lowered expressions, over tables of typed expressions and of the texts that are wanted.
+//! Tests of lowered expressions and of targets for select paths, over tables of typed expressions and of the texts that are wanted.
 #![tactic(auto)]
 
 #[cfg(test)]
 mod cases;
+#[cfg(test)]
+mod designs;
+#[cfg(test)]
+mod flattened;
 #[cfg(test)]
 mod forms;
 #[cfg(test)]
@@ -14,4 +18,8 @@ mod memories;
 #[cfg(test)]
 mod paths;
 #[cfg(test)]
+mod targets;
+#[cfg(test)]
 mod texts;
+#[cfg(test)]
+mod written;

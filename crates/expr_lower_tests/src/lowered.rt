@@ -13,7 +13,7 @@ use v_tree::{
 };
 
 /// Names of signals, locals and functions: a, b, c and so on, the memory m, t, and f.
-fn names(alloc: Global) -> Result<NameMap, AllocError> {
+pub fn names(alloc: Global) -> Result<NameMap, AllocError> {
     let mut signals = SignalNames::new(alloc);
     for (signal, letter) in (0u32..).zip("abcdefgh".bytes()) {
         let name = Text::from_bytes(alloc, &[letter])?;

@@ -28,6 +28,30 @@ pub const STEPS: &[(&[Word], u32, &str)] = &[
         4,
         "b[5:2]",
     ),
+    // a[2 +: 4]
+    (
+        &[
+            Vector(7, 0),
+            Signal(0),
+            Bits("010"),
+            Vector(3, 0),
+            Slide(4, true),
+        ],
+        4,
+        "a[5:2]",
+    ),
+    // a[6 -: 3]
+    (
+        &[
+            Vector(7, 0),
+            Signal(0),
+            Bits("110"),
+            Vector(2, 0),
+            Slide(3, false),
+        ],
+        3,
+        "a[6:4]",
+    ),
     // s.m of a packed struct
     (
         &[

@@ -6,14 +6,16 @@ use sv_source::Text;
 use tree_words::put_bits;
 use v_tree::{VExpr, VExtent, VPrim, VSel};
 
-fn put_name(name: &Text, to: &mut String) -> Result<(), AllocError> {
+/// Puts a name.
+pub fn put_name(name: &Text, to: &mut String) -> Result<(), AllocError> {
     for byte in name.as_bytes() {
         to.push(char::from(*byte))?;
     }
     Ok(())
 }
 
-fn put_number(n: u32, to: &mut String) -> Result<(), AllocError> {
+/// Puts a decimal number.
+pub fn put_number(n: u32, to: &mut String) -> Result<(), AllocError> {
     let text = format!(in *to.allocator(); "{n}")?;
     to.push_str(&text)
 }
@@ -48,8 +50,9 @@ fn put_sel(sel: &VSel, to: &mut String) -> Result<(), AllocError> {
     to.push(']')
 }
 
+/// Puts selects.
 #[cycle(put)]
-fn put_sels(sels: &[VSel], to: &mut String) -> Result<(), AllocError> {
+pub fn put_sels(sels: &[VSel], to: &mut String) -> Result<(), AllocError> {
     for sel in sels {
         put_sel(sel, to)?;
     }
