@@ -1,22 +1,37 @@
 //! The texts that expressions are lowered to.
 
+use crate::calls::{CALLS, FUNCTIONS};
 use crate::designs::{ARITHMETIC, DESIGNS, SELECTS};
 use crate::flattened::flattened_text;
 use crate::forms::{CASTS, OPERATORS};
-use crate::lowered::text_of;
+use crate::lowered::{names, text_of};
 use crate::memories::WORDS;
 use crate::paths::{BASES, INDICES, STEPS};
 use crate::targets::{KNOWN, OTHERS};
 use crate::written::targets_of;
 use std::alloc::{AllocError, Global};
 use std::test::Fail;
-use tree_words::{Word, expression};
+use sv_types::Function;
+use tree_words::{Word, expression, functions};
 
-/// The place of the first expression that has another text in an unsigned context of so many bits.
-fn first_wrong(alloc: Global, table: &[(&[Word], u32, &str)]) -> Result<Option<usize>, AllocError> {
+/// Expressions in words, with the bits of an unsigned context and the text that is wanted.
+type Rows = &'static [(&'static [Word], u32, &'static str)];
+
+/// Tables of expressions that call nothing.
+const TABLES: [Rows; 9] = [
+    STEPS, INDICES, BASES, WORDS, OPERATORS, CASTS, DESIGNS, SELECTS, ARITHMETIC,
+];
+
+/// The place of the first expression that has another text.
+fn first_wrong(
+    alloc: Global,
+    functions: &[Function],
+    table: Rows,
+) -> Result<Option<usize>, AllocError> {
+    let names = names(alloc)?;
     for (i, (words, width, wanted)) in table.iter().enumerate() {
         let e = expression(alloc, words)?;
-        let text = text_of(alloc, &e, *width, false)?;
+        let text = text_of(alloc, &names, functions, &e, *width)?;
         if text.as_bytes() != wanted.as_bytes() {
             return Ok(Some(i));
         }
@@ -40,10 +55,7 @@ fn first_wrong_target(
 }
 
 /// The place of the first path that has another text where its indices are lowered before.
-fn first_wrong_path(
-    alloc: Global,
-    table: &[(&[Word], u32, &str)],
-) -> Result<Option<usize>, AllocError> {
+fn first_wrong_path(alloc: Global, table: Rows) -> Result<Option<usize>, AllocError> {
     for (i, (words, _, wanted)) in table.iter().enumerate() {
         let e = expression(alloc, words)?;
         let text = flattened_text(alloc, &e)?;
@@ -55,50 +67,18 @@ fn first_wrong_path(
 }
 
 #[test]
-fn known_steps(rt: HostRuntime) -> Result<(), Fail> {
-    assert_eq!(rt; first_wrong(rt.alloc(), STEPS)?, None);
+fn expressions(rt: HostRuntime) -> Result<(), Fail> {
+    for (k, table) in TABLES.iter().enumerate() {
+        let wrong = first_wrong(rt.alloc(), &[], *table)?;
+        assert_eq!(rt; (k, wrong), (k, None));
+    }
     Ok(())
 }
 
 #[test]
-fn other_indices(rt: HostRuntime) -> Result<(), Fail> {
-    assert_eq!(rt; first_wrong(rt.alloc(), INDICES)?, None);
-    Ok(())
-}
-
-#[test]
-fn other_bases(rt: HostRuntime) -> Result<(), Fail> {
-    assert_eq!(rt; first_wrong(rt.alloc(), BASES)?, None);
-    Ok(())
-}
-
-#[test]
-fn words_of_memories(rt: HostRuntime) -> Result<(), Fail> {
-    assert_eq!(rt; first_wrong(rt.alloc(), WORDS)?, None);
-    Ok(())
-}
-
-#[test]
-fn operators(rt: HostRuntime) -> Result<(), Fail> {
-    assert_eq!(rt; first_wrong(rt.alloc(), OPERATORS)?, None);
-    Ok(())
-}
-
-#[test]
-fn casts(rt: HostRuntime) -> Result<(), Fail> {
-    assert_eq!(rt; first_wrong(rt.alloc(), CASTS)?, None);
-    Ok(())
-}
-
-#[test]
-fn designs(rt: HostRuntime) -> Result<(), Fail> {
-    assert_eq!(rt; first_wrong(rt.alloc(), DESIGNS)?, None);
-    Ok(())
-}
-
-#[test]
-fn selects(rt: HostRuntime) -> Result<(), Fail> {
-    assert_eq!(rt; first_wrong(rt.alloc(), SELECTS)?, None);
+fn calls(rt: HostRuntime) -> Result<(), Fail> {
+    let called = functions(rt.alloc(), FUNCTIONS)?;
+    assert_eq!(rt; first_wrong(rt.alloc(), called.as_slice(), CALLS)?, None);
     Ok(())
 }
 
@@ -111,19 +91,9 @@ fn flattened_paths(rt: HostRuntime) -> Result<(), Fail> {
 }
 
 #[test]
-fn arithmetic(rt: HostRuntime) -> Result<(), Fail> {
-    assert_eq!(rt; first_wrong(rt.alloc(), ARITHMETIC)?, None);
-    Ok(())
-}
-
-#[test]
-fn known_targets(rt: HostRuntime) -> Result<(), Fail> {
-    assert_eq!(rt; first_wrong_target(rt.alloc(), KNOWN)?, None);
-    Ok(())
-}
-
-#[test]
-fn other_targets(rt: HostRuntime) -> Result<(), Fail> {
-    assert_eq!(rt; first_wrong_target(rt.alloc(), OTHERS)?, None);
+fn targets(rt: HostRuntime) -> Result<(), Fail> {
+    for table in [KNOWN, OTHERS] {
+        assert_eq!(rt; first_wrong_target(rt.alloc(), table)?, None);
+    }
     Ok(())
 }

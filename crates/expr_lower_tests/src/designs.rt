@@ -78,7 +78,7 @@ pub const DESIGNS: &[(&[Word], u32, &str)] = &[
     (
         &[Vector(1, 0), Signal(0), Int, Cast],
         32,
-        "$signed(sv2v_h_two_state_32(sv2v_h_cast_32($unsigned(a))))",
+        "$signed(sv2v_h_two_state_32({{30{'0}},a}))",
     ),
     // a inside {4'b1??1, [4'd2:4'd3]}
     (
